@@ -1,0 +1,36 @@
+use Rattle.std.proofs.Common.{◌≡◌, ℕ, ◌+◌, ◌-◌, ◌<◌, ◌≤◌, Bool, true, false, not, ◌&&◌, ◌==◌, cond, nat_lt, List, [], ◌∷◌, ◌++◌, length, take, drop, replicate, Some, None, refl, ap, ◌∙◌, arith, length-append}
+use Rattle.std.proofs.Math.Seq.{take-append_seam, drop-append_seam}
+use Rattle.std.proofs.lemmas.List.{drop-replicate, length-replicate}
+use Rattle.std.proofs.lemmas.Bool.Decides.{nat_tests}
+use Rattle.std.specs.List.{list_all, position, prefix_len}
+use Rattle.ks_base.specs.Ids.{IsId}
+
+good_byte : (b : Bool) (m n : ℕ) (t : Bool) → (n ≤ m → t ≡ true) → n + 1 ≤ cond (not (not b)) (1 + m) 0 → (b && t) ≡ true
+good_byte true m n t others h = others (omega arith)
+good_byte false m n t others h = absurd (omega arith)
+
+all_from_prefix : (p : ℕ → Bool) (xs : List ℕ) → length xs ≤ prefix_len (λ x. not (not (p x))) xs → list_all p xs ≡ true
+all_from_prefix p [] h = refl
+all_from_prefix p (x ∷ xs) h = good_byte (p x) (prefix_len (λ y. not (not (p y))) xs) (length xs) (list_all p xs) (all_from_prefix p xs) (omega (arith, h))
+
+reaches_end : (m n : ℕ) → cond (nat_lt m n) (Some m) None ≡ None → n ≤ m
+reaches_end m n none = grind (arith, nat_tests)
+
+-- where no byte is bad, all are good
+pub all_from_no_position : (p : ℕ → Bool) (xs : List ℕ) → position (λ x. not (p x)) xs ≡ None → list_all p xs ≡ true
+all_from_no_position p xs none = all_from_prefix p xs (reaches_end _ _ none)
+
+pub some_bytes : (n : ℕ) → false ≡ (n == 0) → 0 < n
+some_bytes n h = grind (arith, nat_tests)
+
+-- the fields that hold an id's bytes, with zeros behind them
+pub holding_fields : (text front : List ℕ) → IsId text → front ≡ text →
+    (length text ≤ 64) × (drop (length text) (front ++ drop (length text) (replicate 64 0)) ≡ replicate (64 - length text) 0)
+    × (length (front ++ drop (length text) (replicate 64 0)) ≡ 64) × IsId (take (length text) (front ++ drop (length text) (replicate 64 0)))
+holding_fields text front id e =
+    let zero : ℕ = 0 in
+    let rest = drop-replicate (length text) 64 zero in
+    let short = id.1 in
+    let long : length (text ++ drop (length text) (replicate 64 zero)) ≡ 64 =
+    omega (arith, length-append text (drop (length text) (replicate 64 zero)), ap length rest, length-replicate (64 - length text) zero) in
+    rw e (short, drop-append_seam text (drop (length text) (replicate 64 zero)) ∙ rest, long, rw take-append_seam id)
