@@ -1,0 +1,3 @@
+pub mod HmacLemmas
+pub mod Pbkdf2Lemmas
+pub mod Vectors
