@@ -1,0 +1,3 @@
+pub mod Counts
+pub mod States
+pub mod Streams
