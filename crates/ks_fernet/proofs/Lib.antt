@@ -1,0 +1,5 @@
+pub mod DecodedBytes
+pub mod Spelling
+pub mod KeyTexts
+pub mod Tokens
+pub mod Readings

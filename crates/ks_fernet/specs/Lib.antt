@@ -1,0 +1,3 @@
+pub mod Base64Url
+pub mod Token
+pub mod KeyText
