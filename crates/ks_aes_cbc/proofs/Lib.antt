@@ -1,0 +1,9 @@
+pub mod Fields
+pub mod Mixing
+pub mod BlockLemmas
+pub mod Steps
+pub mod Cipher
+pub mod Search
+pub mod Chains
+pub mod PlainLemmas
+pub mod Streams

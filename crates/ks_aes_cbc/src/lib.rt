@@ -1,0 +1,14 @@
+//! AES with a key of 128 bits (FIPS 197) in cipher block chaining (NIST SP 800-38A) with the padding of
+//! RFC 5652.
+#![tactic(auto)]
+
+mod aes;
+mod blocks;
+mod cbc;
+mod plain;
+mod tables;
+#[cfg(test)]
+mod tests;
+
+pub use aes::Aes128;
+pub use cbc::{cbc_open, cbc_seal};
