@@ -7,3 +7,6 @@ pub mod Search
 pub mod Chains
 pub mod PlainLemmas
 pub mod Streams
+pub mod WordLemmas
+pub mod RoundLemmas
+pub mod KeyLemmas

@@ -5,6 +5,7 @@ use lib.Bits.{xor_assoc, xor_zero_r}
 use Rattle.ks_aes_cbc.specs.Field.{times_x, partial_product}
 use Rattle.ks_aes_cbc.specs.Aes.{sub_bytes, shift_rows, mix_columns, xor_bytes, next_round_key, round_constant, round_key, after_rounds, aes}
 use Rattle.ks_aes_cbc.specs.Inverse.{unsub_bytes, unshift_rows, unmix_columns, undone_rounds, unaes}
+use Rattle.ks_aes_cbc.proofs.KeyLemmas.{round_key_more, after_rounds_more, undone_rounds_more}
 use Rattle.ks_aes_cbc.proofs.Fields.{all_below, same_below}
 
 doubled_test : all_below (λ b. bit_xor (b * 2 % 256) (27 * (b / 128)) == times_x b) 256 ≡ true
@@ -24,23 +25,9 @@ partial_product_more i a b lt =
 pub xor_regroup : (a b c : ℕ) → bit_xor (bit_xor a b) c ≡ bit_xor a (bit_xor b c)
 xor_regroup a b c = xor_assoc a b c
 
-pub round_key_more : (key : List ℕ) (n : ℕ) → round_key key (n + 1) ≡ next_round_key (round_constant n) (round_key key n)
-unfolding round_key
-round_key_more key n = rw add-one refl
-
 pub round_constant_more : (n : ℕ) → round_constant (n + 1) ≡ times_x (round_constant n)
 unfolding round_constant
 round_constant_more n = rw add-one refl
-
-pub after_rounds_more : (key block : List ℕ) (n : ℕ)
-    → after_rounds key block (n + 1) ≡ xor_bytes (mix_columns (shift_rows (sub_bytes (after_rounds key block n)))) (round_key key (n + 1))
-unfolding after_rounds
-after_rounds_more key block n = rw add-one refl
-
-pub undone_rounds_more : (key block : List ℕ) (n : ℕ)
-    → undone_rounds key block (n + 1) ≡ unmix_columns (xor_bytes (unsub_bytes (unshift_rows (undone_rounds key block n))) (round_key key (9 - n)))
-unfolding undone_rounds
-undone_rounds_more key block n = rw (add-one n) refl
 
 -- a round, step by step
 pub round_done : (key block state subbed shifted mixed added next : List ℕ) (n : ℕ) → state ≡ after_rounds key block n

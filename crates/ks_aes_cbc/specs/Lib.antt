@@ -2,3 +2,5 @@ pub mod Field
 pub mod Aes
 pub mod Cbc
 pub mod Inverse
+pub mod Columns
+pub mod Keys

@@ -2,34 +2,42 @@
 ghost use Rattle.std.specs.Prelude.{◌≡◌, ℕ, List};
 ghost use Rattle.ks_aes_cbc.specs.Aes.{IsBlock, aes};
 
-use crate::plain;
 use std::marker::Model;
+
+use crate::columns::{Columns, bytes, columns, summed};
+use crate::keys::{opening_keys, sealing_keys};
+use crate::rounds::{last_opened_round, last_sealed_round, opened_round, sealed_round};
 
 /// A key of AES-128, ready to seal and open blocks (FIPS 197). Contracts see it as the key's 16 bytes.
 #[derive(Drop)]
 pub struct Aes128 {
     key: [u8; 16],
+    sealing: [Columns; 11],
+    opening: [Columns; 9],
 }
 
 impl Model for Aes128 {
     ghost use Rattle.std.specs.Prelude.{ℕ, List};
-    ghost use Rattle.ks_aes_cbc.specs.Aes.{IsBlock};
+    ghost use Rattle.ks_aes_cbc.specs.Keys.{AreRoundKeys};
 
     ghost Value = { List ℕ };
 
     ghost view = { λ a. a.key };
 
-    ghost invariant = { λ a. IsBlock a.key };
+    ghost invariant = { λ a. AreRoundKeys a.key a.sealing a.opening };
 }
 
 impl Aes128 {
     /// Makes the round keys of a key of 16 bytes.
-    #[tactic(auto, unfolding(crate::specs::Aes::round_key))]
     pub fn new(key: &[u8; 16]) -> Aes128
         ensures { result ≡ key.now }
     {
+        let sealing = sealing_keys(key);
+        let opening = opening_keys(&sealing);
         Aes128 {
-            key: plain::round_key(key, 0),
+            key: *key,
+            sealing,
+            opening,
         }
     }
 
@@ -37,7 +45,11 @@ impl Aes128 {
     pub fn seal_block(&self, block: &[u8; 16]) -> [u8; 16]
         ensures { result ≡ aes self.now block.now }
     {
-        plain::sealed(&self.key, block)
+        let mut state = summed(&columns(block), &self.sealing[0]);
+        for i in 0..9 {
+            state = sealed_round(&state, &self.sealing[i + 1]);
+        }
+        bytes(&last_sealed_round(&state, &self.sealing[10]))
     }
 
     /// The one block that [`Aes128::seal_block`] makes this one of: the inverse cipher of FIPS 197,
@@ -46,6 +58,10 @@ impl Aes128 {
         ensures sealed { aes self.now result ≡ block.now }
         ensures only { (p : List ℕ) → IsBlock p → aes self.now p ≡ block.now → result ≡ p }
     {
-        plain::opened(&self.key, block)
+        let mut state = summed(&columns(block), &self.sealing[10]);
+        for i in 0..9 {
+            state = opened_round(&state, &self.opening[i]);
+        }
+        bytes(&last_opened_round(&state, &self.sealing[0]))
     }
 }

@@ -5,7 +5,11 @@
 mod aes;
 mod blocks;
 mod cbc;
+mod columns;
+mod keys;
+#[cfg(test)]
 mod plain;
+mod rounds;
 mod tables;
 #[cfg(test)]
 mod tests;

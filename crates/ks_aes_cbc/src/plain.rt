@@ -157,7 +157,7 @@ fn next_round_key(constant: u8, key: &[u8; 16]) -> [u8; 16]
     ]
 }
 
-#[tactic(auto, using(crate::proofs::PlainLemmas::round_key_more, crate::proofs::PlainLemmas::round_constant_more), unfolding(crate::specs::Aes::round_key, crate::specs::Aes::round_constant))]
+#[tactic(auto, using(crate::proofs::KeyLemmas::round_key_more, crate::proofs::PlainLemmas::round_constant_more), unfolding(crate::specs::Aes::round_key, crate::specs::Aes::round_constant))]
 pub fn round_key(key: &[u8; 16], n: usize) -> [u8; 16]
     ensures { result ≡ round_key key.now n }
 {

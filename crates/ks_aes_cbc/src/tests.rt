@@ -1,5 +1,5 @@
 //! Published vectors, of FIPS 197 and of NIST SP 800-38A, and what another program sealed.
-use crate::{Aes128, cbc_open, cbc_seal};
+use crate::{Aes128, cbc_open, cbc_seal, plain};
 use std::test::Fail;
 
 const COUNTING: [u8; 16] = [
@@ -58,6 +58,20 @@ fn blocks_are_sealed_and_opened(rt: HostRuntime) {
         let aes = Aes128::new(&key);
         assert_eq!(rt; aes.seal_block(&block), sealed);
         assert_eq!(rt; aes.open_block(&sealed), block);
+    }
+}
+
+#[test]
+fn words_do_as_bytes(rt: HostRuntime) {
+    let mut key = EXAMPLE_KEY;
+    let mut block = COUNTING;
+    for _ in 0..50usize {
+        let aes = Aes128::new(&key);
+        let sealed = aes.seal_block(&block);
+        assert_eq!(rt; sealed, plain::sealed(&key, &block));
+        assert_eq!(rt; aes.open_block(&key), plain::opened(&key, &key));
+        block = key;
+        key = sealed;
     }
 }
 
