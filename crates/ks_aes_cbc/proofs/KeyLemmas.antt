@@ -1,5 +1,5 @@
 -- The key schedule on words, and a block's way through the rounds on words.
-use Rattle.std.proofs.Common.{◌≡◌, ◌≢◌, ℕ, zero, suc, ◌+◌, ◌-◌, ◌<◌, ◌≤◌, List, [], ◌∷◌, length, slice_index, slice_set, refl, sym, ap, ◌∙◌, arith, inl, inr, add-one}
+use Rattle.std.proofs.Common.{◌≡◌, ◌≢◌, ℕ, ◌+◌, ◌-◌, ◌<◌, ◌≤◌, List, [], ◌∷◌, length, slice_index, slice_set, refl, sym, ap, ◌∙◌, arith, inl, inr, add-one}
 use Rattle.std.specs.List.{slice_index_or}
 use Rattle.std.proofs.lemmas.Bool.{cases_lt}
 use Rattle.std.proofs.lemmas.List.{length-set, get_or-set_same, get_or-set_other}
@@ -43,9 +43,9 @@ pub AreFirst-more : (key : List ℕ) (keys : List (List ℕ)) (i : ℕ) (next : 
 AreFirst-more key keys i next lt held e =
     let long : length keys ≡ 11 = held.0 in
     let new : block_of next ≡ round_key key (i + 1) =
-      e ∙ ap (λ c. next_round_key c (block_of (slice_index_or keys i []))) (round_constant_is i lt)
-      ∙ ap (next_round_key (round_constant i)) (held.1 i (omega arith)) ∙ sym (round_key_more key i) in
-    (length-set keys (i + 1) next ∙ long,
+    e ∙ ap (λ c. next_round_key c (block_of (slice_index_or keys i []))) (round_constant_is i lt)
+    ∙ ap (next_round_key (round_constant i)) (held.1 i (omega arith)) ∙ sym (round_key_more key i) in (
+      length-set keys (i + 1) next ∙ long,
       λ n le. elim (cases_lt n (i + 1)) [
         | inl before ↦
             let other : n ≢ i + 1 = omega arith in
@@ -53,7 +53,8 @@ AreFirst-more key keys i next lt held e =
         | inr top ↦
             let same : n ≡ i + 1 = omega arith in
             rw same (ap block_of (get_or-set_same keys (i + 1) next [] (omega arith)) ∙ new)
-      ])
+      ],
+    )
 
 -- a block sealed: its first key, a round more, and the last round
 pub sealed_begun : (key block state columns k : List ℕ) → block_of columns ≡ block → block_of k ≡ round_key key 0
@@ -91,7 +92,7 @@ opened_on key block state next k n hk hb e0 e1 e2 =
     e2 ∙ ap (λ s. xor_bytes (unmix_columns (unsub_bytes (unshift_rows s))) (block_of k)) e0
     ∙ ap (xor_bytes (unmix_columns (unsub_bytes (unshift_rows s)))) e1
     ∙ sym (unmix_columns-xor (unsub_bytes (unshift_rows s)) (round_key key (9 - n))
-      (unsub_block (unshift_rows s) (unshift_block s (undone_rounds_block key block n hk hb))) (round_key_block key (9 - n) hk))
+    (unsub_block (unshift_rows s) (unshift_block s (undone_rounds_block key block n hk hb))) (round_key_block key (9 - n) hk))
     ∙ sym (undone_rounds_more key block n)
 
 pub opened_through : (key block state next k out : List ℕ) (n : ℕ) → n ≡ 9 → block_of state ≡ undone_rounds key block n → block_of k ≡ round_key key 0

@@ -3,9 +3,9 @@ use Rattle.std.proofs.Common.{◌≡◌, ℕ, suc, ◌+◌, ◌-◌, ◌*◌, �
 use Rattle.std.specs.Prelude.{bit_xor}
 use lib.Bits.{xor_assoc, xor_zero_r}
 use Rattle.ks_aes_cbc.specs.Field.{times_x, partial_product}
-use Rattle.ks_aes_cbc.specs.Aes.{sub_bytes, shift_rows, mix_columns, xor_bytes, next_round_key, round_constant, round_key, after_rounds, aes}
+use Rattle.ks_aes_cbc.specs.Aes.{sub_bytes, shift_rows, mix_columns, xor_bytes, round_constant, round_key, after_rounds, aes}
 use Rattle.ks_aes_cbc.specs.Inverse.{unsub_bytes, unshift_rows, unmix_columns, undone_rounds, unaes}
-use Rattle.ks_aes_cbc.proofs.KeyLemmas.{round_key_more, after_rounds_more, undone_rounds_more}
+use Rattle.ks_aes_cbc.proofs.KeyLemmas.{after_rounds_more, undone_rounds_more}
 use Rattle.ks_aes_cbc.proofs.Fields.{all_below, same_below}
 
 doubled_test : all_below (λ b. bit_xor (b * 2 % 256) (27 * (b / 128)) == times_x b) 256 ≡ true

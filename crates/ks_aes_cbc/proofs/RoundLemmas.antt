@@ -1,20 +1,20 @@
 -- Rounds on words: four columns at once, and sums of blocks.
-use Rattle.std.proofs.Common.{◌≡◌, ℕ, zero, suc, ◌+◌, ◌*◌, ◌/◌, ◌%◌, ◌^◌, ◌<◌, List, [], ◌∷◌, ◌++◌, length, slice_index, map, refl, sym, ap, ◌∙◌, arith}
+use Rattle.std.proofs.Common.{◌≡◌, ℕ, ◌<◌, List, [], ◌∷◌, ◌++◌, length, slice_index, refl, ap, ◌∙◌, arith}
 use Rattle.std.specs.Prelude.{bit_xor}
 use Rattle.std.specs.Int.{w32, to_be_bytes, from_be_bytes, byte_at}
 use Rattle.std.proofs.lemmas.Nat.Bits.{same_from_bits, bit_at_xor}
 use Rattle.ks_aes_cbc.specs.Field.{product}
-use Rattle.ks_aes_cbc.specs.Aes.{AreBytes, IsBlock, sbox, sub_bytes, shift_rows, mix_columns, sum4, circulant, xor_bytes, next_round_key, word, turned_word}
-use Rattle.ks_aes_cbc.specs.Inverse.{unsbox, unsub_bytes, unshift_rows, unmix_column, unmix_columns}
+use Rattle.ks_aes_cbc.specs.Aes.{AreBytes, IsBlock, sbox, sub_bytes, shift_rows, mix_columns, sum4, circulant, xor_bytes, next_round_key, turned_word}
+use Rattle.ks_aes_cbc.specs.Inverse.{unsbox, unsub_bytes, unshift_rows, unmix_columns}
 use Rattle.ks_aes_cbc.specs.Columns.{block_of}
 use Rattle.ks_aes_cbc.proofs.Fields.{product_xor}
-use Rattle.ks_aes_cbc.proofs.BlockLemmas.{written_out, AreBytes-written, xor_bytes-at}
+use Rattle.ks_aes_cbc.proofs.BlockLemmas.{written_out, xor_bytes-at}
 use Rattle.ks_aes_cbc.proofs.WordLemmas.{bytes-xor, from_bytes}
 
 -- the sum of two blocks, word by word
 pub summed_columns : (a b : List ℕ)
     → block_of (bit_xor (slice_index a 0) (slice_index b 0) ∷ bit_xor (slice_index a 1) (slice_index b 1)
-        ∷ bit_xor (slice_index a 2) (slice_index b 2) ∷ bit_xor (slice_index a 3) (slice_index b 3) ∷ [])
+    ∷ bit_xor (slice_index a 2) (slice_index b 2) ∷ bit_xor (slice_index a 3) (slice_index b 3) ∷ [])
     ≡ xor_bytes (block_of a) (block_of b)
 unfolding block_of xor_bytes
 summed_columns a b =
@@ -51,10 +51,13 @@ columns_of_block b n0 n1 n2 n3 long h e0 e1 e2 e3 =
 -- the byte in row r of a word
 abbrev row0 : List ℕ → ℕ → ℕ
 row0 s i = byte_at 3 (slice_index s i)
+
 abbrev row1 : List ℕ → ℕ → ℕ
 row1 s i = byte_at 2 (slice_index s i)
+
 abbrev row2 : List ℕ → ℕ → ℕ
 row2 s i = byte_at 1 (slice_index s i)
+
 abbrev row3 : List ℕ → ℕ → ℕ
 row3 s i = byte_at 0 (slice_index s i)
 
@@ -113,7 +116,7 @@ pub next_columns : (k : List ℕ) (constant turned extra n0 n1 n2 n3 : ℕ)
 unfolding block_of next_round_key
 next_columns k constant turned extra n0 n1 n2 n3 et ex e0 e1 e2 e3 =
     let step = λ (a b n : ℕ) (x : List ℕ) (e : n ≡ bit_xor a b) (f : to_be_bytes w32 b ≡ x).
-      ap (to_be_bytes w32) e ∙ bytes-xor a b ∙ ap (xor_bytes (to_be_bytes w32 a)) f in
+    ap (to_be_bytes w32) e ∙ bytes-xor a b ∙ ap (xor_bytes (to_be_bytes w32 a)) f in
     let first = step (slice_index k 0) (bit_xor turned extra) n0 _ e0 (bytes-xor turned extra ∙ ap (λ x. xor_bytes x (to_be_bytes w32 extra)) et ∙ ap (xor_bytes (turned_word (block_of k))) ex) in
     let second = step (slice_index k 1) n0 n1 _ e1 first in
     let third = step (slice_index k 2) n1 n2 _ e2 second in
@@ -147,17 +150,18 @@ unmix_columns-xor a b ha hb =
     let lb = hb.long in
     let at = λ (i : ℕ) (lt : i < 16). xor_bytes-at a b i (omega arith) (omega arith) in
     let column = λ (i j k l : ℕ) (pi : i < 16) (pj : j < 16) (pk : k < 16) (pl : l < 16).
-      at_four (slice_index (xor_bytes a b) i) (slice_index (xor_bytes a b) j) (slice_index (xor_bytes a b) k) (slice_index (xor_bytes a b) l)
-      (bit_xor (slice_index a i) (slice_index b i)) (bit_xor (slice_index a j) (slice_index b j)) (bit_xor (slice_index a k) (slice_index b k)) (bit_xor (slice_index a l) (slice_index b l))
-      (at i pi) (at j pj) (at k pk) (at l pl)
-      ∙ circulant-xor 14 11 13 9 (slice_index a i) (slice_index a j) (slice_index a k) (slice_index a l) (slice_index b i) (slice_index b j) (slice_index b k) (slice_index b l)
-        (ha.bytes i) (ha.bytes j) (ha.bytes k) (ha.bytes l) (hb.bytes i) (hb.bytes j) (hb.bytes k) (hb.bytes l) in
+    at_four (slice_index (xor_bytes a b) i) (slice_index (xor_bytes a b) j) (slice_index (xor_bytes a b) k) (slice_index (xor_bytes a b) l)
+    (bit_xor (slice_index a i) (slice_index b i)) (bit_xor (slice_index a j) (slice_index b j)) (bit_xor (slice_index a k) (slice_index b k)) (bit_xor (slice_index a l) (slice_index b l))
+    (at i pi) (at j pj) (at k pk) (at l pl)
+    ∙ circulant-xor 14 11 13 9 (slice_index a i) (slice_index a j) (slice_index a k) (slice_index a l) (slice_index b i) (slice_index b j) (slice_index b k) (slice_index b l)
+    (ha.bytes i) (ha.bytes j) (ha.bytes k) (ha.bytes l) (hb.bytes i) (hb.bytes j) (hb.bytes k) (hb.bytes l) in
     joined _ _ _ _ _ _ _ _
     (column 0 1 2 3 (omega arith) (omega arith) (omega arith) (omega arith)) (column 4 5 6 7 (omega arith) (omega arith) (omega arith) (omega arith))
     (column 8 9 10 11 (omega arith) (omega arith) (omega arith) (omega arith)) (column 12 13 14 15 (omega arith) (omega arith) (omega arith) (omega arith))
   where
     at_four : (a b c d a' b' c' d' : ℕ) → a ≡ a' → b ≡ b' → c ≡ c' → d ≡ d' → circulant 14 11 13 9 a b c d ≡ circulant 14 11 13 9 a' b' c' d'
     at_four a b c d a' b' c' d' e f g h = rw (e, f, g, h) refl
+
     joined : (x0 x1 x2 x3 y0 y1 y2 y3 : List ℕ) → x0 ≡ y0 → x1 ≡ y1 → x2 ≡ y2 → x3 ≡ y3
         → x0 ++ (x1 ++ (x2 ++ x3)) ≡ y0 ++ (y1 ++ (y2 ++ y3))
     joined x0 x1 x2 x3 y0 y1 y2 y3 e0 e1 e2 e3 = rw (e0, e1, e2, e3) refl

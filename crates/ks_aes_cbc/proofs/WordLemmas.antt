@@ -1,17 +1,16 @@
 -- Words of four bytes: their sums, and what the tables of the rounds hold.
-use Rattle.std.proofs.Common.{◌≡◌, ℕ, zero, suc, ◌+◌, ◌*◌, ◌/◌, ◌%◌, ◌^◌, ◌<◌, ◌==◌, Bool, true, List, [], ◌∷◌, ◌++◌, length, slice_index, refl, sym, ap, ◌∙◌, arith}
+use Rattle.std.proofs.Common.{◌≡◌, ℕ, ◌/◌, ◌%◌, ◌^◌, ◌<◌, ◌==◌, Bool, true, List, [], ◌∷◌, slice_index, refl, ap, ◌∙◌, arith}
 use Rattle.std.specs.Prelude.{bit_xor}
 use Rattle.std.specs.Int.{w32, to_be_bytes, from_be_bytes, byte_at}
 use Rattle.std.specs.Str.{bytes_eq}
 use Rattle.std.proofs.lemmas.Nat.{xor_shr, xor_mod, be_bytes_4}
 use Rattle.std.proofs.lemmas.Slice.Eq.{bytes_eq-Decides}
 use Rattle.ks_aes_cbc.specs.declared.tables.TheConstants.{SBOX, INVERSE_SBOX, ROUND_CONSTANTS, SEAL_ROW_0, SEAL_ROW_1, SEAL_ROW_2, SEAL_ROW_3, OPEN_ROW_0, OPEN_ROW_1, OPEN_ROW_2, OPEN_ROW_3}
-use Rattle.ks_aes_cbc.specs.Field.{times_x, product, partial_product}
-use Rattle.ks_aes_cbc.specs.Aes.{AreBytes, IsBlock, sbox, sum4, circulant, xor_bytes, round_constant, next_round_key, word, turned_word}
+use Rattle.ks_aes_cbc.specs.Field.{product, partial_product}
+use Rattle.ks_aes_cbc.specs.Aes.{sbox, sum4, circulant, xor_bytes, round_constant}
 use Rattle.ks_aes_cbc.specs.Inverse.{unsbox}
-use Rattle.ks_aes_cbc.specs.Columns.{block_of}
 use Rattle.ks_aes_cbc.proofs.Fields.{all_below, all_below_at, same_below}
-use Rattle.ks_aes_cbc.proofs.BlockLemmas.{written_out, Bytes, AreBytes-written}
+use Rattle.ks_aes_cbc.proofs.BlockLemmas.{AreBytes-written}
 use Rattle.ks_aes_cbc.proofs.Steps.{sbox_is, sbox_byte, unsbox_byte, unsbox-sbox}
 
 -- the bytes of a sum
@@ -122,7 +121,7 @@ low n = omega arith
 -- a column of a round, and of an inverse round
 pub sealed_word : (a b c d key : ℕ)
     → to_be_bytes w32 (bit_xor (bit_xor (bit_xor (slice_index SEAL_ROW_0 (byte_at 3 a)) (slice_index SEAL_ROW_1 (byte_at 2 b)))
-          (bit_xor (slice_index SEAL_ROW_2 (byte_at 1 c)) (slice_index SEAL_ROW_3 (byte_at 0 d)))) key)
+    (bit_xor (slice_index SEAL_ROW_2 (byte_at 1 c)) (slice_index SEAL_ROW_3 (byte_at 0 d)))) key)
     ≡ xor_bytes (circulant 2 3 1 1 (sbox (byte_at 3 a)) (sbox (byte_at 2 b)) (sbox (byte_at 1 c)) (sbox (byte_at 0 d))) (to_be_bytes w32 key)
 sealed_word a b c d key =
     mixed_words_added 2 3 1 1 (sbox (byte_at 3 a)) (sbox (byte_at 2 b)) (sbox (byte_at 1 c)) (sbox (byte_at 0 d))
@@ -132,7 +131,7 @@ sealed_word a b c d key =
 
 pub opened_word : (a b c d key : ℕ)
     → to_be_bytes w32 (bit_xor (bit_xor (bit_xor (slice_index OPEN_ROW_0 (byte_at 3 a)) (slice_index OPEN_ROW_1 (byte_at 2 b)))
-          (bit_xor (slice_index OPEN_ROW_2 (byte_at 1 c)) (slice_index OPEN_ROW_3 (byte_at 0 d)))) key)
+    (bit_xor (slice_index OPEN_ROW_2 (byte_at 1 c)) (slice_index OPEN_ROW_3 (byte_at 0 d)))) key)
     ≡ xor_bytes (circulant 14 11 13 9 (unsbox (byte_at 3 a)) (unsbox (byte_at 2 b)) (unsbox (byte_at 1 c)) (unsbox (byte_at 0 d))) (to_be_bytes w32 key)
 opened_word a b c d key =
     mixed_words_added 14 11 13 9 (unsbox (byte_at 3 a)) (unsbox (byte_at 2 b)) (unsbox (byte_at 1 c)) (unsbox (byte_at 0 d))
@@ -149,7 +148,7 @@ unmixed_row p q r s x t lt is =
 
 pub unmixed_word : (n : ℕ)
     → to_be_bytes w32 (bit_xor (bit_xor (slice_index OPEN_ROW_0 (slice_index SBOX (byte_at 3 n))) (slice_index OPEN_ROW_1 (slice_index SBOX (byte_at 2 n))))
-        (bit_xor (slice_index OPEN_ROW_2 (slice_index SBOX (byte_at 1 n))) (slice_index OPEN_ROW_3 (slice_index SBOX (byte_at 0 n)))))
+    (bit_xor (slice_index OPEN_ROW_2 (slice_index SBOX (byte_at 1 n))) (slice_index OPEN_ROW_3 (slice_index SBOX (byte_at 0 n)))))
     ≡ circulant 14 11 13 9 (byte_at 3 n) (byte_at 2 n) (byte_at 1 n) (byte_at 0 n)
 unmixed_word n =
     mixed_words 14 11 13 9 (byte_at 3 n) (byte_at 2 n) (byte_at 1 n) (byte_at 0 n)
@@ -186,5 +185,5 @@ pub last_opened_word : (a b c d n key : ℕ)
 last_opened_word a b c d n key e =
     bytes-xor n key ∙ ap (λ x. xor_bytes x (to_be_bytes w32 key))
     (from_bytes (unsbox (byte_at 3 a)) (unsbox (byte_at 2 b)) (unsbox (byte_at 1 c)) (unsbox (byte_at 0 d)) n
-      (unsbox_byte (byte_at 3 a) (low (a / 16777216))) (unsbox_byte (byte_at 2 b) (low (b / 65536)))
-      (unsbox_byte (byte_at 1 c) (low (c / 256))) (unsbox_byte (byte_at 0 d) (low d)) e)
+    (unsbox_byte (byte_at 3 a) (low (a / 16777216))) (unsbox_byte (byte_at 2 b) (low (b / 65536)))
+    (unsbox_byte (byte_at 1 c) (low (c / 256))) (unsbox_byte (byte_at 0 d) (low d)) e)

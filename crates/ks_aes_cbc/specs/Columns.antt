@@ -8,4 +8,4 @@ unfoldable pub block_of : List ℕ → List ℕ
 block_of columns =
     to_be_bytes w32 (slice_index columns 0)
     ++ (to_be_bytes w32 (slice_index columns 1)
-      ++ (to_be_bytes w32 (slice_index columns 2) ++ to_be_bytes w32 (slice_index columns 3)))
+    ++ (to_be_bytes w32 (slice_index columns 2) ++ to_be_bytes w32 (slice_index columns 3)))

@@ -2,11 +2,13 @@
 ghost use Rattle.std.specs.Prelude.{◌≡◌, ℕ, List};
 ghost use Rattle.ks_aes_cbc.specs.Aes.{IsBlock, aes};
 
-use std::marker::Model;
-
 use crate::columns::{Columns, bytes, columns, summed};
 use crate::keys::{opening_keys, sealing_keys};
 use crate::rounds::{last_opened_round, last_sealed_round, opened_round, sealed_round};
+use std::marker::Model;
+
+/// The rounds that mix columns: all ten but the last.
+const MIXING_ROUNDS: usize = 9;
 
 /// A key of AES-128, ready to seal and open blocks (FIPS 197). Contracts see it as the key's 16 bytes.
 #[derive(Drop)]
@@ -46,7 +48,7 @@ impl Aes128 {
         ensures { result ≡ aes self.now block.now }
     {
         let mut state = summed(&columns(block), &self.sealing[0]);
-        for i in 0..9 {
+        for i in 0..MIXING_ROUNDS {
             state = sealed_round(&state, &self.sealing[i + 1]);
         }
         bytes(&last_sealed_round(&state, &self.sealing[10]))
@@ -59,7 +61,7 @@ impl Aes128 {
         ensures only { (p : List ℕ) → IsBlock p → aes self.now p ≡ block.now → result ≡ p }
     {
         let mut state = summed(&columns(block), &self.sealing[10]);
-        for i in 0..9 {
+        for i in 0..MIXING_ROUNDS {
             state = opened_round(&state, &self.opening[i]);
         }
         bytes(&last_opened_round(&state, &self.sealing[0]))

@@ -28,7 +28,9 @@ pub fn bytes(columns: &Columns) -> [u8; 16]
     let [b0, b1, b2, b3] = columns[1].to_be_bytes();
     let [c0, c1, c2, c3] = columns[2].to_be_bytes();
     let [d0, d1, d2, d3] = columns[3].to_be_bytes();
-    [a0, a1, a2, a3, b0, b1, b2, b3, c0, c1, c2, c3, d0, d1, d2, d3]
+    [
+        a0, a1, a2, a3, b0, b1, b2, b3, c0, c1, c2, c3, d0, d1, d2, d3,
+    ]
 }
 
 /// The sum of two blocks.

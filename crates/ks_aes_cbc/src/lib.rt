@@ -7,6 +7,7 @@ mod blocks;
 mod cbc;
 mod columns;
 mod keys;
+mod laws;
 #[cfg(test)]
 mod plain;
 mod rounds;
@@ -16,3 +17,4 @@ mod tests;
 
 pub use aes::Aes128;
 pub use cbc::{cbc_open, cbc_seal};
+pub use laws::uncbc_undoes_cbc;

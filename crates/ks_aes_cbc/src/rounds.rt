@@ -7,7 +7,8 @@ ghost use Rattle.ks_aes_cbc.specs.Columns.{block_of};
 
 use crate::columns::Columns;
 use crate::tables::{
-    INVERSE_SBOX, OPEN_ROW_0, OPEN_ROW_1, OPEN_ROW_2, OPEN_ROW_3, SBOX, SEAL_ROW_0, SEAL_ROW_1, SEAL_ROW_2, SEAL_ROW_3,
+    INVERSE_SBOX, OPEN_ROW_0, OPEN_ROW_1, OPEN_ROW_2, OPEN_ROW_3, SBOX, SEAL_ROW_0, SEAL_ROW_1,
+    SEAL_ROW_2, SEAL_ROW_3,
 };
 
 /// A column of a round, of the words whose bytes ShiftRows brings to it.
@@ -56,8 +57,10 @@ fn last_opened_column(a: u32, b: u32, c: u32, d: u32, key: u32) -> u32
 fn unmixed_column(column: u32) -> u32
     ensures { to_be_bytes w32 result ≡ circulant 14 11 13 9 (byte_at 3 column) (byte_at 2 column) (byte_at 1 column) (byte_at 0 column) }
 {
-    (OPEN_ROW_0[SBOX[((column >> 24) % 256) as usize] as usize] ^ OPEN_ROW_1[SBOX[((column >> 16) % 256) as usize] as usize])
-        ^ (OPEN_ROW_2[SBOX[((column >> 8) % 256) as usize] as usize] ^ OPEN_ROW_3[SBOX[(column % 256) as usize] as usize])
+    (OPEN_ROW_0[SBOX[((column >> 24) % 256) as usize] as usize]
+        ^ OPEN_ROW_1[SBOX[((column >> 16) % 256) as usize] as usize])
+        ^ (OPEN_ROW_2[SBOX[((column >> 8) % 256) as usize] as usize]
+            ^ OPEN_ROW_3[SBOX[(column % 256) as usize] as usize])
 }
 
 /// The block after one round more.
@@ -112,7 +115,12 @@ pub fn last_opened_round(s: &Columns, key: &Columns) -> Columns
 pub fn unmixed(s: &Columns) -> Columns
     ensures { block_of result ≡ unmix_columns (block_of s.now) }
 {
-    [unmixed_column(s[0]), unmixed_column(s[1]), unmixed_column(s[2]), unmixed_column(s[3])]
+    [
+        unmixed_column(s[0]),
+        unmixed_column(s[1]),
+        unmixed_column(s[2]),
+        unmixed_column(s[3]),
+    ]
 }
 
 /// The next round key, of FIPS 197, section 5.2.

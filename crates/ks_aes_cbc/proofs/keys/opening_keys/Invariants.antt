@@ -1,4 +1,4 @@
-use Rattle.std.proofs.Common.{◌≡◌, ◌-◌, ℕ, ◌<◌, List, [], length, get_or}
+use Rattle.std.proofs.Common.{◌≡◌, ◌-◌, ℕ, ◌<◌, [], length, get_or}
 use Rattle.ks_aes_cbc.specs.Inverse.{unmix_columns}
 use Rattle.ks_aes_cbc.specs.Columns.{block_of}
 use Rattle.ks_aes_cbc.proofs.keys.opening_keys.Given as goal

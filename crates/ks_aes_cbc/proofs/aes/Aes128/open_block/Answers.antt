@@ -1,4 +1,4 @@
-use Rattle.std.proofs.Common.{ℕ, ◌≡◌, List, sym, ap, ◌∙◌, arith}
+use Rattle.std.proofs.Common.{◌≡◌, sym, ap, ◌∙◌, arith}
 use Rattle.ks_aes_cbc.specs.Aes.{IsBlock, aes}
 use Rattle.ks_aes_cbc.specs.Inverse.{unaes}
 use Rattle.ks_aes_cbc.proofs.Cipher.{aes-unaes, unaes-aes}
@@ -20,13 +20,13 @@ pub returns-clause-sealed : goal.returns-clause-sealed
 returns-clause-sealed c =
     let block : IsBlock c.args.block.now = record { long = c.told-block; bytes = c.fits-block } in
     let opened : c.bytes.result ≡ unaes c.self.inside.key c.args.block.now =
-      opened_through c.self.inside.key c.args.block.now c.loop-i.state c.last_opened_round.result _ c.bytes.result c.loop-i.i (omega arith)
-      c.loop-i.invariant (c.self.invariant.sealing_is 0 (omega arith)) c.last_opened_round.ensures c.bytes.ensures in
+    opened_through c.self.inside.key c.args.block.now c.loop-i.state c.last_opened_round.result _ c.bytes.result c.loop-i.i (omega arith)
+    c.loop-i.invariant (c.self.invariant.sealing_is 0 (omega arith)) c.last_opened_round.ensures c.bytes.ensures in
     rw (← c.self.view_is) (ap (aes c.self.inside.key) opened ∙ aes-unaes c.self.inside.key c.args.block.now c.self.invariant.key_block block)
 
 pub returns-clause-only : goal.returns-clause-only
 returns-clause-only c = λ p h e.
     let opened : c.bytes.result ≡ unaes c.self.inside.key c.args.block.now =
-      opened_through c.self.inside.key c.args.block.now c.loop-i.state c.last_opened_round.result _ c.bytes.result c.loop-i.i (omega arith)
-      c.loop-i.invariant (c.self.invariant.sealing_is 0 (omega arith)) c.last_opened_round.ensures c.bytes.ensures in
+    opened_through c.self.inside.key c.args.block.now c.loop-i.state c.last_opened_round.result _ c.bytes.result c.loop-i.i (omega arith)
+    c.loop-i.invariant (c.self.invariant.sealing_is 0 (omega arith)) c.last_opened_round.ensures c.bytes.ensures in
     opened ∙ ap (unaes c.self.inside.key) (sym (rw (← c.self.view_is) at e)) ∙ unaes-aes c.self.inside.key p c.self.invariant.key_block h

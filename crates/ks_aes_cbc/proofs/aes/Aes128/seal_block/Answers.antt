@@ -1,5 +1,4 @@
-use Rattle.std.proofs.Common.{ℕ, ◌≡◌, ◌+◌, arith}
-use Rattle.ks_aes_cbc.specs.Aes.{aes}
+use Rattle.std.proofs.Common.{◌+◌, arith}
 use Rattle.ks_aes_cbc.proofs.KeyLemmas.{sealed_begun, sealed_on, sealed_through}
 use Rattle.ks_aes_cbc.proofs.aes.Aes128.seal_block.Goals as goal
 
