@@ -1,5 +1,5 @@
 //! AES-128 in cipher block chaining, with padding.
-ghost use Rattle.std.specs.Prelude.{◌≡◌, ◌≢◌, ℕ, ◌+◌, ◌*◌, ◌/◌, ◌%◌, ◌-◌, ◌<◌, ◌≤◌, List, length, take, replicate, Option, Some, None, option_map, IfOk, IfSome, IfNone, IsTrue, ◌↔◌, slice_index};
+ghost use Rattle.std.specs.Prelude.{◌≡◌, ◌≢◌, ℕ, ◌+◌, ◌*◌, ◌/◌, ◌%◌, ◌<◌, ◌≤◌, List, length, take, replicate, Some, option_map, IfOk, IfSome, IfNone, IsTrue, ◌↔◌};
 ghost use Rattle.ks_aes_cbc.specs.Aes.{AreBytes};
 ghost use Rattle.ks_aes_cbc.specs.Cbc.{pad, cbc, uncbc};
 ghost use Rattle.ks_aes_cbc.specs.Inverse.{uncbc_blocks};
@@ -27,7 +27,8 @@ fn all_are(bytes: &[u8], value: u8) -> bool
 /// How many bytes stand before the padding, which is compared whole.
 fn unpadded_len(bytes: &[u8]) -> Option<usize>
     requires { length bytes.now % 16 ≡ 0 }
-    ensures some { IfSome result (λ n. (n ≤ length bytes.now) × (pad (take n bytes.now) ≡ bytes.now)) }
+    ensures some { IfSome result (λ n.
+        (n ≤ length bytes.now) × (pad (take n bytes.now) ≡ bytes.now)) }
     ensures none { IfNone result ((p : List ℕ) → pad p ≢ bytes.now) }
 {
     if bytes.is_empty() {
@@ -81,7 +82,8 @@ fn opened_blocks(
     sealed: &[u8],
 ) -> Result<Vec<u8>, AllocError>
     requires { length sealed.now % 16 ≡ 0 }
-    ensures { IfOk result (λ v. v.items ≡ uncbc_blocks (length sealed.now / 16) key.now iv.now sealed.now) }
+    ensures { IfOk result (λ v.
+        v.items ≡ uncbc_blocks (length sealed.now / 16) key.now iv.now sealed.now) }
 {
     let aes = Aes128::new(key);
     let mut out = Vec::with_capacity(alloc, sealed.len())?;
@@ -104,9 +106,13 @@ pub fn cbc_open(
     iv: &[u8; 16],
     sealed: &[u8],
 ) -> Result<Option<Vec<u8>>, AllocError>
-    ensures opened { IfOk result (λ found. option_map (λ v. v.items) found ≡ uncbc key.now iv.now sealed.now) }
-    ensures some { IfOk result (λ found. IfSome found (λ v. AreBytes v.items × (cbc key.now iv.now (pad v.items) ≡ sealed.now) × (length v.items < length sealed.now))) }
-    ensures none { IfOk result (λ found. IfNone found ((p : List ℕ) → AreBytes p → cbc key.now iv.now (pad p) ≢ sealed.now)) }
+    ensures opened { IfOk result (λ found.
+        option_map (λ v. v.items) found ≡ uncbc key.now iv.now sealed.now) }
+    ensures some { IfOk result (λ found. IfSome found (λ v.
+        AreBytes v.items × (cbc key.now iv.now (pad v.items) ≡ sealed.now)
+        × (length v.items < length sealed.now))) }
+    ensures none { IfOk result (λ found. IfNone found (
+        (p : List ℕ) → AreBytes p → cbc key.now iv.now (pad p) ≢ sealed.now)) }
 {
     if sealed.len() % 16 != 0 {
         return Ok(None);

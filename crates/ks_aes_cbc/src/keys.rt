@@ -24,7 +24,8 @@ pub fn sealing_keys(key: &[u8; 16]) -> [Columns; 11]
 /// The round keys of the inverse rounds that mix columns, in their order, with their columns unmixed: so a
 /// round adds its key after the columns are unmixed (FIPS 197, section 5.3.5).
 pub fn opening_keys(sealing: &[Columns; 11]) -> [Columns; 9]
-    ensures { (n : ℕ) → n < 9 → block_of (slice_index_or result n []) ≡ unmix_columns (block_of (slice_index_or sealing.now (9 - n) [])) }
+    ensures { (n : ℕ) → n < 9 → block_of (slice_index_or result n [])
+        ≡ unmix_columns (block_of (slice_index_or sealing.now (9 - n) [])) }
 {
     let mut keys = [[0; 4]; 9];
     for i in 0..9 {

@@ -79,7 +79,9 @@ fn unshifted(s: &[u8; 16]) -> [u8; 16]
 
 #[tactic(auto, unfolding(crate::specs::Aes::sum4))]
 fn entry(row: [u8; 4], column: [u8; 4]) -> u8
-    ensures { result ≡ sum4 (product (slice_index row 0) (slice_index column 0)) (product (slice_index row 1) (slice_index column 1)) (product (slice_index row 2) (slice_index column 2)) (product (slice_index row 3) (slice_index column 3)) }
+    ensures { result ≡ sum4
+        (product (slice_index row 0) (slice_index column 0)) (product (slice_index row 1) (slice_index column 1))
+        (product (slice_index row 2) (slice_index column 2)) (product (slice_index row 3) (slice_index column 3)) }
 {
     (times(row[0], column[0]) ^ times(row[1], column[1]))
         ^ (times(row[2], column[2]) ^ times(row[3], column[3]))
@@ -87,7 +89,9 @@ fn entry(row: [u8; 4], column: [u8; 4]) -> u8
 
 #[tactic(auto, unfolding(crate::specs::Aes::circulant))]
 fn multiplied(row: [u8; 4], column: [u8; 4]) -> [u8; 4]
-    ensures { result ≡ circulant (slice_index row 0) (slice_index row 1) (slice_index row 2) (slice_index row 3) (slice_index column 0) (slice_index column 1) (slice_index column 2) (slice_index column 3) }
+    ensures { result ≡ circulant
+        (slice_index row 0) (slice_index row 1) (slice_index row 2) (slice_index row 3)
+        (slice_index column 0) (slice_index column 1) (slice_index column 2) (slice_index column 3) }
 {
     let [p, q, r, s] = row;
     [

@@ -13,7 +13,9 @@ use crate::tables::{
 
 /// A column of a round, of the words whose bytes ShiftRows brings to it.
 fn sealed_column(a: u32, b: u32, c: u32, d: u32, key: u32) -> u32
-    ensures { to_be_bytes w32 result ≡ xor_bytes (circulant 2 3 1 1 (sbox (byte_at 3 a)) (sbox (byte_at 2 b)) (sbox (byte_at 1 c)) (sbox (byte_at 0 d))) (to_be_bytes w32 key) }
+    ensures { to_be_bytes w32 result
+        ≡ xor_bytes (circulant 2 3 1 1
+        (sbox (byte_at 3 a)) (sbox (byte_at 2 b)) (sbox (byte_at 1 c)) (sbox (byte_at 0 d))) (to_be_bytes w32 key) }
 {
     (SEAL_ROW_0[((a >> 24) % 256) as usize] ^ SEAL_ROW_1[((b >> 16) % 256) as usize])
         ^ (SEAL_ROW_2[((c >> 8) % 256) as usize] ^ SEAL_ROW_3[(d % 256) as usize])
@@ -22,7 +24,9 @@ fn sealed_column(a: u32, b: u32, c: u32, d: u32, key: u32) -> u32
 
 /// A column of an inverse round, with its part of the round key.
 fn opened_column(a: u32, b: u32, c: u32, d: u32, key: u32) -> u32
-    ensures { to_be_bytes w32 result ≡ xor_bytes (circulant 14 11 13 9 (unsbox (byte_at 3 a)) (unsbox (byte_at 2 b)) (unsbox (byte_at 1 c)) (unsbox (byte_at 0 d))) (to_be_bytes w32 key) }
+    ensures { to_be_bytes w32 result
+        ≡ xor_bytes (circulant 14 11 13 9
+        (unsbox (byte_at 3 a)) (unsbox (byte_at 2 b)) (unsbox (byte_at 1 c)) (unsbox (byte_at 0 d))) (to_be_bytes w32 key) }
 {
     (OPEN_ROW_0[((a >> 24) % 256) as usize] ^ OPEN_ROW_1[((b >> 16) % 256) as usize])
         ^ (OPEN_ROW_2[((c >> 8) % 256) as usize] ^ OPEN_ROW_3[(d % 256) as usize])
@@ -31,7 +35,8 @@ fn opened_column(a: u32, b: u32, c: u32, d: u32, key: u32) -> u32
 
 /// A column of the last round, which mixes no columns.
 fn last_sealed_column(a: u32, b: u32, c: u32, d: u32, key: u32) -> u32
-    ensures { to_be_bytes w32 result ≡ xor_bytes (sbox (byte_at 3 a) ∷ sbox (byte_at 2 b) ∷ sbox (byte_at 1 c) ∷ sbox (byte_at 0 d) ∷ []) (to_be_bytes w32 key) }
+    ensures { to_be_bytes w32 result
+        ≡ xor_bytes (sbox (byte_at 3 a) ∷ sbox (byte_at 2 b) ∷ sbox (byte_at 1 c) ∷ sbox (byte_at 0 d) ∷ []) (to_be_bytes w32 key) }
 {
     u32::from_be_bytes([
         SBOX[((a >> 24) % 256) as usize],
@@ -43,7 +48,8 @@ fn last_sealed_column(a: u32, b: u32, c: u32, d: u32, key: u32) -> u32
 
 /// A column of the last inverse round.
 fn last_opened_column(a: u32, b: u32, c: u32, d: u32, key: u32) -> u32
-    ensures { to_be_bytes w32 result ≡ xor_bytes (unsbox (byte_at 3 a) ∷ unsbox (byte_at 2 b) ∷ unsbox (byte_at 1 c) ∷ unsbox (byte_at 0 d) ∷ []) (to_be_bytes w32 key) }
+    ensures { to_be_bytes w32 result
+        ≡ xor_bytes (unsbox (byte_at 3 a) ∷ unsbox (byte_at 2 b) ∷ unsbox (byte_at 1 c) ∷ unsbox (byte_at 0 d) ∷ []) (to_be_bytes w32 key) }
 {
     u32::from_be_bytes([
         INVERSE_SBOX[((a >> 24) % 256) as usize],
@@ -55,7 +61,8 @@ fn last_opened_column(a: u32, b: u32, c: u32, d: u32, key: u32) -> u32
 
 /// A column of InvMixColumns, by the tables of the inverse S-box at the S-box.
 fn unmixed_column(column: u32) -> u32
-    ensures { to_be_bytes w32 result ≡ circulant 14 11 13 9 (byte_at 3 column) (byte_at 2 column) (byte_at 1 column) (byte_at 0 column) }
+    ensures { to_be_bytes w32 result
+        ≡ circulant 14 11 13 9 (byte_at 3 column) (byte_at 2 column) (byte_at 1 column) (byte_at 0 column) }
 {
     (OPEN_ROW_0[SBOX[((column >> 24) % 256) as usize] as usize]
         ^ OPEN_ROW_1[SBOX[((column >> 16) % 256) as usize] as usize])
@@ -65,7 +72,8 @@ fn unmixed_column(column: u32) -> u32
 
 /// The block after one round more.
 pub fn sealed_round(s: &Columns, key: &Columns) -> Columns
-    ensures { block_of result ≡ xor_bytes (mix_columns (shift_rows (sub_bytes (block_of s.now)))) (block_of key.now) }
+    ensures { block_of result
+        ≡ xor_bytes (mix_columns (shift_rows (sub_bytes (block_of s.now)))) (block_of key.now) }
 {
     [
         sealed_column(s[0], s[1], s[2], s[3], key[0]),
@@ -77,7 +85,8 @@ pub fn sealed_round(s: &Columns, key: &Columns) -> Columns
 
 /// The block after the last round.
 pub fn last_sealed_round(s: &Columns, key: &Columns) -> Columns
-    ensures { block_of result ≡ xor_bytes (shift_rows (sub_bytes (block_of s.now))) (block_of key.now) }
+    ensures { block_of result
+        ≡ xor_bytes (shift_rows (sub_bytes (block_of s.now))) (block_of key.now) }
 {
     [
         last_sealed_column(s[0], s[1], s[2], s[3], key[0]),
@@ -89,7 +98,8 @@ pub fn last_sealed_round(s: &Columns, key: &Columns) -> Columns
 
 /// The block after one inverse round more, whose round key has its columns unmixed too.
 pub fn opened_round(s: &Columns, key: &Columns) -> Columns
-    ensures { block_of result ≡ xor_bytes (unmix_columns (unsub_bytes (unshift_rows (block_of s.now)))) (block_of key.now) }
+    ensures { block_of result
+        ≡ xor_bytes (unmix_columns (unsub_bytes (unshift_rows (block_of s.now)))) (block_of key.now) }
 {
     [
         opened_column(s[0], s[3], s[2], s[1], key[0]),
@@ -101,7 +111,8 @@ pub fn opened_round(s: &Columns, key: &Columns) -> Columns
 
 /// The block after the last inverse round.
 pub fn last_opened_round(s: &Columns, key: &Columns) -> Columns
-    ensures { block_of result ≡ xor_bytes (unsub_bytes (unshift_rows (block_of s.now))) (block_of key.now) }
+    ensures { block_of result
+        ≡ xor_bytes (unsub_bytes (unshift_rows (block_of s.now))) (block_of key.now) }
 {
     [
         last_opened_column(s[0], s[3], s[2], s[1], key[0]),
