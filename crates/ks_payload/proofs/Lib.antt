@@ -1,0 +1,4 @@
+pub mod HexLemmas
+pub mod FieldLemmas
+pub mod PayloadLemmas
+pub mod CodeLemmas

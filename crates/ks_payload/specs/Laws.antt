@@ -1,0 +1,23 @@
+-- What holds of all payloads and their spellings.
+use Rattle.std.specs.Prelude.{◌≡◌, ◌↔◌, ℕ, List, [], ◌++◌, Some, None}
+use Rattle.ks_payload.specs.Payloads.{IsPayload}
+use Rattle.ks_payload.specs.Readings.{payload_of}
+use Rattle.ks_payload.specs.declared.payload.Payload.{Payload}
+
+-- `payload_of` finds a payload exactly where the bytes spell it
+abbrev pub FindsEachPayload : Type 0
+FindsEachPayload = (bytes : List ℕ) (p : Payload) → (payload_of bytes ≡ Some p) ↔ IsPayload bytes p
+
+-- and finds none exactly where they spell none
+abbrev pub FindsNoOther : Type 0
+FindsNoOther = (bytes : List ℕ) → (payload_of bytes ≡ None) ↔ ((p : Payload) → ¬ IsPayload bytes p)
+
+abbrev pub HasOneSpelling : Type 0
+HasOneSpelling = (p : Payload) (a b : List ℕ) → IsPayload a p → IsPayload b p → a ≡ b
+
+abbrev pub HasOneReading : Type 0
+HasOneReading = (bytes : List ℕ) (p q : Payload) → IsPayload bytes p → IsPayload bytes q → p ≡ q
+
+-- what begins with a spelling and is one has nothing behind it
+abbrev pub HasNoProperPrefix : Type 0
+HasNoProperPrefix = (p q : Payload) (a more : List ℕ) → IsPayload a p → IsPayload (a ++ more) q → more ≡ []

@@ -1,0 +1,4 @@
+pub mod IdFields
+pub mod Payloads
+pub mod Readings
+pub mod Laws

@@ -1,0 +1,23 @@
+//! Laws of the format. Their functions do nothing: their contracts are the laws.
+ghost use Rattle.ks_payload.specs.Laws.{FindsEachPayload, FindsNoOther, HasOneReading, HasOneSpelling, HasNoProperPrefix};
+
+/// What the computed reading finds is what the bytes spell.
+pub fn readings()
+    ensures some { FindsEachPayload }
+    ensures none { FindsNoOther }
+{}
+
+/// A payload has one spelling.
+pub fn one_spelling()
+    ensures { HasOneSpelling }
+{}
+
+/// Bytes spell one payload at most.
+pub fn one_reading()
+    ensures { HasOneReading }
+{}
+
+/// No spelling is a proper prefix of another.
+pub fn prefix_free()
+    ensures { HasNoProperPrefix }
+{}
