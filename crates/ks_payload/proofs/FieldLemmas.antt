@@ -10,6 +10,7 @@ use Rattle.hex.specs.Hex.{IsBytes, encode_lower}
 use Rattle.ks_base.specs.Ids.{IsId, is_id_byte}
 use Rattle.ks_payload.specs.IdFields.{is_hex_id, bytes_of_digits, id_field}
 use Rattle.ks_payload.specs.Payloads.{field_if_any, IsSixteenBytes}
+use Rattle.ks_payload.specs.Laws.{IsIdField}
 use Rattle.ks_payload.specs.Readings.{take_number, take_bytes, take_plain_id, take_hex_id, take_id, take_if}
 use Rattle.ks_payload.proofs.HexLemmas.{both, is_hex_id_of_bytes, bytes_of_encoded, hex_id_bytes, IsId-encoded}
 
@@ -165,18 +166,21 @@ take_id_hex : (xs : List ℕ) → take_id (0 ∷ xs) ≡ take_hex_id xs
 unfolding take_id
 take_id_hex xs = refl
 
+cases_hex : (id : List ℕ) → (is_hex_id id ≡ true) ⊎ (is_hex_id id ≡ false)
+cases_hex id = cases_bool (is_hex_id id)
+  where
+    cases_bool : (b : Bool) → (b ≡ true) ⊎ (b ≡ false)
+    cases_bool true = inl refl
+    cases_bool false = inr refl
+
 pub takes_id : (id rest : List ℕ) → IsId id → take_id (id_field id ++ rest) ≡ Some (id, rest)
 takes_id id rest is =
-    elim (cases_bool (is_hex_id id)) [
+    elim (cases_hex id) [
       | inl hex ↦
           let b = hex_id_bytes id hex in
           ap (λ field. take_id (field ++ rest)) (id_field_of_hex id hex) ∙ (take_id_hex (bytes_of_digits id ++ rest) ∙ takes_hex_id (bytes_of_digits id) id rest b.1 b.2 b.0)
       | inr plain ↦ ap (λ field. take_id (field ++ rest)) (id_field_of_plain id plain) ∙ (take_id_plain (length id) (id ++ rest) is.0 ∙ takes_plain_id id rest is plain)
     ]
-  where
-    cases_bool : (b : Bool) → (b ≡ true) ⊎ (b ≡ false)
-    cases_bool true = inl refl
-    cases_bool false = inr refl
 
 -- ---- fields that may be absent
 
@@ -229,3 +233,30 @@ pub plain_pushed : (items id text pushed new : List ℕ) → text ≡ id → is_
 plain_pushed items id text pushed new same plain e1 e2 =
     let field = id_field_of_plain text plain in
     rw (e2, e1, ← same, field) (append_assoc items (length text ∷ []) text)
+
+-- ---- the two cases of an id's field
+
+no_digits : (id : List ℕ) → is_hex_id id ≡ false → (bytes : List ℕ) → IsSixteenBytes bytes → id ≡ encode_lower bytes → ⊥
+no_digits id plain bytes sixteen e =
+    let hex : is_hex_id id ≡ true = ap (λ text. is_hex_id text) e ∙ is_hex_id_of_bytes bytes sixteen.0 sixteen.1 in
+    cc
+
+pub id_field_cases : (field id : List ℕ) → field ≡ id_field id → IsIdField field id
+id_field_cases field id e =
+    elim (cases_hex id) [
+      | inl hex ↦
+          let b = hex_id_bytes id hex in
+          inl (bytes_of_digits id, (b.1, b.2), sym b.0, e ∙ id_field_of_hex id hex)
+      | inr plain ↦ inr (no_digits id plain, e ∙ id_field_of_plain id plain)
+    ]
+
+pub id_field_is : (field id : List ℕ) → IsIdField field id → field ≡ id_field id
+id_field_is field id (inl w) =
+    let field_of : id_field (encode_lower w.0) ≡ 0 ∷ w.0 =
+    id_field_of_hex (encode_lower w.0) (is_hex_id_of_bytes w.0 w.1.0 w.1.1) ∙ ap (λ ys. 0 ∷ ys) (bytes_of_encoded w.0 w.1.1) in
+    w.3 ∙ sym (ap (λ text. id_field text) w.2 ∙ field_of)
+id_field_is field id (inr w) =
+    elim (cases_hex id) [
+      | inl hex ↦ let b = hex_id_bytes id hex in absurd (w.0 (bytes_of_digits id) (b.1, b.2) (sym b.0))
+      | inr plain ↦ w.1 ∙ sym (id_field_of_plain id plain)
+    ]

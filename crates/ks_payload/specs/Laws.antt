@@ -1,6 +1,8 @@
 -- What holds of all payloads and their spellings.
-use Rattle.std.specs.Prelude.{◌≡◌, ◌↔◌, ℕ, List, [], ◌++◌, Some, None}
-use Rattle.ks_payload.specs.Payloads.{IsPayload}
+use Rattle.std.specs.Prelude.{◌≡◌, ◌≢◌, ◌↔◌, ◌⊎◌, ℕ, List, [], ◌∷◌, ◌++◌, length, Some, None}
+use Rattle.hex.specs.Hex.{encode_lower}
+use Rattle.ks_payload.specs.IdFields.{id_field}
+use Rattle.ks_payload.specs.Payloads.{IsPayload, IsSixteenBytes}
 use Rattle.ks_payload.specs.Readings.{payload_of}
 use Rattle.ks_payload.specs.declared.payload.Payload.{Payload}
 
@@ -21,3 +23,12 @@ HasOneReading = (bytes : List ℕ) (p q : Payload) → IsPayload bytes p → IsP
 -- what begins with a spelling and is one has nothing behind it
 abbrev pub HasNoProperPrefix : Type 0
 HasNoProperPrefix = (p q : Payload) (a more : List ℕ) → IsPayload a p → IsPayload (a ++ more) q → more ≡ []
+
+-- 00 and 16 bytes whose lower hex digits the id is; or the length and the bytes of an id that is no such digits
+abbrev pub IsIdField : List ℕ → List ℕ → Type 0
+IsIdField field id =
+    ((bytes : List ℕ) × IsSixteenBytes bytes × (id ≡ encode_lower bytes) × (field ≡ 0 ∷ bytes))
+    ⊎ (((bytes : List ℕ) → IsSixteenBytes bytes → id ≢ encode_lower bytes) × (field ≡ length id ∷ id))
+
+abbrev pub HasTheIdField : Type 0
+HasTheIdField = (field id : List ℕ) → (field ≡ id_field id) ↔ IsIdField field id

@@ -1,5 +1,5 @@
 //! Laws of the format. Their functions do nothing: their contracts are the laws.
-ghost use Rattle.ks_payload.specs.Laws.{FindsEachPayload, FindsNoOther, HasOneReading, HasOneSpelling, HasNoProperPrefix};
+ghost use Rattle.ks_payload.specs.Laws.{FindsEachPayload, FindsNoOther, HasOneReading, HasOneSpelling, HasNoProperPrefix, HasTheIdField};
 
 /// What the computed reading finds is what the bytes spell.
 pub fn readings()
@@ -20,4 +20,9 @@ pub fn one_reading()
 /// No spelling is a proper prefix of another.
 pub fn prefix_free()
     ensures { HasNoProperPrefix }
+{}
+
+/// The field of an id is the one that the format names.
+pub fn id_fields()
+    ensures { HasTheIdField }
 {}

@@ -20,7 +20,7 @@ mod payload;
 mod reading;
 mod writing;
 
-pub use laws::{one_reading, one_spelling, prefix_free, readings};
+pub use laws::{id_fields, one_reading, one_spelling, prefix_free, readings};
 pub use payload::Payload;
 
 #[cfg(test)]
