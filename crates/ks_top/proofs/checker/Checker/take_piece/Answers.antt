@@ -1,0 +1,31 @@
+use Rattle.std.proofs.Common.{◌∷◌, [], Ok, Err, length, ap, length-append, arith}
+use Rattle.std.proofs.lemmas.Result.{err_from_is_err_and}
+use Rattle.ks_top.proofs.CheckerLemmas.{stands_line, stands_hold, moves_err}
+use Rattle.ks_top.proofs.checker.Checker.take_piece.Goals as goal
+
+pub returns-in_err-end_line-clause-moves : goal.returns-in_err-end_line-clause-moves
+returns-in_err-end_line-clause-moves g c whole before h =
+    let p = err_from_is_err_and c.from_residual.result c.from_residual.ensures.1 in
+    let stood = rw c.in-Some.ensures.1 at (c.lines.invariant.stands whole before h) in
+    rw (p.1, p.2) (moves_err c.in_err-end_line.field-0.0 whole c.in-Some.behind.now [] c.end_line.new.self _ before
+    (stands_line (Err c.in_err-end_line.field-0.0) whole c.in-Some.line.now c.in-Some.behind.now c.lines.self c.end_line.new.self _ before stood c.end_line.ensures.inside c.in_err-end_line.ensures.ends))
+
+pub returns-in_default-write_many-clause-moves : goal.returns-in_default-write_many-clause-moves
+returns-in_default-write_many-clause-moves g c whole before h =
+    let stood = rw c.in-Some.ensures.1 at (c.lines.invariant.stands whole before h) in
+    let behind = stands_line (Ok c.in_ok-end_line.field-0) whole c.in-Some.line.now c.in-Some.behind.now c.lines.self c.end_line.new.self _ before stood c.end_line.ensures.inside c.in_ok-end_line.ensures.ends in
+    c.in_default-write_many.ensures.moves whole c.in-Some.behind.now before behind
+
+pub lines-preserved : goal.lines-preserved
+lines-preserved g c = record {
+  stands = λ whole before h.
+      let stood = rw c.in-Some.ensures.1 at (c.lines.invariant.stands whole before h) in
+      let behind = stands_line (Ok c.in_ok-end_line.field-0) whole c.in-Some.line.now c.in-Some.behind.now c.lines.self c.end_line.new.self _ before stood c.end_line.ensures.inside c.in_ok-end_line.ensures.ends in
+      c.in-Ok.ensures.moves whole c.in-Some.behind.now before behind;
+  bytes = omega (arith, c.lines.invariant.bytes, c.in_ok-end_line.ensures.bytes, c.write_many.ensures.bytes, ap length c.in-Some.ensures.1, length-append c.in-Some.line.now (10 ∷ c.in-Some.behind.now));
+  count = omega (arith, c.lines.invariant.count, c.write_many.ensures.count);
+}
+
+pub returns-clause-moves : goal.returns-clause-moves
+returns-clause-moves g c whole before h =
+    stands_hold c.hold.result whole c.lines.rest.now c.lines.self c.hold.new.self _ before (c.lines.invariant.stands whole before h) c.hold.ensures.inside c.hold.ensures.holds

@@ -1,0 +1,14 @@
+use Rattle.std.proofs.Common.{ℕ, ◌+◌, ◌≤◌, List, length}
+use Rattle.ks_top.specs.Check.{Checked}
+use Rattle.ks_top.specs.Progress.{Stands, bytes_read}
+use Rattle.ks_top.proofs.checker.Checker.take_piece.Given as goal
+
+abbrev pub invariant-lines : goal.invariant-lines
+invariant-lines g l = record {
+  stands : (whole : List ℕ → Checked) (before : List ℕ) → Stands whole l.piece l.fn.self (g.K.Sink.written l.fn.output) before → Stands whole l.rest l.self (g.K.Sink.written l.output) before;
+  bytes : bytes_read l.fn.self + length l.piece ≤ bytes_read l.self + length l.rest;
+  count : g.K.Sink.faults l.fn.output ≤ g.K.Sink.faults l.output;
+}
+
+abbrev pub decreases-lines : goal.decreases-lines
+decreases-lines g l = length l.rest

@@ -1,0 +1,62 @@
+-- What `check` writes for its input, and how it ends.
+use Rattle.std.specs.Prelude.{ℕ, ◌+◌, ◌==◌, nat_lt, nat_le, ◌||◌, if◌then◌else◌, List, [], ◌∷◌, ◌++◌, length, Option, Some, None, codes}
+use Rattle.std.specs.Option.{option_and_then, option_map, is_some}
+use Rattle.ks_base.specs.declared.key.Key.{Key}
+use Rattle.ks_fernet.specs.KeyText.{key_of}
+use Rattle.ks_fernet.specs.Token.{envelope_of}
+use Rattle.ks_top.specs.declared.checker.Place.{Place}
+use Rattle.ks_top.specs.Lines.{lines_of, TokenLine, token_line_of}
+
+-- at the end of the input, or at a line that is not in the grammar, counted from 1
+pub data End : Type 0 where
+  Whole : End
+  BadLine : ℕ → End
+
+pub record Checked : Type 0 where
+  pub output : List ℕ
+  pub end : End
+
+-- what a line writes, and where the check stands behind it
+pub record Step : Type 0 where
+  pub output : List ℕ
+  pub place : Place
+
+abbrev pub text_refused : List ℕ
+text_refused = codes "refused text\n"
+
+abbrev pub behind : Place → Option Key → List ℕ → Step
+behind place key output = record { output = output; place = record { lines = place.lines + 1; key = key } }
+
+-- the answer to a token: what is no envelope is refused
+abbrev pub answer_to : TokenLine → Option (List ℕ)
+answer_to line = if is_some (envelope_of line.token) then None else Some text_refused
+
+-- line 1 is a key, and each later line a reading, one space and a token
+abbrev pub keyed_step : Place → Option Key → List ℕ → Option Step
+keyed_step place None line = option_map (λ key. behind place (Some key) []) (key_of line)
+keyed_step place (Some key) line = option_map (behind place (Some key)) (option_and_then answer_to (token_line_of line))
+
+-- a line has at most 1,100 bytes, and there are at most 1,048,576 lines
+unfoldable pub step_of : Place → List ℕ → Option Step
+step_of place line = if nat_lt 1100 (length line) || nat_le 1048576 place.lines then None else keyed_step place place.key line
+
+abbrev pub onto : List ℕ → Checked → Checked
+onto output checked = record { output = output ++ checked.output; end = checked.end }
+
+abbrev pub bad_line : ℕ → Checked
+bad_line n = record { output = []; end = BadLine n }
+
+abbrev pub go_on : Option Step → ℕ → (Place → Checked) → Checked
+go_on None lines rest = bad_line (lines + 1)
+go_on (Some step) lines rest = onto step.output (rest step.place)
+
+-- an input with no line at all lacks its first
+unfoldable pub steps_of : Place → List (List ℕ) → Checked
+steps_of place [] = if place.lines == 0 then bad_line 1 else record { output = []; end = Whole }
+steps_of place (line ∷ lines) = go_on (step_of place line) place.lines (λ next. steps_of next lines)
+
+abbrev pub check_from : Place → List ℕ → Checked
+check_from place text = steps_of place (lines_of text)
+
+abbrev pub check_of : List ℕ → Checked
+check_of input = check_from (record { lines = 0; key = None }) input

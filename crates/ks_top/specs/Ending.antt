@@ -1,0 +1,47 @@
+-- How `check` and the program end.
+use Rattle.std.specs.Prelude.{◌≡◌, ℕ, List, [], ◌∷◌, ◌++◌, Option, Some, None, Result, Ok, Err, codes}
+use Rattle.ks_outside.specs.Streams.{Begins}
+use Rattle.ks_top.specs.declared.fault.Fault.{Fault}
+use Rattle.ks_top.specs.declared.fault.Fault.TheVariants as fault
+use Rattle.ks_top.specs.Check.{check_of, Whole, BadLine}
+
+-- a check that a fault of the outside or want of memory cut short: what was written is the front of
+-- the output for the bytes that were read
+pub record IsCutShort (input before : List ℕ) (left written : Option (List ℕ)) : Type 0 where
+  pub read : List ℕ
+  pub rest : List ℕ
+  pub input_is : input ≡ read ++ rest
+  pub left_is : left ≡ Some rest
+  pub so_far : List ℕ
+  pub written_is : written ≡ Some (before ++ so_far)
+  pub front : Begins so_far (check_of read).output
+
+-- how a check of an input ends, and what it then has written behind what was there before
+abbrev pub EndsCheck : List ℕ → List ℕ → Option (List ℕ) → Option (List ℕ) → Result (Unit {0}) Fault → Type 0
+EndsCheck input before left written (Ok done) =
+    (written ≡ Some (before ++ (check_of input).output)) × ((check_of input).end ≡ Whole) × (left ≡ Some [])
+EndsCheck input before left written (Err (fault.BadLine n)) =
+    (written ≡ Some (before ++ (check_of input).output)) × ((check_of input).end ≡ BadLine n)
+EndsCheck input before left written (Err fault.Usage) = ⊥
+EndsCheck input before left written (Err other) = IsCutShort input before left written
+
+-- the words of a command
+abbrev pub check_words : List (List ℕ)
+check_words = codes "check" ∷ []
+
+-- each fault has its status
+abbrev pub status_of : Option Fault → ℕ
+status_of None = 0
+status_of (Some fault.Usage) = 2
+status_of (Some fault.Read) = 3
+status_of (Some fault.Write) = 4
+status_of (Some fault.Memory) = 5
+status_of (Some (fault.BadLine n)) = 6
+
+abbrev pub result_of : Option Fault → Result (Unit {0}) Fault
+result_of None = Ok tt
+result_of (Some f) = Err f
+
+abbrev pub fault_of : Result (Unit {0}) Fault → Option Fault
+fault_of (Ok done) = None
+fault_of (Err f) = Some f

@@ -1,0 +1,4 @@
+pub mod Lines
+pub mod Check
+pub mod Ending
+pub mod Progress

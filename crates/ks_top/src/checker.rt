@@ -1,0 +1,316 @@
+ghost use Rattle.std.specs.Prelude.{◌≡◌, ◌+◌, ◌<◌, ◌≤◌, ◌↔◌, None, Some, Err, IsTrue, length, OnOk};
+ghost use Rattle.ks_top.specs.Lines.{IsInLine};
+
+use crate::fault::Fault;
+use crate::lines::{first_line, token_line};
+use ks_base::Key;
+use ks_fernet::{Envelope, EnvelopeFault, KeyText, read_key};
+use ks_outside::{Failed, Sink, Source, write_all};
+use std::alloc::{AllocError, Global};
+
+/// How many bytes a line may have without its line feed.
+const LONGEST_LINE: usize = 1_100;
+/// How many lines an input may have.
+const MOST_LINES: u64 = 1_048_576;
+/// How many bytes are read at once, and how many answers are kept before they are written.
+pub const PIECE: usize = 65_536;
+
+/// Where a check stands: before the line behind those that it has read.
+#[derive(Clone, Copy)]
+pub struct Place {
+    /// How many lines were read.
+    pub lines: u64,
+    /// The key of line 1, behind it.
+    pub key: Option<Key>,
+}
+
+/// A check of the tokens of an input that comes in pieces.
+#[derive(Drop)]
+pub struct Checker {
+    place: Place,
+    /// The line that has begun in earlier pieces.
+    line: Vec<u8>,
+    /// The answers that are still to be written.
+    answers: Vec<u8>,
+    ghost counted: { place.lines ≤ 1048576 },
+    ghost begun: { IsInLine line.items },
+    ghost short: { length line.items ≤ 1100 },
+}
+
+impl Place {
+    ghost use Rattle.ks_top.specs.Check.{step_of, keyed_step};
+    ghost use Rattle.ks_top.specs.Progress.{Takes};
+
+    /// Before the first line.
+    const START: Place = Place {
+        lines: 0,
+        key: None,
+    };
+
+    fn bad_line(&self) -> Fault
+        requires { self.now.lines ≤ 1048576 }
+        ensures { result ≡ Fault.BadLine (self.now.lines + 1) }
+    {
+        Fault::BadLine(self.lines + 1)
+    }
+
+    /// Answers the next line: puts what it writes behind the answers, and goes on behind it. After a
+    /// fault the answers are as they were.
+    #[tactic(auto, unfolding(crate::specs::Check::step_of))]
+    fn take_line(&mut self, alloc: Global, line: &[u8], answers: &mut Vec<u8>) -> Result<(), Fault>
+        requires { self.old.lines ≤ 1048576 }
+        ensures takes { Takes (step_of self.old line.now) self.old.lines answers.old.items self.new answers.new.items result }
+        ensures counted { self.new.lines ≤ 1048576 }
+        ensures forward { OnOk result (self.new.lines ≡ self.old.lines + 1) }
+        ensures short { OnOk result (length line.now ≤ 1100) }
+    {
+        if line.len() > LONGEST_LINE || self.lines >= MOST_LINES {
+            return Err(self.bad_line());
+        }
+        match self.key {
+            None => self.take_key(line, answers),
+            Some(key) => self.take_token(alloc, key, line, answers),
+        }
+    }
+
+    fn take_key(&mut self, line: &[u8], answers: &mut Vec<u8>) -> Result<(), Fault>
+        requires { self.old.lines < 1048576 }
+        ensures takes { Takes (keyed_step self.old None line.now) self.old.lines answers.old.items self.new answers.new.items result }
+        ensures counted { self.new.lines ≤ 1048576 }
+        ensures forward { OnOk result (self.new.lines ≡ self.old.lines + 1) }
+    {
+        let KeyText::Key(key) = read_key(line) else {
+            return Err(self.bad_line());
+        };
+        self.lines += 1;
+        self.key = Some(key);
+        Ok(())
+    }
+
+    fn take_token(
+        &mut self,
+        alloc: Global,
+        key: Key,
+        line: &[u8],
+        answers: &mut Vec<u8>,
+    ) -> Result<(), Fault>
+        requires { self.old.lines < 1048576 }
+        ensures takes { Takes (keyed_step self.old (Some key) line.now) self.old.lines answers.old.items self.new answers.new.items result }
+        ensures counted { self.new.lines ≤ 1048576 }
+        ensures forward { OnOk result (self.new.lines ≡ self.old.lines + 1) }
+    {
+        let Some(parts) = token_line(line) else {
+            return Err(self.bad_line());
+        };
+        match Envelope::read(alloc, parts.token) {
+            Ok(_) => return Err(self.bad_line()),
+            Err(EnvelopeFault::Memory) => return Err(Fault::Memory),
+            Err(_) => {}
+        }
+        if answers.extend_from_slice(b"refused text\n").is_err() {
+            return Err(Fault::Memory);
+        }
+        self.lines += 1;
+        self.key = Some(key);
+        Ok(())
+    }
+}
+
+impl Checker {
+    ghost use Rattle.std.specs.Prelude.{◌≡◌, ◌≢◌, ◌+◌, ◌<◌, ◌≤◌, ◌++◌, ◌⊎◌, ℕ, List, [], Option, IfOk, OnOk, length, IsErr, IsErrOf, Some, Err};
+    ghost use Rattle.ks_outside.specs.Counts.{Rose};
+    ghost use Rattle.ks_top.specs.Lines.{IsInLine};
+    ghost use Rattle.ks_top.specs.Check.{Checked};
+    ghost use Rattle.ks_top.specs.Progress.{IsAtStart, EndsLine, Holds, WritesOut, Stands, Moves, Flushes, Finishes, ReadsAll, bytes_read};
+    ghost use Rattle.ks_top.specs.Ending.{EndsCheck};
+
+    /// Before the first byte.
+    pub fn new(alloc: Global) -> Result<Checker, AllocError>
+        ensures { IfOk result IsAtStart }
+    {
+        Ok(Checker {
+            place: Place::START,
+            line: Vec::with_capacity(alloc, LONGEST_LINE)?,
+            answers: Vec::with_capacity(alloc, 2 * PIECE)?,
+        })
+    }
+
+    /// Keeps the beginning of a line whose line feed is still to come.
+    fn hold(&mut self, bytes: &[u8]) -> Result<(), Fault>
+        requires { IsInLine bytes.now }
+        ensures usage { result ≢ Err Fault.Usage }
+        ensures reads { result ≢ Err Fault.Read }
+        ensures writes { result ≢ Err Fault.Write }
+        ensures holds { Holds bytes.now self.old self.new result }
+        ensures bytes { OnOk result (bytes_read self.new ≡ bytes_read self.old + length bytes.now) }
+        ensures inside { IsInLine (self.old.line.items ++ bytes.now) }
+    {
+        if bytes.len() > LONGEST_LINE - self.line.len() {
+            return Err(self.place.bad_line());
+        }
+        if self.line.extend_from_slice(bytes).is_err() {
+            return Err(Fault::Memory);
+        }
+        Ok(())
+    }
+
+    /// Answers the line that ends with these bytes.
+    fn end_line(&mut self, alloc: Global, last: &[u8]) -> Result<(), Fault>
+        requires { IsInLine last.now }
+        ensures usage { result ≢ Err Fault.Usage }
+        ensures reads { result ≢ Err Fault.Read }
+        ensures writes { result ≢ Err Fault.Write }
+        ensures ends { EndsLine last.now self.old self.new result }
+        ensures forward { OnOk result (self.new.place.lines ≡ self.old.place.lines + 1) }
+        ensures bytes { OnOk result (bytes_read self.old + length last.now + 1 ≤ bytes_read self.new) }
+        ensures inside { IsInLine (self.old.line.items ++ last.now) }
+    {
+        if self.line.is_empty() {
+            return self.place.take_line(alloc, last, &mut self.answers);
+        }
+        self.hold(last)?;
+        self.place
+            .take_line(alloc, self.line.as_slice(), &mut self.answers)?;
+        self.line.clear();
+        Ok(())
+    }
+
+    /// Writes the answers in hand.
+    fn write_out<K: Sink>(&mut self, output: &mut K) -> Result<(), Failed>
+        ensures told { (before : List ℕ) → K.written output.old ≡ Some before → WritesOut self.old result self.new (K.written output.new) before }
+        ensures bytes { bytes_read self.new ≡ bytes_read self.old }
+        ensures count { K.faults output.old ≤ K.faults output.new }
+        ensures failed { IsErr result → Rose (K.faults output.old) (K.faults output.new) }
+    {
+        write_all(output, self.answers.as_slice())?;
+        self.answers.clear();
+        Ok(())
+    }
+
+    /// Writes the answers in hand, where they have become many.
+    fn write_many<K: Sink>(&mut self, output: &mut K) -> Result<(), Failed>
+        ensures moves { (whole : List ℕ → Checked) (rest before : List ℕ) → Stands whole rest self.old (K.written output.old) before → Flushes whole rest result self.new (K.written output.new) before }
+        ensures bytes { bytes_read self.new ≡ bytes_read self.old }
+        ensures count { K.faults output.old ≤ K.faults output.new }
+        ensures failed { IsErr result → Rose (K.faults output.old) (K.faults output.new) }
+    {
+        if self.answers.len() < PIECE {
+            return Ok(());
+        }
+        self.write_out(output)
+    }
+
+    /// Answers the lines that end in a piece, and keeps the beginning of the line behind them.
+    fn take_piece<K: Sink>(
+        &mut self,
+        alloc: Global,
+        piece: &[u8],
+        output: &mut K,
+    ) -> Result<(), Fault>
+        ensures usage { result ≢ Err Fault.Usage }
+        ensures reads { result ≢ Err Fault.Read }
+        ensures moves { (whole : List ℕ → Checked) (before : List ℕ) → Stands whole piece.now self.old (K.written output.old) before → Moves whole [] result self.new (K.written output.new) before }
+        ensures bytes { OnOk result (bytes_read self.old + length piece.now ≤ bytes_read self.new) }
+        ensures count { K.faults output.old ≤ K.faults output.new }
+        ensures failed { IsErrOf result Fault.Write → Rose (K.faults output.old) (K.faults output.new) }
+    {
+        let mut rest = piece;
+        'lines: while let Some((line, behind)) = first_line(rest) {
+            self.end_line(alloc, line)?;
+            let Ok(()) = self.write_many(output) else {
+                return Err(Fault::Write);
+            };
+            rest = behind;
+        }
+        self.hold(rest)
+    }
+
+    /// Answers a last line that lacks its line feed.
+    fn finish(&mut self, alloc: Global) -> Result<(), Fault>
+        ensures usage { result ≢ Err Fault.Usage }
+        ensures reads { result ≢ Err Fault.Read }
+        ensures writes { result ≢ Err Fault.Write }
+        ensures finishes { (whole : List ℕ → Checked) (before : List ℕ) (written : Option (List ℕ)) → Stands whole [] self.old written before → Finishes whole result self.new written before }
+    {
+        if !self.line.is_empty() {
+            return self.end_line(alloc, &[]);
+        }
+        if self.place.lines == 0 {
+            return Err(Fault::BadLine(1));
+        }
+        Ok(())
+    }
+
+    /// Reads the input to its end, a piece at a time, and answers its lines. The last answers stay in
+    /// hand. The lines and their lengths are limited, so an input without end comes to a bad line.
+    fn read_all<S: Source, K: Sink>(
+        &mut self,
+        alloc: Global,
+        input: &mut S,
+        output: &mut K,
+        piece: &mut [u8],
+    ) -> Result<(), Fault>
+        requires fresh { IsAtStart self.old }
+        requires room { 0 < length piece.old }
+        ensures usage { result ≢ Err Fault.Usage }
+        ensures told { (text before : List ℕ) → S.left input.old ≡ Some text → K.written output.old ≡ Some before → ReadsAll text (S.left input.new) result self.new (K.written output.new) before }
+        ensures reads { S.faults input.old ≤ S.faults input.new }
+        ensures read { IsErrOf result Fault.Read → Rose (S.faults input.old) (S.faults input.new) }
+        ensures writes { K.faults output.old ≤ K.faults output.new }
+        ensures write { IsErrOf result Fault.Write → Rose (K.faults output.old) (K.faults output.new) }
+    {
+        'reads: loop {
+            let Ok(count) = input.read(piece) else {
+                return Err(Fault::Read);
+            };
+            if count == 0 {
+                return self.finish(alloc);
+            }
+            self.take_piece(alloc, piece.split_at(count).0, output)?;
+        }
+    }
+
+    /// Writes the last answers, however the reading ended: but nothing may follow a failed write, since
+    /// what it took is not known.
+    fn close<K: Sink>(&mut self, ended: Result<(), Fault>, output: &mut K) -> Result<(), Fault>
+        ensures told { (text before : List ℕ) (left : Option (List ℕ)) → ReadsAll text left ended self.old (K.written output.old) before → EndsCheck text before left (K.written output.new) result }
+        ensures others { result ≡ Err Fault.Write ⊎ result ≡ ended }
+        ensures writes { K.faults output.old ≤ K.faults output.new }
+        ensures write { IsErrOf result Fault.Write → IsErrOf ended Fault.Write ⊎ Rose (K.faults output.old) (K.faults output.new) }
+    {
+        if failed_to_write(&ended) {
+            return Err(Fault::Write);
+        }
+        let Ok(()) = self.write_out(output) else {
+            return Err(Fault::Write);
+        };
+        ended
+    }
+
+    /// Checks the tokens of an input, from its first byte on.
+    pub fn check<S: Source, K: Sink>(
+        &mut self,
+        alloc: Global,
+        input: &mut S,
+        output: &mut K,
+        piece: &mut [u8],
+    ) -> Result<(), Fault>
+        requires fresh { IsAtStart self.old }
+        requires room { 0 < length piece.old }
+        ensures told { (text before : List ℕ) → S.left input.old ≡ Some text → K.written output.old ≡ Some before → EndsCheck text before (S.left input.new) (K.written output.new) result }
+        ensures usage { result ≢ Err Fault.Usage }
+        ensures reads { S.faults input.old ≤ S.faults input.new }
+        ensures read { IsErrOf result Fault.Read → Rose (S.faults input.old) (S.faults input.new) }
+        ensures writes { K.faults output.old ≤ K.faults output.new }
+        ensures write { IsErrOf result Fault.Write → Rose (K.faults output.old) (K.faults output.new) }
+    {
+        let ended = self.read_all(alloc, input, output, piece);
+        self.close(ended, output)
+    }
+}
+
+fn failed_to_write(ended: &Result<(), Fault>) -> bool
+    ensures { IsTrue result ↔ (ended.now ≡ Err Fault.Write) }
+{
+    matches!(ended, Err(Fault::Write))
+}

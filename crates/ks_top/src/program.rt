@@ -1,0 +1,94 @@
+ghost use Rattle.std.specs.Prelude.{◌≡◌, ◌≤◌, ◌↔◌, ◌≢◌, ℕ, List, Some, IsTrue};
+ghost use Rattle.ks_outside.specs.Counts.{Rose};
+ghost use Rattle.ks_top.specs.Ending.{EndsCheck, status_of, fault_of, result_of, check_words};
+
+use crate::check::check;
+use crate::fault::Fault;
+use ks_base::Text;
+use ks_outside::{Sink, Source};
+
+/// How the program ended: the status of its process, and the fault where it is not 0.
+#[derive(Clone, Copy, Debug, PartialEq, Eq)]
+pub struct Ended {
+    pub status: u8,
+    pub fault: Option<Fault>,
+}
+
+impl Fault {
+    /// The status of the process.
+    fn status(&self) -> u8
+        ensures { result ≡ status_of (Some self.now) }
+    {
+        match self {
+            Fault::Usage => 2,
+            Fault::Read => 3,
+            Fault::Write => 4,
+            Fault::Memory => 5,
+            Fault::BadLine(_) => 6,
+        }
+    }
+
+    /// The end by this fault.
+    pub fn ended(self) -> Ended
+        ensures fault { result.fault ≡ Some self }
+        ensures status { result.status ≡ status_of (Some self) }
+    {
+        Ended {
+            status: self.status(),
+            fault: Some(self),
+        }
+    }
+}
+
+impl Ended {
+    fn of(outcome: Result<(), Fault>) -> Ended
+        ensures fault { result.fault ≡ fault_of outcome }
+        ensures status { result.status ≡ status_of result.fault }
+    {
+        match outcome {
+            Ok(()) => Ended {
+                status: 0,
+                fault: None,
+            },
+            Err(fault) => fault.ended(),
+        }
+    }
+}
+
+/// Does what the words say, on an input and an output.
+///
+/// `check` reads a Fernet key and lines of a moment and a token, and answers which tokens are refused.
+/// Its statuses: 0 where the input was read and answered whole, 2 where the words are not a command's,
+/// 3 where the input could not be read, 4 where the output could not be written, 5 for want of memory,
+/// 6 where a line is not in the grammar.
+pub fn run<R: AllocGlobal, S: Source, K: Sink>(
+    rt: &R,
+    words: &[Text],
+    input: &mut S,
+    output: &mut K,
+) -> Ended
+    ensures status { result.status ≡ status_of result.fault }
+    ensures usage { (result.fault ≡ Some Fault.Usage) ↔ (words.now ≢ check_words) }
+    ensures unread { result.fault ≡ Some Fault.Usage → (S.left input.new ≡ S.left input.old) × (K.written output.new ≡ K.written output.old) }
+    ensures told { (text before : List ℕ) → words.now ≡ check_words → S.left input.old ≡ Some text → K.written output.old ≡ Some before →
+        EndsCheck text before (S.left input.new) (K.written output.new) (result_of result.fault) }
+    ensures reads { S.faults input.old ≤ S.faults input.new }
+    ensures read { result.fault ≡ Some Fault.Read → Rose (S.faults input.old) (S.faults input.new) }
+    ensures writes { K.faults output.old ≤ K.faults output.new }
+    ensures write { result.fault ≡ Some Fault.Write → Rose (K.faults output.old) (K.faults output.new) }
+{
+    if !is_check(words) {
+        return Fault::Usage.ended();
+    }
+    Ended::of(check(rt.alloc(), input, output))
+}
+
+/// Whether the words are the one word `check`.
+fn is_check(words: &[Text]) -> bool
+    ensures { IsTrue result ↔ (words.now ≡ check_words) }
+{
+    match words {
+        [word] => word.as_str() == "check",
+        _ => false,
+    }
+}
