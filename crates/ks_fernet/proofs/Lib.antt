@@ -3,3 +3,5 @@ pub mod Spelling
 pub mod KeyTexts
 pub mod Tokens
 pub mod Readings
+pub mod Openings
+pub mod Sealed

@@ -1,5 +1,5 @@
 -- What an answer of `Envelope::read` says of the text.
-use Rattle.std.proofs.Common.{◌≡◌, ◌≢◌, ◌↔◌, ℕ, ◌<◌, ◌≤◌, IfOk, IfErr, IsSome, List, length, slice_index, refl, sym, ◌∙◌, arith, Option, Some, None, Result, Ok, Err}
+use Rattle.std.proofs.Common.{◌≡◌, ◌≢◌, ◌↔◌, ℕ, ◌<◌, ◌≤◌, IfOk, IfErr, IfNone, IsSome, List, length, slice_index, refl, sym, ◌∙◌, arith, Option, Some, None, Result, Ok, Err}
 use Rattle.ks_fernet.specs.declared.envelope.Envelope.{Envelope}
 use Rattle.ks_fernet.specs.declared.envelope.EnvelopeFault.{EnvelopeFault}
 use Rattle.ks_fernet.specs.declared.envelope.EnvelopeFault.TheVariants.{NotText, Length, Version, Memory}
@@ -117,3 +117,7 @@ reading_bytes text bytes (Err Memory) short read ok err =
       value = tt;
       none = λ h. absurd (h refl);
     }
+
+pub if_none_then : {X : Type 0} (o : Option X) {P Q : Type 0} → (P → Q) → IfNone o P → IfNone o Q
+if_none_then None f h = f h
+if_none_then (Some x) f h = tt

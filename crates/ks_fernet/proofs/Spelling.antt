@@ -21,7 +21,7 @@ padded_is : (bytes : List ℕ) → padded_text bytes ≡ encode_of url_safe byte
 unfolding padded_text
 padded_is bytes = refl
 
-bare_is : (bytes : List ℕ) → bare_text bytes ≡ encode_of url_safe_no_pad bytes
+pub bare_is : (bytes : List ℕ) → bare_text bytes ≡ encode_of url_safe_no_pad bytes
 unfolding bare_text
 bare_is bytes = refl
 

@@ -1,11 +1,12 @@
 -- The parts of a token and its bytes.
 use Rattle.std.proofs.Common.{◌≡◌, ◌≢◌, ◌↔◌, ℕ, zero, suc, ◌+◌, ◌-◌, ◌%◌, ◌^◌, ◌<◌, ◌≤◌, ◌==◌, nat_lt, true, false, List, ◌∷◌, ◌++◌, length, take, drop, slice_index, refl, sym, ap, ◌∙◌, arith, inl, inr, Some, None}
 use Rattle.std.proofs.lemmas.Bool.{cases_Bool, cases_eq, cases_lt, le-leb, lt-leb, eqb-true, ne_eqb, lt-ltb, ltb-true}
-use Rattle.std.proofs.lemmas.List.{drop-drop, drop_at, drop_more, length-append, length-drop, length-take-le, take-append-drop, take_at}
+use Rattle.std.proofs.lemmas.List.{append_assoc, drop-drop, drop-take, drop_at, drop_more, length-append, length-drop, length-take-le, take-append-drop, take-take, take_at}
 use Rattle.std.proofs.lemmas.Nat.{be_bytes_8, from_be_bytes-to_be_bytes_8}
 use Rattle.std.specs.Int.{w64, to_be_bytes, from_be_bytes}
 use Rattle.ks_fernet.specs.declared.envelope.Envelope.{Envelope}
 use Rattle.ks_fernet.specs.Base64Url.{AreBytes, Spells, bytes_of}
+use Rattle.ks_fernet.specs.Opening.{signed_bytes}
 use Rattle.ks_fernet.specs.Token.{IsToken, IsTokenLength, envelope_in, envelope_of, is_token_length, parts_of, token_bytes}
 use Rattle.ks_fernet.proofs.DecodedBytes.{AreBytes-append, AreBytes-take, AreBytes-drop}
 use Rattle.ks_fernet.proofs.Spelling.{option_cases, read_spelled, spelled_read, test_parts}
@@ -193,18 +194,57 @@ no_envelope_iff text = (
   ],
 )
 
--- the parts cut off one after another
-pub cut_parts : (bytes r0 r1 r2 time iv ciphertext mac : List ℕ) → 57 < length bytes → r0 ≡ drop 1 bytes → time ≡ take 8 r0 → r1 ≡ drop 8 r0
-    → iv ≡ take 16 r1 → r2 ≡ drop 16 r1 → ciphertext ≡ take (length r2 - 32) r2 → mac ≡ drop (length r2 - 32) r2
-    → made_of (from_be_bytes w64 time) iv ciphertext mac ≡ parts_of bytes
-cut_parts bytes r0 r1 r2 time iv ciphertext mac long e0 et e1 ei e2 ec em =
-    let f1 : r1 ≡ drop 9 bytes = e1 ∙ ap (drop 8) e0 ∙ drop-drop 8 1 bytes in
-    let f2 : r2 ≡ drop 25 bytes = e2 ∙ ap (drop 16) f1 ∙ drop-drop 16 9 bytes in
-    let n : length r2 - 32 ≡ length bytes - 57 = omega (arith, ap length f2 ∙ length-drop 25 bytes) in
-    let m : 25 + (length bytes - 57) ≡ length bytes - 32 = omega arith in
-    same_made (from_be_bytes w64 time) (from_be_bytes w64 (take 8 (drop 1 bytes))) iv (take 16 (drop 9 bytes))
-    ciphertext (take (length bytes - 57) (drop 25 bytes)) mac (drop (length bytes - 32) bytes)
-    (ap (from_be_bytes w64) (et ∙ ap (take 8) e0))
-    (ei ∙ ap (take 16) f1)
-    (ec ∙ rw (n, f2) refl)
-    (em ∙ rw (n, f2) (drop-drop (length bytes - 57) 25 bytes ∙ rw m refl))
+-- a token's bytes are those that the mac is of, and the mac
+pub token_bytes-signed : (e : Envelope) → token_bytes e ≡ signed_bytes e.time e.iv e.ciphertext ++ e.mac
+token_bytes-signed e = ap (λ (rest : List ℕ). 0x80 ∷ (to_be_bytes w64 e.time ++ rest)) (sym (append_assoc e.iv e.ciphertext e.mac))
+
+-- the parts of a token's bytes as they are cut off, the mac first
+pub record AreCut (bytes signed after_version time after_time iv ciphertext mac : List ℕ) : Type 0 where
+  pub signed_is : signed ≡ take (length bytes - 32) bytes
+  pub mac_is : mac ≡ drop (length bytes - 32) bytes
+  pub after_version_is : after_version ≡ drop 1 signed
+  pub time_is : time ≡ take 8 after_version
+  pub after_time_is : after_time ≡ drop 8 after_version
+  pub iv_is : iv ≡ take 16 after_time
+  pub ciphertext_is : ciphertext ≡ drop 16 after_time
+
+-- what is left of a front after its own front
+drop_front : (m n k : ℕ) (xs : List ℕ) → n ≡ m + k → drop m (take n xs) ≡ take k (drop m xs)
+drop_front m n k xs e = rw e (drop-take m k xs)
+
+pub cut_version : (bytes signed r1 time r2 iv c mac : List ℕ) → 57 < length bytes → AreCut bytes signed r1 time r2 iv c mac → r1 ≡ take (length bytes - 33) (drop 1 bytes)
+cut_version bytes signed r1 time r2 iv c mac long cut =
+    cut.after_version_is ∙ ap (drop 1) cut.signed_is ∙ drop_front 1 (length bytes - 32) (length bytes - 33) bytes (omega arith)
+
+pub cut_time : (bytes signed r1 time r2 iv c mac : List ℕ) → 57 < length bytes → AreCut bytes signed r1 time r2 iv c mac → time ≡ take 8 (drop 1 bytes)
+cut_time bytes signed r1 time r2 iv c mac long cut =
+    cut.time_is ∙ ap (take 8) (cut_version bytes signed r1 time r2 iv c mac long cut) ∙ take-take 8 (length bytes - 33) (drop 1 bytes) (omega arith)
+
+cut_after_time : (bytes signed r1 time r2 iv c mac : List ℕ) → 57 < length bytes → AreCut bytes signed r1 time r2 iv c mac → r2 ≡ take (length bytes - 41) (drop 9 bytes)
+cut_after_time bytes signed r1 time r2 iv c mac long cut =
+    cut.after_time_is ∙ ap (drop 8) (cut_version bytes signed r1 time r2 iv c mac long cut)
+    ∙ drop_front 8 (length bytes - 33) (length bytes - 41) (drop 1 bytes) (omega arith)
+    ∙ ap (take (length bytes - 41)) (drop-drop 8 1 bytes)
+
+pub cut_iv : (bytes signed r1 time r2 iv c mac : List ℕ) → 57 < length bytes → AreCut bytes signed r1 time r2 iv c mac → iv ≡ take 16 (drop 9 bytes)
+cut_iv bytes signed r1 time r2 iv c mac long cut =
+    cut.iv_is ∙ ap (take 16) (cut_after_time bytes signed r1 time r2 iv c mac long cut) ∙ take-take 16 (length bytes - 41) (drop 9 bytes) (omega arith)
+
+pub cut_ciphertext : (bytes signed r1 time r2 iv c mac : List ℕ) → 57 < length bytes → AreCut bytes signed r1 time r2 iv c mac
+    → c ≡ take (length bytes - 57) (drop 25 bytes)
+cut_ciphertext bytes signed r1 time r2 iv c mac long cut =
+    cut.ciphertext_is ∙ ap (drop 16) (cut_after_time bytes signed r1 time r2 iv c mac long cut)
+    ∙ drop_front 16 (length bytes - 41) (length bytes - 57) (drop 9 bytes) (omega arith)
+    ∙ ap (take (length bytes - 57)) (drop-drop 16 9 bytes)
+
+pub cut_signed : (bytes signed : List ℕ) → 57 < length bytes → AreBytes bytes → slice_index bytes 0 ≡ 0x80
+    → signed ≡ take (length bytes - 32) bytes
+    → signed ≡ signed_bytes (parts_of bytes).time (parts_of bytes).iv (parts_of bytes).ciphertext
+cut_signed bytes signed long are version front =
+    let e : Envelope = parts_of bytes in
+    let covered : List ℕ = signed_bytes e.time e.iv e.ciphertext in
+    let whole : bytes ≡ covered ++ e.mac = sym (token_bytes-parts_of bytes are long version) ∙ token_bytes-signed e in
+    let iv : length e.iv ≡ 16 = length-take-le 16 (drop 9 bytes) (omega (arith, length-drop 9 bytes)) in
+    let c : length e.ciphertext ≡ length bytes - 57 = length-take-le (length bytes - 57) (drop 25 bytes) (omega (arith, length-drop 25 bytes)) in
+    let n : length covered ≡ length bytes - 32 = omega (arith, length-append e.iv e.ciphertext, iv, c) in
+    front ∙ ap (take (length bytes - 32)) whole ∙ take_at covered e.mac (length bytes - 32) n

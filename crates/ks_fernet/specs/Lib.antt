@@ -1,3 +1,5 @@
 pub mod Base64Url
-pub mod Token
 pub mod KeyText
+pub mod Opened
+pub mod Opening
+pub mod Token

@@ -6,6 +6,8 @@ ghost use Rattle.ks_base.specs.declared.key.Key.{Key};
 ghost use Rattle.ks_fernet.specs.declared.envelope.Envelope.{Envelope};
 ghost use Rattle.ks_fernet.specs.Base64Url.{AreBytes, Spells, bare_text, bytes_of, padded_text};
 ghost use Rattle.ks_fernet.specs.KeyText.{IsKeyText, key_of};
+ghost use Rattle.ks_fernet.specs.declared.opening.OpenAnswer.TheVariants.{NotText, No, Yes};
+ghost use Rattle.ks_fernet.specs.Opening.{Holds, HoldsNothing, open_of};
 ghost use Rattle.ks_fernet.specs.Token.{IsToken, envelope_of};
 
 /// A text spells one list of bytes at most.
@@ -42,4 +44,11 @@ pub fn key_has_two_texts()
     ensures { (text : List ℕ) (key : Key) → IsKeyText text key →
         let bare = bare_text (key.signing ++ key.encryption) in
         (length bare ≡ 43) × ((text ≡ bare) ⊎ (text ≡ bare ++ 61 ∷ [])) }
+{}
+
+/// `open_of` says what the text holds under the key.
+pub fn opening_says_what_is_held()
+    ensures yes { (key : Key) (text : List ℕ) (time : ℕ) (plain : List ℕ) → (open_of key text ≡ Yes time plain) ↔ Holds key text time plain }
+    ensures nothing { (key : Key) (text : List ℕ) → (open_of key text ≡ No) ↔ HoldsNothing key text }
+    ensures not_text { (key : Key) (text : List ℕ) → (open_of key text ≡ NotText) ↔ ((e : Envelope) → ¬ IsToken text e) }
 {}

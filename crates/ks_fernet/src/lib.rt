@@ -1,13 +1,21 @@
-//! Fernet tokens and keys: their texts, and sealing and opening them.
+//! Fernet tokens of version 0x80, as the Fernet specification gives them: their keys and texts in
+//! base64url (RFC 4648, section 5), sealing by AES-128 in CBC under an HMAC-SHA256 (RFC 2104), and
+//! opening.
 #![tactic(auto)]
 
 mod base64_url;
 mod envelope;
 mod key_text;
 pub mod laws;
+mod opened;
+mod opening;
+mod sealing;
 
 pub use envelope::{Envelope, EnvelopeFault};
 pub use key_text::{KeyText, read_key};
+pub use opened::{Opened, open};
+pub use opening::{OpenAnswer, answer};
+pub use sealing::seal;
 
 #[cfg(test)]
 mod tests;

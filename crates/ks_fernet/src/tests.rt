@@ -1,5 +1,5 @@
-use crate::{Envelope, EnvelopeFault, KeyText, read_key};
-use ks_base::Key;
+use crate::{Envelope, EnvelopeFault, KeyText, OpenAnswer, answer, open, read_key, seal};
+use ks_base::{Key, Text};
 use std::test::Fail;
 
 /// The key and the token of the Fernet specification's published examples.
@@ -131,5 +131,115 @@ fn reads_tokens(rt: HostRuntime) -> Result<(), Fail> {
         Envelope::read(rt.alloc(), &longest).err(),
         Some(EnvelopeFault::NotText)
     );
+    Ok(())
+}
+
+/// Whether the key opens the text to this time and plain text.
+fn opens_to(said: &OpenAnswer, time: u64, plain: &[u8]) -> bool {
+    match said {
+        OpenAnswer::Yes {
+            time: sealed_at,
+            plain: held,
+        } => *sealed_at == time && held.as_slice() == plain,
+        _ => false,
+    }
+}
+
+#[test]
+fn seals_and_opens(rt: HostRuntime) -> Result<(), Fail> {
+    let iv = [0, 1, 2, 3, 4, 5, 6, 7, 8, 9, 10, 11, 12, 13, 14, 15];
+    let sealed = seal(rt.alloc(), &KEY, 499_162_800, &iv, b"hello")?;
+    assert_eq!(rt;
+        sealed.as_str(),
+        "gAAAAAAdwJ6wAAECAwQFBgcICQoLDA0ODy021cpGVWKZ_eEwCGM4BLLF_5CV9dOPmrhuVUPgJobwOz7JcbmrR64jVmpU4IwqDA"
+    );
+    // Tokens of Python's cryptography, of several lengths.
+    for (text, time, plain) in [
+        (TOKEN, 499_162_800, b"hello".as_slice()),
+        (
+            "gAAAAABlU_EAAAsWISw3Qk1YY255hI-apX9kYIZSfNqqT3WnQQqFZrzsetrJ4UTO7QNJnTgjHCMqXgMmG3ZewamMzXiCXdk6Xw==",
+            1700000000,
+            b"".as_slice(),
+        ),
+        (
+            "gAAAAABlU_EPDxolMDtGUVxncn2Ik56ptGVV6YHDEE51wv4qAbus3w6BUpkY7VRzJkdsYIcqvWdzENQuiZpFlRbymGrs8Z7Qdg==",
+            1700000015,
+            b"\x0f\x16\x1d\x24\x2b\x32\x39\x40\x47\x4e\x55\x5c\x63\x6a\x71".as_slice(),
+        ),
+        (
+            "gAAAAABlU_EQEBsmMTxHUl1oc36JlJ-qtZv_X11mhkXf2q-IFdzMvzp48Mmioz9APMu7-FO3BvKlPhUdoiqfaQFsZtbJCiXdwS7dW3IbmkoXK8_ew8xsHzA=",
+            1700000016,
+            b"\x10\x17\x1e\x25\x2c\x33\x3a\x41\x48\x4f\x56\x5d\x64\x6b\x72\x79".as_slice(),
+        ),
+        (
+            "gAAAAABlU_EhISw3Qk1YY255hI-apbC7xs2M9AVvnEfO79NdU2673ZrYJjPvaEANHvq7H_12xdRyQO_Bu-jpNoD1BGMRQh7rQLS_nH54DCpnNEtuI3DK8sGb0WLmfGx_nva_WjUdLxtC",
+            1700000033,
+            b"\x21\x28\x2f\x36\x3d\x44\x4b\x52\x59\x60\x67\x6e\x75\x7c\x83\x8a\x91\x98\x9f\xa6\xad\xb4\xbb\xc2\xc9\xd0\xd7\xde\xe5\xec\xf3\xfa\x01".as_slice(),
+        ),
+        (
+            "gAAAAABlU_FkZG96hZCbprG8x9Ld6PP-CflW0VhxU2yrkrSkgTJpIaY-vcrksXIxqK75ibiV6nlO6-K1xwy3l_9F8AGcbc4uP8y7sgLk5g3xbFqQP6nk8k8fYHO980djJmxjfFASYyuHth3wc_BOIuTkfD2p1hjdZyBD7QGBXXW2-jJZcKabzlv0r5TQehlKuewyj7s9hwk9534kif4ehm49KCvvuwZ-SQ==",
+            1700000100,
+            b"\x64\x6b\x72\x79\x80\x87\x8e\x95\x9c\xa3\xaa\xb1\xb8\xbf\xc6\xcd\xd4\xdb\xe2\xe9\xf0\xf7\xfe\x05\x0c\x13\x1a\x21\x28\x2f\x36\x3d\x44\x4b\x52\x59\x60\x67\x6e\x75\x7c\x83\x8a\x91\x98\x9f\xa6\xad\xb4\xbb\xc2\xc9\xd0\xd7\xde\xe5\xec\xf3\xfa\x01\x08\x0f\x16\x1d\x24\x2b\x32\x39\x40\x47\x4e\x55\x5c\x63\x6a\x71\x78\x7f\x86\x8d\x94\x9b\xa2\xa9\xb0\xb7\xbe\xc5\xcc\xd3\xda\xe1\xe8\xef\xf6\xfd\x04\x0b\x12\x19".as_slice(),
+        ),
+    ] {
+        let said = answer(rt.alloc(), &KEY, text.as_bytes())?;
+        assert!(rt; opens_to(&said, time, plain), "{text}");
+    }
+    Ok(())
+}
+
+#[test]
+fn refuses(rt: HostRuntime) -> Result<(), Fail> {
+    let swapped = Key {
+        signing: KEY.signing,
+        encryption: KEY.signing,
+    };
+    // another mac in its last byte and in its first, another key to open, and three paddings that
+    // are none under the right mac
+    for (key, text) in [
+        (
+            KEY,
+            "gAAAAAAdwJ6wAAECAwQFBgcICQoLDA0ODy021cpGVWKZ_eEwCGM4BLLF_5CV9dOPmrhuVUPgJobwOz7JcbmrR64jVmpU4IwqDQ==",
+        ),
+        (
+            KEY,
+            "gAAAAAAdwJ6wAAECAwQFBgcICQoLDA0ODy021cpGVWKZ_eEwCGM4BLLE_5CV9dOPmrhuVUPgJobwOz7JcbmrR64jVmpU4IwqDA==",
+        ),
+        (swapped, TOKEN),
+        (
+            KEY,
+            "gAAAAAAdwJ6wAAECAwQFBgcICQoLDA0OD0A62wlCSCzl5ZSsDM3xI1pH1pX4pMNcy71z9zWwt57Dvn8nsFBePxRdLoNigl35BA==",
+        ),
+        (
+            KEY,
+            "gAAAAAAdwJ6wAAECAwQFBgcICQoLDA0OD2F9vXhtlSApygZSE6tCiEr9O1HNXyJ6R2JN-YOFda154vQK8EU_SjbCdv3dSKrwzw==",
+        ),
+        (
+            KEY,
+            "gAAAAAAdwJ6wAAECAwQFBgcICQoLDA0ODwh7kmpzFr4MDIdsruPvzPCm9bfYx0BiT2_k_DU91S5kvkBB5SyWYVVdMNvkTV6lKg==",
+        ),
+    ] {
+        let said = answer(rt.alloc(), &key, text.as_bytes())?;
+        assert!(rt; matches!(said, OpenAnswer::No), "{text}");
+    }
+    for text in [
+        "",
+        "gAAA",
+        "gAAAAAAdwJ6wAAECAwQFBgcICQoLDA0ODy021cpGVWKZ_eEwCGM4BLLF_5CV9dOPmrhuVUPgJobwOz7JcbmrR64jVmpU4IwqDA=",
+    ] {
+        let said = answer(rt.alloc(), &KEY, text.as_bytes())?;
+        assert!(rt; matches!(said, OpenAnswer::NotText), "{text}");
+    }
+    Ok(())
+}
+
+#[test]
+fn keeps_what_was_opened(rt: HostRuntime) -> Result<(), Fail> {
+    let text = Text::read(rt.alloc(), TOKEN.as_bytes())?.ok_or("a text")?;
+    let opened = open(rt.alloc(), 7, &KEY, &text)?;
+    assert_eq!(rt; opened.number(), 7);
+    assert_eq!(rt; *opened.key(), KEY);
+    assert_eq!(rt; opened.text().as_str(), TOKEN);
+    assert!(rt; opens_to(opened.answer(), 499_162_800, b"hello"));
     Ok(())
 }

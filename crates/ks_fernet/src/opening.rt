@@ -1,0 +1,59 @@
+ghost use Rattle.std.specs.Prelude.{◌≡◌, ◌<◌, length, slice_index, IfOk};
+ghost use Rattle.ks_fernet.specs.Opening.{answer_of, open_of};
+ghost use Rattle.ks_fernet.specs.Token.{parts_of};
+
+use crate::envelope::{Parts, ROOM, fault_in, read_text};
+use ks_aes_cbc::cbc_open;
+use ks_base::{Bytes, Key, Memory};
+use ks_hmac::{hmac, same};
+use std::alloc::Global;
+
+/// What a key makes of a text.
+#[derive(Drop)]
+pub enum OpenAnswer {
+    /// The text is no token.
+    NotText,
+    /// The token's mac is another, or what it holds has no padding.
+    No,
+    /// The key opens the token.
+    Yes {
+        /// Seconds since the start of 1970.
+        time: u64,
+        plain: Bytes,
+    },
+}
+
+/// What the key makes of the text. Nothing is deciphered before the mac is tested. Only the plain
+/// text takes memory.
+pub fn answer(alloc: Global, key: &Key, text: &[u8]) -> Result<OpenAnswer, Memory>
+    ensures { IfOk result (λ said. said ≡ open_of key.now text.now) }
+{
+    let mut buffer = [0u8; ROOM];
+    let Some(len) = read_text(text, &mut buffer) else {
+        return Ok(OpenAnswer::NotText);
+    };
+    let bytes = &buffer[..len];
+    if let Some(_fault) = fault_in(bytes) {
+        return Ok(OpenAnswer::NotText);
+    }
+    open_bytes(alloc, key, bytes)
+}
+
+fn open_bytes(alloc: Global, key: &Key, bytes: &[u8]) -> Result<OpenAnswer, Memory>
+    requires long { 57 < length bytes.now }
+    requires version { slice_index bytes.now 0 ≡ 0x80 }
+    ensures { IfOk result (λ said. said ≡ answer_of key.now (parts_of bytes.now)) }
+{
+    let parts = Parts::of(bytes);
+    if !same(parts.mac, &hmac(&key.signing, parts.signed)) {
+        return Ok(OpenAnswer::No);
+    }
+    let time = parts.time;
+    match cbc_open(alloc, &key.encryption, parts.iv, parts.ciphertext)? {
+        Some(plain) => Ok(OpenAnswer::Yes {
+            time,
+            plain: Bytes::from_vec(plain),
+        }),
+        None => Ok(OpenAnswer::No),
+    }
+}
