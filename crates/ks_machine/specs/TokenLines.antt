@@ -1,0 +1,55 @@
+-- What a token must be, by the keys, its payload and the time alone: the first lines of its validity, in their order.
+use Rattle.std.specs.Prelude.{ℕ, ◌+◌, Bool, true, false, nat_lt, nat_le, List, [], ◌∷◌, Option, Some, None, is_some, Result, Ok, Err}
+use Rattle.ks_base.specs.declared.key.Key.{Key}
+use Rattle.ks_fernet.specs.Opening.{open_of}
+use Rattle.ks_fernet.specs.Token.{envelope_of}
+use Rattle.ks_fernet.specs.declared.opening.OpenAnswer.{OpenAnswer}
+use Rattle.ks_fernet.specs.declared.opening.OpenAnswer.TheVariants.{NotText, No, Yes}
+use Rattle.ks_payload.specs.Readings.{payload_of}
+use Rattle.ks_machine.specs.declared.lines.Held.{Held}
+use Rattle.ks_machine.specs.declared.why.Why.{Why}
+use Rattle.ks_machine.specs.declared.why.Why.TheVariants as why
+
+infixl 10 ◌>>=◌
+abbrev pub ◌>>=◌ : {A B : Type 0} → Result A Why → (A → Result B Why) → Result B Why
+Ok a >>= f = f a
+Err w >>= f = Err w
+
+abbrev pub need : Bool → Why → Result (Unit {0}) Why
+need true w = Ok tt
+need false w = Err w
+
+abbrev pub found : {A : Type 0} → Option A → Why → Result A Why
+found (Some a) w = Ok a
+found None w = Err w
+
+-- what a list of no key makes of a text
+abbrev pub unopened : Bool → OpenAnswer
+unopened true = No
+unopened false = NotText
+
+-- an answer, or where the key does not open the text, that of the keys behind it
+abbrev pub or_else : OpenAnswer → OpenAnswer → OpenAnswer
+or_else (Yes time plain) later = Yes time plain
+or_else No later = later
+or_else NotText later = NotText
+
+-- the keys are tried in the order of their list, and the first that opens the text decides
+unfoldable pub first_opened : List Key → List ℕ → OpenAnswer
+first_opened [] text = unopened (is_some (envelope_of text))
+first_opened (key ∷ keys) text = or_else (open_of key text) (first_opened keys text)
+
+-- the lines behind the opening, where `life` is how long a token may live, and `moment` is now
+unfoldable pub payload_lines : ℕ → ℕ → ℕ → List ℕ → Result Held Why
+payload_lines life moment issued plain = do
+  payload ← found (payload_of plain) why.Payload
+  _ ← need (nat_le issued moment) why.Future
+  _ ← need (nat_lt moment payload.expires) why.Expired
+  _ ← need (nat_le payload.expires (issued + life)) why.Span
+  Ok (record { payload = payload; issued = issued; plain = plain })
+
+-- the first line that does not hold, or what the token holds
+abbrev pub token_lines : ℕ → ℕ → OpenAnswer → Result Held Why
+token_lines life moment NotText = Err why.Text
+token_lines life moment No = Err why.Key
+token_lines life moment (Yes issued plain) = payload_lines life moment issued plain

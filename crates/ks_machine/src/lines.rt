@@ -1,0 +1,79 @@
+ghost use Rattle.std.specs.Prelude.{◌≡◌, [], IfOk};
+ghost use Rattle.ks_machine.specs.TokenLines.{first_opened, payload_lines, token_lines as lines_of};
+
+use crate::Why;
+use ks_base::{Bytes, Key, Memory};
+use ks_fernet::{Envelope, EnvelopeFault, OpenAnswer, answer};
+use ks_payload::Payload;
+use std::alloc::Global;
+
+/// What a token holds whose lines up to `Span` hold.
+#[derive(Drop)]
+pub struct Held {
+    pub payload: Payload,
+    /// When it was issued, in seconds since 1970.
+    pub issued: u64,
+    /// The bytes that spell the payload.
+    pub plain: Bytes,
+}
+
+/// What the first key makes of a text that opens it. The keys are tried in their order.
+#[tactic(auto, unfolding(crate::specs::TokenLines::first_opened))]
+pub fn first_answer(alloc: Global, keys: &[Key], text: &[u8]) -> Result<OpenAnswer, Memory>
+    ensures { IfOk result (λ said. said ≡ first_opened keys.now text.now) }
+{
+    for key in keys {
+        match answer(alloc, key, text)? {
+            OpenAnswer::No => {}
+            OpenAnswer::NotText => return Ok(OpenAnswer::NotText),
+            OpenAnswer::Yes { time, plain } => return Ok(OpenAnswer::Yes { time, plain }),
+        }
+    }
+    unopened(alloc, text)
+}
+
+#[tactic(auto, unfolding(crate::specs::TokenLines::first_opened))]
+fn unopened(alloc: Global, text: &[u8]) -> Result<OpenAnswer, Memory>
+    ensures { IfOk result (λ said. said ≡ first_opened [] text.now) }
+{
+    match Envelope::read(alloc, text) {
+        Ok(_) => Ok(OpenAnswer::No),
+        Err(EnvelopeFault::Memory) => Err(Memory),
+        Err(_) => Ok(OpenAnswer::NotText),
+    }
+}
+
+/// What a token holds, or the first line up to `Span` that does not hold. `life` is how long a token may
+/// live and `moment` is now, both in seconds.
+pub fn token_lines(life: u64, moment: u64, answer: OpenAnswer) -> Result<Held, Why>
+    ensures { result ≡ lines_of life moment answer }
+{
+    match answer {
+        OpenAnswer::NotText => Err(Why::Text),
+        OpenAnswer::No => Err(Why::Key),
+        OpenAnswer::Yes { time, plain } => hold_payload(life, moment, time, plain),
+    }
+}
+
+#[tactic(auto, unfolding(crate::specs::TokenLines::payload_lines))]
+fn hold_payload(life: u64, moment: u64, issued: u64, plain: Bytes) -> Result<Held, Why>
+    ensures { result ≡ payload_lines life moment issued plain }
+{
+    let Ok(Some(payload)) = Payload::read(plain.as_slice()) else {
+        return Err(Why::Payload);
+    };
+    if issued > moment {
+        return Err(Why::Future);
+    }
+    if moment >= payload.expires {
+        return Err(Why::Expired);
+    }
+    if payload.expires.saturating_sub(issued) > life {
+        return Err(Why::Span);
+    }
+    Ok(Held {
+        payload,
+        issued,
+        plain,
+    })
+}
