@@ -1,9 +1,14 @@
 -- What `check` writes for its input, and how it ends.
-use Rattle.std.specs.Prelude.{ℕ, ◌+◌, ◌==◌, nat_lt, nat_le, ◌||◌, if◌then◌else◌, List, [], ◌∷◌, ◌++◌, length, Option, Some, None, codes}
-use Rattle.std.specs.Option.{option_and_then, option_map, is_some}
+use Rattle.std.specs.Prelude.{ℕ, ◌+◌, ◌==◌, nat_lt, nat_le, ◌||◌, if◌then◌else◌, List, [], ◌∷◌, ◌++◌, length, Option, Some, None, Result, Ok, Err, codes}
+use Rattle.std.specs.Option.{option_map}
+use Rattle.hex.specs.Hex.{encode_lower}
 use Rattle.ks_base.specs.declared.key.Key.{Key}
 use Rattle.ks_fernet.specs.KeyText.{key_of}
-use Rattle.ks_fernet.specs.Token.{envelope_of}
+use Rattle.ks_machine.specs.declared.lines.Held.{Held}
+use Rattle.ks_machine.specs.declared.why.Why.{Why}
+use Rattle.ks_machine.specs.Moment.{moment_of}
+use Rattle.ks_machine.specs.Names.{name_of}
+use Rattle.ks_machine.specs.TokenLines.{first_opened, token_lines}
 use Rattle.ks_top.specs.declared.checker.Place.{Place}
 use Rattle.ks_top.specs.Lines.{lines_of, TokenLine, token_line_of}
 
@@ -21,20 +26,31 @@ pub record Step : Type 0 where
   pub output : List ℕ
   pub place : Place
 
-abbrev pub text_refused : List ℕ
-text_refused = codes "refused text\n"
+-- a check's tokens may live for an hour
+abbrev pub life : ℕ
+life = 3600
 
-abbrev pub behind : Place → Option Key → List ℕ → Step
-behind place key output = record { output = output; place = record { lines = place.lines + 1; key = key } }
+-- the line that answers a token: what it holds, in lower hex, or why it is refused
+abbrev pub answer_line : Result Held Why → List ℕ
+answer_line (Ok held) = codes "valid " ++ (encode_lower held.plain ++ codes "\n")
+answer_line (Err why) = codes "refused " ++ (name_of why ++ codes "\n")
 
--- the answer to a token: what is no envelope is refused
-abbrev pub answer_to : TokenLine → Option (List ℕ)
-answer_to line = if is_some (envelope_of line.token) then None else Some text_refused
+-- the one key is tried, and then the lines of the token's validity that need no tables
+abbrev pub answer_of : Key → ℕ → List ℕ → List ℕ
+answer_of key moment token = answer_line (token_lines life moment (first_opened (key ∷ []) token))
+
+abbrev pub behind : Place → Key → ℕ → List ℕ → Step
+behind place key moment output = record { output = output; place = record { lines = place.lines + 1; key = Some key; moment = moment } }
+
+-- a token is judged at the highest reading so far
+abbrev pub token_step : Place → Key → TokenLine → Step
+token_step place key line =
+    let moment = moment_of place.moment line.reading in behind place key moment (answer_of key moment line.token)
 
 -- line 1 is a key, and each later line a reading, one space and a token
 abbrev pub keyed_step : Place → Option Key → List ℕ → Option Step
-keyed_step place None line = option_map (λ key. behind place (Some key) []) (key_of line)
-keyed_step place (Some key) line = option_map (behind place (Some key)) (option_and_then answer_to (token_line_of line))
+keyed_step place None line = option_map (λ key. behind place key place.moment []) (key_of line)
+keyed_step place (Some key) line = option_map (token_step place key) (token_line_of line)
 
 -- a line has at most 1,100 bytes, and there are at most 1,048,576 lines
 unfoldable pub step_of : Place → List ℕ → Option Step
@@ -59,4 +75,4 @@ abbrev pub check_from : Place → List ℕ → Checked
 check_from place text = steps_of place (lines_of text)
 
 abbrev pub check_of : List ℕ → Checked
-check_of input = check_from (record { lines = 0; key = None }) input
+check_of input = check_from (record { lines = 0; key = None; moment = 0 }) input

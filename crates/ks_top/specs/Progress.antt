@@ -33,7 +33,7 @@ abbrev pub bytes_read : Checker → ℕ
 bytes_read checker = 1101 * checker.place.lines + length checker.line.items
 
 abbrev pub IsAtStart : Checker → Type 0
-IsAtStart checker = (checker.place ≡ record { lines = 0; key = None }) × (checker.line.items ≡ []) × (checker.answers.items ≡ [])
+IsAtStart checker = (checker.place ≡ record { lines = 0; key = None; moment = 0 }) × (checker.line.items ≡ []) × (checker.answers.items ≡ [])
 
 -- `whole more` is what is to be written where `more` follows the bytes in hand: those of the line that has begun, and `rest`
 pub record Stands (whole : List ℕ → Checked) (rest : List ℕ) (checker : Checker) (written : Option (List ℕ)) (before : List ℕ) : Type 0 where

@@ -1,10 +1,12 @@
 ghost use Rattle.std.specs.Prelude.{◌≡◌, ◌+◌, ◌<◌, ◌≤◌, ◌↔◌, None, Some, Err, IsTrue, length, OnOk};
 ghost use Rattle.ks_top.specs.Lines.{IsInLine};
 
+use crate::answer::answer;
 use crate::fault::Fault;
 use crate::lines::{first_line, token_line};
 use ks_base::Key;
-use ks_fernet::{Envelope, EnvelopeFault, KeyText, read_key};
+use ks_fernet::{KeyText, read_key};
+use ks_machine::moment;
 use ks_outside::{Failed, Sink, Source, write_all};
 use std::alloc::{AllocError, Global};
 
@@ -22,6 +24,8 @@ pub struct Place {
     pub lines: u64,
     /// The key of line 1, behind it.
     pub key: Option<Key>,
+    /// The highest reading of the clock so far.
+    pub moment: u64,
 }
 
 /// A check of the tokens of an input that comes in pieces.
@@ -45,6 +49,7 @@ impl Place {
     const START: Place = Place {
         lines: 0,
         key: None,
+        moment: 0,
     };
 
     fn bad_line(&self) -> Fault
@@ -102,16 +107,13 @@ impl Place {
         let Some(parts) = token_line(line) else {
             return Err(self.bad_line());
         };
-        match Envelope::read(alloc, parts.token) {
-            Ok(_) => return Err(self.bad_line()),
-            Err(EnvelopeFault::Memory) => return Err(Fault::Memory),
-            Err(_) => {}
-        }
-        if answers.extend_from_slice(b"refused text\n").is_err() {
+        let now = moment(self.moment, parts.reading);
+        if answer(alloc, &key, now, parts.token, answers).is_err() {
             return Err(Fault::Memory);
         }
         self.lines += 1;
         self.key = Some(key);
+        self.moment = now;
         Ok(())
     }
 }

@@ -2,6 +2,7 @@
 // output, and says on the standard error why it did not end whole.
 #![tactic(auto)]
 
+mod answer;
 mod check;
 mod checker;
 mod fault;

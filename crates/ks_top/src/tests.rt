@@ -1,6 +1,7 @@
 use crate::fault::Fault;
 use crate::program::{Ended, run};
 use ks_base::Text;
+use ks_fernet::{KeyText, read_key, seal};
 use ks_outside::{MemorySink, MemorySource};
 use std::test::Fail;
 
@@ -8,6 +9,9 @@ const KEY: &str = "cw_0x689RpI-jtRR7oE8h_eQsKImvJapLeSbXpwF4e4=";
 
 const TOKEN: &str =
     "gAAAAAAdwJ6wAAECAwQFBgcICQoLDA0ODy021cpGVWKZ_eEwCGM4BLLF_5CV9dOPmrhuVUPgJobwOz7JcbmrR64jVmpU4IwqDA==";
+
+const PAYLOAD: &str =
+    "0100010000112233445566778899aabbccddeeff000000001dc0acc001000102030405060708090a0b0c0d0e0f";
 
 /// How a run reads and writes: the longest piece of one call, and the calls that fail.
 #[derive(Clone, Copy)]
@@ -83,7 +87,12 @@ fn answers_line_by_line(rt: HostRuntime) -> Result<(), Fail> {
         "{KEY}\n499162800 {}\n",
         TOKEN.replace(alloc, "DA==", "DA=")?
     )?;
-    let a_token = format!(in alloc; "{KEY}\n0 x\n499162800 {TOKEN}\n0 y\n")?;
+    let other_mac = format!(in alloc;
+        "{KEY}\n499162800 {}\n",
+        TOKEN.replace(alloc, "DA==", "DQ==")?
+    )?;
+    let no_payload = format!(in alloc; "{KEY}\n499162800 {TOKEN}\n0 y\n")?;
+    let bare = format!(in alloc; "{KEY}\n499162800 {}", TOKEN.trim_end_matches('='))?;
     let long = "x".repeat(alloc, 1_098)?;
     let longest = format!(in alloc; "{KEY}\n7 {long}\n")?;
     let too_long = format!(in alloc; "{KEY}\n7 {long}x\n")?;
@@ -106,7 +115,13 @@ fn answers_line_by_line(rt: HostRuntime) -> Result<(), Fail> {
         (empty_line.as_str(), bad_line(2), ""),
         (unused_bits.as_str(), whole(), "refused text\n"),
         (half_padded.as_str(), whole(), "refused text\n"),
-        (a_token.as_str(), bad_line(3), "refused text\n"),
+        (other_mac.as_str(), whole(), "refused key\n"),
+        (
+            no_payload.as_str(),
+            whole(),
+            "refused payload\nrefused text\n",
+        ),
+        (bare.as_str(), whole(), "refused payload\n"),
         (longest.as_str(), whole(), "refused text\n"),
         (too_long.as_str(), bad_line(2), ""),
         (too_long_at_end.as_str(), bad_line(2), ""),
@@ -169,6 +184,57 @@ fn refuses_other_words(rt: HostRuntime) -> Result<(), Fail> {
         let ended = run(&rt, words(&rt, wrong)?.as_slice(), &mut source, &mut sink);
         assert_eq!(rt; (ended.status, ended.fault), (2, Some(Fault::Usage)));
         assert_eq!(rt; sink.written().len(), 0);
+    }
+    Ok(())
+}
+
+/// A token of ann's: unscoped, issued at 499162800, and expiring an hour later.
+fn token(rt: &HostRuntime) -> Result<Text, Fail> {
+    let key = read_key(KEY.as_bytes());
+    let KeyText::Key(key) = key else {
+        return Err(Fail::from("a key"));
+    };
+    let iv = [0, 1, 2, 3, 4, 5, 6, 7, 8, 9, 10, 11, 12, 13, 14, 15];
+    let plain = hex::decode(rt.alloc(), PAYLOAD).ok().ok_or("hex")?;
+    if plain.len() > 640 {
+        return Err(Fail::from("a long payload"));
+    }
+    let sealed = seal(rt.alloc(), &key, 499_162_800, &iv, plain.as_slice());
+    Ok(sealed.ok().ok_or("memory")?)
+}
+
+#[test]
+fn judges_at_the_highest_moment(rt: HostRuntime) -> Result<(), Fail> {
+    let alloc = rt.alloc();
+    let sealed = token(&rt)?;
+    let token = sealed.as_str();
+    let valid = format!(in alloc; "valid {PAYLOAD}\n")?;
+    let goes_back = format!(in alloc;
+        "{KEY}\n499166399 {token}\n499166400 {token}\n499162800 {token}\n"
+    )?;
+    let early = format!(in alloc; "{KEY}\n499162799 {token}\n")?;
+    let capped = format!(in alloc; "{KEY}\n18446744073709551615 {token}\n499162800 {token}")?;
+    let refused_reading = format!(in alloc; "{KEY}\n499166400 x\n499162800 {token}")?;
+    let expired = "refused expired\n";
+    let cases = [
+        (
+            goes_back,
+            format!(in alloc; "{}{expired}{expired}", valid.as_str())?,
+        ),
+        (early, "refused future\n".to_string(alloc)?),
+        (capped, format!(in alloc; "{expired}{expired}")?),
+        (
+            refused_reading,
+            format!(in alloc; "refused text\n{expired}")?,
+        ),
+    ];
+    for (input, output) in &cases {
+        for longest in [1, 1_000_000] {
+            let outside = Outside { longest, ..WHOLE };
+            let (end, written) = check(&rt, input.as_str(), &outside)?;
+            assert_eq!(rt; end, whole(), "at {input:?}");
+            assert_eq!(rt; written.as_str(), output.as_str(), "at {input:?}");
+        }
     }
     Ok(())
 }
