@@ -1,4 +1,7 @@
-use crate::{Bytes, Id, IdFault, ListOf, Memory, Text, TryCopy};
+use crate::{
+    Bytes, Drawn, FieldList, Id, IdFault, Key, KeyList, ListOf, Memory, Method, MethodList,
+    Receipt, Text, TryCopy,
+};
 use std::test::Fail;
 
 #[derive(Clone, Copy, PartialEq, Eq)]
@@ -99,5 +102,43 @@ fn lists_rows(rt: HostRuntime) -> Result<(), Fail> {
     let mut again = ListOf::from_vec(rows.into_vec());
     again.push(first).ok().ok_or("memory")?;
     assert_eq!(rt; again.as_slice().len(), 3);
+    Ok(())
+}
+
+#[test]
+fn copies_each_kind_of_list(rt: HostRuntime) -> Result<(), Fail> {
+    let name = Text::read(rt.alloc(), b"Allow").ok().ok_or("memory")?;
+    let value = Text::read(rt.alloc(), b"GET").ok().ok_or("memory")?;
+    let mut fields = FieldList::new(rt.alloc());
+    let field = (name.ok_or("a text")?, value.ok_or("a text")?);
+    fields.push(field).ok().ok_or("memory")?;
+    let copied = fields.copy().ok().ok_or("memory")?;
+    for (name, value) in copied.as_slice() {
+        assert_eq!(rt; name.as_str(), "Allow");
+        assert_eq!(rt; value.as_str(), "GET");
+    }
+    let mut methods = MethodList::new(rt.alloc());
+    methods.push(Method::Get).ok().ok_or("memory")?;
+    methods.push(Method::Patch).ok().ok_or("memory")?;
+    let copied = methods.copy().ok().ok_or("memory")?;
+    assert!(rt; copied.as_slice() == [Method::Get, Method::Patch].as_slice());
+    let key = Key {
+        signing: [1; 16],
+        encryption: [2; 16],
+    };
+    let mut keys = KeyList::new(rt.alloc());
+    keys.push((7, key)).ok().ok_or("memory")?;
+    let copied = keys.copy().ok().ok_or("memory")?;
+    assert!(rt; copied.as_slice() == [(7, key)].as_slice());
+    let receipt = Receipt {
+        connection: 0,
+        request: 1,
+        changes: 2,
+        moment: 3,
+        draw: Drawn::Bytes([4; 64]),
+        folder: false,
+        memory: true,
+    };
+    assert!(rt; receipt.copy().ok().ok_or("memory")? == receipt);
     Ok(())
 }
