@@ -1,5 +1,6 @@
 -- The states of sources and of sinks.
-use Rattle.std.specs.Prelude.{ℕ, List}
+use Rattle.std.specs.Prelude.{◌≡◌, ◌+◌, ◌≤◌, ◌⊎◌, ℕ, List, Option, Some, Contains}
+use Rattle.ks_outside.specs.Files.{KeyFile}
 
 -- a source in memory: the bytes that are left to read, how many reads there were, the numbers of those
 -- that are to fail, counted from 1, the longest piece that one read gives, and the count of faults
@@ -19,6 +20,33 @@ pub record SinkState : Type 0 where
   pub calls : ℕ
   pub failing : List ℕ
   pub longest : ℕ
+  pub faults : ℕ
+
+-- a link in memory: a source and a sink
+pub record LinkState : Type 0 where
+  pub source : SourceState
+  pub sink : SinkState
+
+-- a real link, which counts the faults of its reads and those of its writes
+pub record LinkFaults : Type 0 where
+  pub reads : ℕ
+  pub writes : ℕ
+
+-- a key folder in memory: its files, how many calls there were, the numbers of those that are to fail,
+-- counted from 1, after how many calls every one fails, if so, and the count of faults
+pub record DirState : Type 0 where
+  pub files : List KeyFile
+  pub calls : ℕ
+  pub failing : List ℕ
+  pub limit : Option ℕ
+  pub faults : ℕ
+
+-- the next call is one that is to fail
+abbrev pub FailsNext : DirState → Type 0
+FailsNext dir = Contains dir.failing (dir.calls + 1) ⊎ ((limit : ℕ) × (dir.limit ≡ Some limit) × (limit ≤ dir.calls))
+
+-- a real key folder, which counts its faults
+pub record FolderState : Type 0 where
   pub faults : ℕ
 
 -- a real one: the reader or the writer of std under it, and the count of faults

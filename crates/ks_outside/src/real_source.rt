@@ -58,7 +58,7 @@ impl<R: Read> Source for RealSource<R> {
     }
 }
 
-fn read_uninterrupted<R: Read>(reader: &mut R, into: &mut [u8]) -> Result<usize, Failed>
+pub fn read_uninterrupted<R: Read>(reader: &mut R, into: &mut [u8]) -> Result<usize, Failed>
     ensures within { IfOk result (λ n. n ≤ length into.old) }
     ensures passed { ReadConsumes (R.remaining reader.old) (R.remaining reader.new) result into.new }
 {

@@ -1,0 +1,231 @@
+ghost use Rattle.std.specs.Prelude.{◌≡◌, ◌≤◌, None, length, IfOk, IfSome};
+ghost use Rattle.ks_outside.specs.Counts.{next_count};
+ghost use Rattle.ks_outside.specs.Files.{AreIndices, IsIndex};
+
+use crate::files::{indices, put};
+use crate::real_source::read_uninterrupted;
+use crate::{DirFault, Failed, KeyDir};
+use ks_base::{Bytes, Memory};
+use std::alloc::Global;
+use std::fs::{File, OpenFile};
+use std::io::{ErrorKind, Read, Write};
+use std::marker::Model;
+use std::rt::Files;
+use std::{fs, io};
+
+const LAST_INDEX: u32 = 999_999_999;
+
+/// A key folder over a folder of the system. The name of a key file is the decimal of its index without a
+/// leading zero; other names are passed over. It does not tell its files, and counts its faults. The
+/// count stands still at 2^64 - 1.
+#[derive(Drop)]
+pub struct Folder<'a, R> {
+    rt: &'a R,
+    path: String,
+    faults: u64,
+}
+
+impl<'a, R> Model for Folder<'a, R> {
+    ghost use Rattle.ks_outside.specs.States.{FolderState};
+
+    ghost Value = { FolderState };
+
+    ghost view = { λ d. record { faults = d.faults } };
+}
+
+impl<'a, R> Folder<'a, R> {
+    /// The folder at this path, which has not failed yet.
+    pub fn new(alloc: Global, rt: &'a R, path: &str) -> Result<Folder<'a, R>, Memory>
+        ensures { IfOk result (λ made. made ≡ record { faults = 0 }) }
+    {
+        Ok(Folder {
+            rt,
+            path: String::from_str(alloc, path)?,
+            faults: 0,
+        })
+    }
+
+    /// Passes an answer on, and counts a fault.
+    fn counted<T>(&mut self, answer: Result<T, DirFault>) -> Result<T, DirFault>
+        ensures answer { result ≡ answer }
+        ensures count { self.old.faults ≤ self.new.faults }
+        ensures failed { answer ≡ Err DirFault.Failed → self.new.faults ≡ next_count self.old.faults }
+    {
+        match answer {
+            Err(DirFault::Failed) => {
+                self.faults = self.faults.saturating_add(1);
+                Err(DirFault::Failed)
+            }
+            other => other,
+        }
+    }
+}
+
+impl<R: Files + AllocGlobal + Clone + Drop> KeyDir for Folder<'_, R> {
+    ghost files = { λ _. None };
+
+    ghost faults = { λ d. d.faults };
+
+    fn list(&mut self) -> Result<Vec<u32>, DirFault> {
+        let answer = list(self.rt, self.path.as_str());
+        self.counted(answer)
+    }
+
+    fn read(&mut self, index: u32, into: &mut [u8; 64]) -> Result<Option<usize>, DirFault> {
+        let answer = read(self.rt, self.path.as_str(), index, into);
+        self.counted(answer)
+    }
+
+    /// Writes a file whose name is no number, and gives it its name when all of it has reached the disk, so
+    /// that a stop leaves the whole key file or none.
+    fn write_new(&mut self, index: u32, content: &[u8]) -> Result<(), DirFault> {
+        let answer = write_new(self.rt, self.path.as_str(), index, content);
+        self.counted(answer)
+    }
+
+    fn rename(&mut self, from: u32, to: u32) -> Result<(), DirFault> {
+        let answer = rename(self.rt, self.path.as_str(), from, to);
+        self.counted(answer)
+    }
+
+    fn remove(&mut self, index: u32) -> Result<(), DirFault> {
+        let answer = remove(self.rt, self.path.as_str(), index);
+        self.counted(answer)
+    }
+}
+
+fn list<R: Files + AllocGlobal + Clone + Drop>(rt: &R, path: &str) -> Result<Vec<u32>, DirFault>
+    ensures { IfOk result (λ found. AreIndices 0 found.items) }
+{
+    // Each index with no content.
+    let mut found = Vec::new(rt.alloc());
+    'entries: for entry in fs::read_dir(rt, path)? {
+        match entry {
+            Ok(entry) => {
+                if let Some(index) = index_named(entry.file_name().as_bytes()) {
+                    put(&mut found, index, Bytes::from_vec(Vec::new(rt.alloc())))?;
+                }
+            }
+            // Its name is no text.
+            Err(error) if error.kind() == ErrorKind::InvalidFilename => {}
+            Err(error) => return Err(error.into()),
+        }
+    }
+    Ok(indices(rt.alloc(), found.as_slice())?)
+}
+
+fn read<R: Files + AllocGlobal>(
+    rt: &R,
+    path: &str,
+    index: u32,
+    into: &mut [u8; 64],
+) -> Result<Option<usize>, DirFault>
+    ensures { IfOk result (λ found. IfSome found (λ n. n ≤ 64)) }
+{
+    if index > LAST_INDEX {
+        return Ok(None);
+    }
+    let mut file = match File::open(rt, name_of(rt.alloc(), path, index)?.as_str()) {
+        Ok(file) => file,
+        Err(error) if error.kind() == ErrorKind::NotFound => return Ok(None),
+        Err(error) => return Err(error.into()),
+    };
+    let mut held = [0; 65];
+    let count = read_front(&mut file, &mut held)?;
+    if count > 64 {
+        return Ok(None);
+    }
+    into[..count].copy_from_slice(&held[..count]);
+    Ok(Some(count))
+}
+
+/// Reads until the piece is full or the input ends, and says how many bytes came.
+fn read_front<F: Read>(file: &mut F, piece: &mut [u8]) -> Result<usize, Failed>
+    ensures { IfOk result (λ n. n ≤ length piece.old) }
+{
+    let mut count = 0;
+    'reads: while count < piece.len() {
+        let more = read_uninterrupted(file, &mut piece[count..])?;
+        if more == 0 {
+            return Ok(count);
+        }
+        count += more;
+    }
+    Ok(count)
+}
+
+fn write_new<R: Files + AllocGlobal>(
+    rt: &R,
+    path: &str,
+    index: u32,
+    content: &[u8],
+) -> Result<(), DirFault> {
+    let name = name_of(rt.alloc(), path, index)?;
+    let fresh = format!(in rt.alloc(); "{name}.new")?;
+    if index > LAST_INDEX || stands(rt, name.as_str())? {
+        return Err(DirFault::Failed);
+    }
+    let mut file = File::create(rt, fresh.as_str())?;
+    file.write_all(content)?;
+    file.sync_all()?;
+    if stands(rt, name.as_str())? {
+        return Err(DirFault::Failed);
+    }
+    fs::rename(rt, fresh.as_str(), name.as_str())?;
+    Ok(())
+}
+
+fn rename<R: Files + AllocGlobal>(rt: &R, path: &str, from: u32, to: u32) -> Result<(), DirFault> {
+    let old = name_of(rt.alloc(), path, from)?;
+    let new = name_of(rt.alloc(), path, to)?;
+    if from > LAST_INDEX || to > LAST_INDEX || stands(rt, new.as_str())? {
+        return Err(DirFault::Failed);
+    }
+    fs::rename(rt, old.as_str(), new.as_str())?;
+    Ok(())
+}
+
+fn remove<R: Files + AllocGlobal>(rt: &R, path: &str, index: u32) -> Result<(), DirFault> {
+    let name = name_of(rt.alloc(), path, index)?;
+    if index > LAST_INDEX {
+        return Err(DirFault::Failed);
+    }
+    fs::remove_file(rt, name.as_str())?;
+    Ok(())
+}
+
+fn name_of(alloc: Global, path: &str, index: u32) -> Result<String, DirFault> {
+    Ok(format!(in alloc; "{path}/{index}")?)
+}
+
+/// Whether there is anything with this name.
+fn stands<R: Files>(rt: &R, name: &str) -> Result<bool, DirFault> {
+    match fs::symlink_metadata(rt, name) {
+        Ok(_) => Ok(true),
+        Err(error) if error.kind() == ErrorKind::NotFound => Ok(false),
+        Err(error) => Err(error.into()),
+    }
+}
+
+/// The index that a file's name spells.
+fn index_named(name: &[u8]) -> Option<u32>
+    ensures { IfSome result IsIndex }
+{
+    if name.is_empty() || (name.len() > 1 && name[0] == b'0') {
+        return None;
+    }
+    let mut index = 0u32;
+    'digits: for digit in name {
+        if !digit.is_ascii_digit() {
+            return None;
+        }
+        index = index
+            .checked_mul(10)?
+            .checked_add(u32::from(*digit - b'0'))?;
+    }
+    if index <= LAST_INDEX {
+        Some(index)
+    } else {
+        None
+    }
+}

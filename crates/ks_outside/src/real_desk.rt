@@ -1,0 +1,143 @@
+ghost use Rattle.std.specs.Prelude.{◌≡◌, ◌+◌, ◌<◌, ◌≤◌, ◌++◌, ◌∷◌, [], ℕ, List, Some, None, is_ok, IsErr, IfOk, IfSome, OnOk, if◌then◌else◌};
+ghost use Rattle.ks_base.specs.declared.receipt.Receipt.{Receipt};
+ghost use Rattle.ks_outside.specs.Counts.{Rose, next_count};
+ghost use Rattle.ks_outside.specs.Desks.{Accepts, Fills, next_reading, later_readings, untold_desk};
+ghost use Rattle.ks_outside.specs.States.{LinkFaults};
+
+use crate::{Desk, Failed, TcpLink};
+use ks_base::{Memory, Receipt};
+use std::io::ErrorKind;
+use std::marker::Model;
+use std::net::{TcpListener, TcpStream};
+use std::random::RandomSource;
+use std::rt::Clock;
+use std::time::{SystemTime, UNIX_EPOCH};
+
+/// A desk over a listener of TCP connections, the clock and the random source. It tells nothing, and
+/// counts its faults; the counts stand still at 2^64 - 1. It closes each link that is given back and
+/// keeps no receipt. Several desks may share one listener. It hands out links without end.
+#[derive(Drop)]
+pub struct RealDesk<'a, R> {
+    rt: &'a R,
+    listener: &'a TcpListener,
+    last: u64,
+    accept_faults: u64,
+    fill_faults: u64,
+}
+
+impl<'a, R> Model for RealDesk<'a, R> {
+    ghost use Rattle.ks_outside.specs.Desks.{RealDeskState};
+
+    ghost Value = { RealDeskState };
+
+    ghost view = { λ d. record { last = d.last; accept_faults = d.accept_faults; fill_faults = d.fill_faults } };
+}
+
+impl<'a, R> RealDesk<'a, R> {
+    /// A desk that has not failed yet, and whose last reading is 0.
+    pub fn new(rt: &'a R, listener: &'a TcpListener) -> RealDesk<'a, R>
+        ensures { result ≡ record { last = 0; accept_faults = 0; fill_faults = 0 } }
+    {
+        RealDesk {
+            rt,
+            listener,
+            last: 0,
+            accept_faults: 0,
+            fill_faults: 0,
+        }
+    }
+}
+
+impl<R: Clock + RandomSource> Desk for RealDesk<'_, R> {
+    type Link = TcpLink;
+
+    ghost desk = { untold_desk };
+
+    /// Waits for the next connection. One that ended before it was accepted is passed over; every other
+    /// error is a fault.
+    fn accept(&mut self) -> Result<Option<TcpLink>, Failed>
+        ensures told { (coming : List LinkFaults) → None ≡ Some coming → Accepts coming None result }
+        ensures room { IfOk result (λ link. IfSome link (λ _. 0 < 1)) }
+        ensures room_kept { 1 ≤ 1 }
+        ensures kept { untold_desk self.new ≡ record (untold_desk self.old) { coming = None; link_room = 1; accept_faults = self.new.accept_faults } }
+        ensures count { self.old.accept_faults ≤ self.new.accept_faults }
+        ensures failed { IsErr result → Rose self.old.accept_faults self.new.accept_faults }
+
+        // There is always a link or a fault, and the count rises at a fault alone.
+        ensures some { IfOk result (λ link. link ≡ Some (record { reads = 0; writes = 0 })) }
+        ensures exact { self.new ≡ record self.old { accept_faults = (if is_ok result then self.old.accept_faults else next_count self.old.accept_faults) } }
+    {
+        match next_stream(self.listener) {
+            Ok(stream) => Ok(Some(TcpLink::new(stream))),
+            Err(Failed) => {
+                self.accept_faults = self.accept_faults.saturating_add(1);
+                Err(Failed)
+            }
+        }
+    }
+
+    /// Closes the connection.
+    fn give_back(&mut self, _link: TcpLink) {}
+
+    /// The clock, or the last reading again, at first 0, where it can't be read or stands before 1970.
+    fn reading(&mut self) -> u64
+        ensures told { (readings : List ℕ) → None ≡ Some readings → (result ≡ next_reading readings) × (None ≡ Some (later_readings readings)) }
+        ensures kept { untold_desk self.new ≡ record (untold_desk self.old) { readings = None } }
+
+        ensures last { self.new ≡ record self.old { last = result } }
+    {
+        if let Some(seconds) = seconds_since_1970(self.rt) {
+            self.last = seconds;
+        }
+        self.last
+    }
+
+    /// Fills from the random source of the system, whose every error is a fault.
+    fn fill(&mut self, into: &mut [u8]) -> Result<(), Failed>
+        ensures told { (bytes : List ℕ) → None ≡ Some bytes → Fills bytes None into.new result }
+        ensures kept { untold_desk self.new ≡ record (untold_desk self.old) { random = None; fill_faults = self.new.fill_faults } }
+        ensures count { self.old.fill_faults ≤ self.new.fill_faults }
+        ensures failed { IsErr result → Rose self.old.fill_faults self.new.fill_faults }
+
+        // The count rises at a fault alone.
+        ensures exact { self.new ≡ record self.old { fill_faults = (if is_ok result then self.old.fill_faults else next_count self.old.fill_faults) } }
+    {
+        match self.rt.fill_bytes(into) {
+            Ok(()) => Ok(()),
+            Err(_) => {
+                self.fill_faults = self.fill_faults.saturating_add(1);
+                Err(Failed)
+            }
+        }
+    }
+
+    /// There is always room, since no receipt is kept.
+    fn ready(&mut self) -> Result<(), Memory> {
+        Ok(())
+    }
+
+    /// Drops the receipt.
+    fn note(&mut self, _receipt: Receipt) {}
+}
+
+/// The next connection. An accept that a signal interrupted is tried again, and so is one whose connection
+/// has ended meanwhile.
+fn next_stream(listener: &TcpListener) -> Result<TcpStream, Failed> {
+    'tries: for _ in 0..u64::MAX {
+        match listener.accept() {
+            Ok((stream, _)) => return Ok(stream),
+            Err(error)
+                if error.kind() == ErrorKind::Interrupted
+                    || error.kind() == ErrorKind::ConnectionAborted => {}
+            Err(_) => return Err(Failed),
+        }
+    }
+    Err(Failed)
+}
+
+/// The clock in whole seconds, where it can be read and does not stand before 1970.
+fn seconds_since_1970<R: Clock>(rt: &R) -> Option<u64> {
+    let now = SystemTime::now(rt).ok()?;
+    let since = now.duration_since(UNIX_EPOCH).ok()?;
+    Some(since.as_secs())
+}
