@@ -1,4 +1,4 @@
-ghost use Rattle.std.specs.Prelude.{◌≡◌, ◌+◌, ◌<◌, ◌≤◌, ◌↔◌, None, Some, Err, IsTrue, length, OnOk};
+ghost use Rattle.std.specs.Prelude.{◌≡◌, ◌+◌, ◌<◌, ◌≤◌, ◌↔◌, [], None, Some, Err, IsTrue, length, OnOk};
 ghost use Rattle.ks_top.specs.Lines.{IsInLine};
 
 use crate::answer::answer;
@@ -13,7 +13,7 @@ use std::alloc::{AllocError, Global};
 /// How many bytes a line may have without its line feed.
 const LONGEST_LINE: usize = 1_100;
 /// How many lines an input may have.
-const MOST_LINES: u64 = 1_048_576;
+pub const MOST_LINES: u64 = 1_048_576;
 /// How many bytes are read at once, and how many answers are kept before they are written.
 pub const PIECE: usize = 65_536;
 
@@ -73,14 +73,14 @@ impl Place {
             return Err(self.bad_line());
         }
         match self.key {
-            None => self.take_key(line, answers),
+            None => self.take_key(line),
             Some(key) => self.take_token(alloc, key, line, answers),
         }
     }
 
-    fn take_key(&mut self, line: &[u8], answers: &mut Vec<u8>) -> Result<(), Fault>
+    fn take_key(&mut self, line: &[u8]) -> Result<(), Fault>
         requires { self.old.lines < 1048576 }
-        ensures takes { Takes (keyed_step self.old None line.now) self.old.lines answers.old.items self.new answers.new.items result }
+        ensures takes { Takes (keyed_step self.old None line.now) self.old.lines [] self.new [] result }
         ensures counted { self.new.lines ≤ 1048576 }
         ensures forward { OnOk result (self.new.lines ≡ self.old.lines + 1) }
     {
@@ -202,7 +202,8 @@ impl Checker {
         self.write_out(output)
     }
 
-    /// Answers the lines that end in a piece, and keeps the beginning of the line behind them.
+    /// Answers the lines that end in a piece, keeps the beginning of the line behind them, and writes the
+    /// answers.
     fn take_piece<K: Sink>(
         &mut self,
         alloc: Global,
@@ -224,7 +225,12 @@ impl Checker {
             };
             rest = behind;
         }
-        self.hold(rest)
+        self.hold(rest)?;
+        // Whoever waits for an answer before the next line has it now.
+        let Ok(()) = self.write_out(output) else {
+            return Err(Fault::Write);
+        };
+        Ok(())
     }
 
     /// Answers a last line that lacks its line feed.

@@ -1,3 +1,4 @@
+use crate::checker::MOST_LINES;
 use std::error::Error;
 use std::fmt;
 
@@ -24,6 +25,9 @@ impl fmt::Display for Fault {
             Fault::Write => write!(f, "standard output could not be written"),
             Fault::Memory => write!(f, "out of memory"),
             Fault::BadLine(1) => write!(f, "line 1 is not a Fernet key"),
+            Fault::BadLine(n) if *n > MOST_LINES => {
+                write!(f, "line {n} is behind the last that is read")
+            }
             Fault::BadLine(n) => write!(f, "line {n} is not a moment, one space and a token"),
         }
     }

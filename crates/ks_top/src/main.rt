@@ -53,8 +53,10 @@ fn main(rt: HostRuntime) -> ExitCode {
         }
         Err(fault) => fault.ended(),
     };
-    if let Some(fault) = ended.fault {
-        let _ = eprintln!(rt; "ks: {fault}");
-    }
+    let _ = match ended.fault {
+        Some(Fault::Usage) => eprintln!(rt; "{}", Fault::Usage),
+        Some(fault) => eprintln!(rt; "ks: {fault}"),
+        None => Ok(()),
+    };
     ExitCode::from(ended.status)
 }

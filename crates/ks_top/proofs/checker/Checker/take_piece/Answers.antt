@@ -1,6 +1,6 @@
 use Rattle.std.proofs.Common.{◌∷◌, [], Ok, Err, length, ap, length-append, arith}
 use Rattle.std.proofs.lemmas.Result.{err_from_is_err_and}
-use Rattle.ks_top.proofs.CheckerLemmas.{stands_line, stands_hold, moves_err}
+use Rattle.ks_top.proofs.CheckerLemmas.{stands_line, stands_hold, stands_written, moves_err}
 use Rattle.ks_top.proofs.checker.Checker.take_piece.Goals as goal
 
 pub returns-in_err-end_line-clause-moves : goal.returns-in_err-end_line-clause-moves
@@ -26,6 +26,17 @@ lines-preserved g c = record {
   count = omega (arith, c.lines.invariant.count, c.write_many.ensures.count);
 }
 
+pub returns-in_err-hold-clause-moves : goal.returns-in_err-hold-clause-moves
+returns-in_err-hold-clause-moves g c whole before h =
+    let p = err_from_is_err_and c.from_residual-in_err-hold.result c.from_residual-in_err-hold.ensures.1 in
+    rw (p.1, p.2) (stands_hold (Err c.in_err-hold.field-0.0) whole c.lines.rest.now c.lines.self c.hold.new.self _ before (c.lines.invariant.stands whole before h) c.hold.ensures.inside c.in_err-hold.ensures.holds)
+
+pub returns-in_default-write_out-clause-moves : goal.returns-in_default-write_out-clause-moves
+returns-in_default-write_out-clause-moves g c whole before h =
+    let standing = stands_hold (Ok c.in_ok-hold.field-0) whole c.lines.rest.now c.lines.self c.hold.new.self (g.K.Sink.written c.lines.output) before (c.lines.invariant.stands whole before h) c.hold.ensures.inside c.in_ok-hold.ensures.holds in
+    stands_written (Err c.in_default-write_out.field-0) whole [] c.hold.new.self c.write_out.new.self (g.K.Sink.written c.lines.output) (g.K.Sink.written c.write_out.new.output) before standing (c.in_default-write_out.ensures.told _ standing.written_is)
+
 pub returns-clause-moves : goal.returns-clause-moves
 returns-clause-moves g c whole before h =
-    stands_hold c.hold.result whole c.lines.rest.now c.lines.self c.hold.new.self _ before (c.lines.invariant.stands whole before h) c.hold.ensures.inside c.hold.ensures.holds
+    let standing = stands_hold (Ok c.in_ok-hold.field-0) whole c.lines.rest.now c.lines.self c.hold.new.self (g.K.Sink.written c.lines.output) before (c.lines.invariant.stands whole before h) c.hold.ensures.inside c.in_ok-hold.ensures.holds in
+    stands_written (Ok c.in-Ok-write_out.field-0) whole [] c.hold.new.self c.write_out.new.self (g.K.Sink.written c.lines.output) (g.K.Sink.written c.write_out.new.output) before standing (c.in-Ok-write_out.ensures.told _ standing.written_is)
