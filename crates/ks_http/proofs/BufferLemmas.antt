@@ -1,0 +1,168 @@
+-- The bytes in hand and those that are still to come.
+use Rattle.std.proofs.Common.{◌≡◌, ◌≢◌, ℕ, ◌+◌, ◌<◌, ◌≤◌, List, [], ◌++◌, length, take, drop, Option, Some, Result, Ok, Err, inl, inr, refl, sym, ap, ◌∙◌, subst, arith, append_assoc}
+use Rattle.std.specs.Prelude.{All}
+use Rattle.std.proofs.lemmas.List.{append-nil, length-take, take_all, take-append-le, take-append-drop, drop-append-le, length-append}
+use Rattle.std.proofs.Math.Seq.{drop-append_seam}
+use Rattle.httparse.specs.Grammar.{ReadsRequest, print_request}
+use Rattle.httparse.specs.Spans.{IsHeaderWithin}
+use Rattle.httparse.specs.declared.spans.HeaderSpan.{HeaderSpan}
+use Rattle.httparse.specs.declared.spans.RequestSpans.{RequestSpans}
+use Rattle.httparse.proofs.GrammarLemmas.{ReadsRequest-append}
+use Rattle.ks_http.specs.declared.cause.HttpCause.{HttpCause}
+use Rattle.ks_http.specs.declared.ending.Ending.{Ending}
+use Rattle.ks_http.specs.declared.ending.Ending.TheVariants.{End, Bad, ReadFault, Memory}
+use Rattle.ks_http.specs.declared.look.Look.{Look}
+use Rattle.ks_http.specs.declared.look.Look.TheVariants.{Whole, Refused, More}
+use Rattle.ks_http.specs.declared.opening.Opening.{Opening}
+use Rattle.ks_http.specs.Heads.{opening_of}
+use Rattle.ks_http.specs.Says.{Refuses}
+use Rattle.ks_http.specs.Next.{BeginsWith, HasNoHead, IsRefused, headless, by_head, in_body, Ends, Comes, request_of}
+use Rattle.ks_http.specs.Buffers.{Fills, Filled, Finds, Looks, Glances, IsHeadAt, FindsHead, Stands, FillsTo, OpensAt, Taken, TakesBody}
+
+window_seam : (held rest : List ℕ) → take 16384 held ++ (drop 16384 held ++ rest) ≡ held ++ rest
+window_seam held rest = sym (append_assoc (take 16384 held) (drop 16384 held) rest) ∙ ap (λ l. l ++ rest) (take-append-drop 16384 held)
+
+short_window : (held : List ℕ) → length (take 16384 held) < 16384 → length held < 16384
+short_window held lt = let n = length-take 16384 held in omega arith
+
+pub not_full : (held : List ℕ) → length (take 16384 held) ≢ 16384 → length held < 16384
+not_full held ne = let n = length-take 16384 held in omega arith
+
+pub looks : (held : List ℕ) (headers : List HeaderSpan) (look : Look) → Finds (take 16384 held) headers look → Looks held headers look
+looks held headers (Whole spans) f = f
+looks held headers (Refused cause) f = λ rest.
+    let at = f (drop 16384 held ++ rest) in
+    subst (λ b. IsRefused b cause) (window_seam held rest) (headless at.0 at.1)
+looks held headers More f =
+    let short = short_window held f.1 in
+    (subst (λ b. HasNoHead b) (take_all 16384 held (omega arith)) f.0, short)
+
+pub glances : (held : List ℕ) (headers : List HeaderSpan) (look : Look) → Looks held headers look → Glances held headers look
+glances held headers (Whole spans) f = f
+glances held headers (Refused cause) f = f
+glances held headers More f = f.1
+
+pub stands_at_first : (held left : List ℕ) (o : Option (List ℕ)) → o ≡ Some left → Stands (held ++ left) held o
+stands_at_first held left o e = record { rest = left; left_is = e; whole_is = refl }
+
+pub stands_on : (whole held new : List ℕ) (left after : Option (List ℕ)) (count : ℕ) (s : Stands whole held left) → Filled held s.rest new after count → Stands whole new after
+stands_on whole held new left after count s f = record { rest = f.rest; left_is = f.left_is; whole_is = sym f.same ∙ s.whole_is }
+
+-- no byte came: what is in hand is all
+pub all_in_hand : (whole held new : List ℕ) (left after : Option (List ℕ)) (count : ℕ) (s : Stands whole held left) → Filled held s.rest new after count
+    → count ≡ 0 → (new ≡ whole) × (after ≡ Some [])
+all_in_hand whole held new left after count s f none =
+    let e = f.ended none in
+    (sym (append-nil new) ∙ (ap (λ r. new ++ r) (sym e) ∙ (sym f.same ∙ s.whole_is)), f.left_is ∙ ap (λ r. Some r) e)
+
+pub fill_ends : (held left new : List ℕ) (after : Option (List ℕ)) (e : Ending) (whole : List ℕ) → Fills held left new after (Err e) → Ends whole after e
+fill_ends held left new after End whole f = absurd f
+fill_ends held left new after (Bad cause) whole f = absurd f
+fill_ends held left new after ReadFault whole f = tt
+fill_ends held left new after Memory whole f = tt
+
+pub fill_stops : (held left new : List ℕ) (after : Option (List ℕ)) (e : Ending) (whole : List ℕ) (size : ℕ) → Fills held left new after (Err e) → FillsTo whole size new after (Err e)
+fill_stops held left new after End whole size f = absurd f
+fill_stops held left new after (Bad cause) whole size f = absurd f
+fill_stops held left new after ReadFault whole size f = tt
+fill_stops held left new after Memory whole size f = tt
+
+pub finds_whole : (whole held : List ℕ) (left : Option (List ℕ)) (headers : List HeaderSpan) (spans : RequestSpans) → Stands whole held left
+    → IsHeadAt (take 16384 held) headers spans → FindsHead whole held left headers (Ok spans)
+finds_whole whole held left headers spans s h = (s.rest, s.left_is, s.whole_is, h)
+
+pub finds_refused : (whole held : List ℕ) (left : Option (List ℕ)) (cause : HttpCause) → Stands whole held left
+    → ((rest : List ℕ) → IsRefused (held ++ rest) cause) → Ends whole left (Bad cause)
+finds_refused whole held left cause s f = inl (subst (λ b. IsRefused b cause) s.whole_is (f s.rest))
+
+pub finds_last : (whole held : List ℕ) (left : Option (List ℕ)) (headers : List HeaderSpan) (r : Result RequestSpans Ending) → held ≡ whole → left ≡ Some []
+    → FindsHead held held (Some []) headers r → FindsHead whole held left headers r
+finds_last whole held left headers r w l f = subst (λ o. FindsHead whole held o headers r) (sym l) (subst (λ b. FindsHead b held (Some []) headers r) w f)
+
+pub short_whole : (whole held new : List ℕ) (size count : ℕ) → new ≡ whole → length new ≡ length held + count → count ≡ 0 → length held < size → length whole < size
+short_whole whole held new size count e l z lt = let n = ap (λ b. length b) e in omega arith
+
+body_stops : (whole held new : List ℕ) (size : ℕ) (left : Option (List ℕ)) (e : Ending) → FillsTo whole size held left (Err e) → TakesBody whole size new left (Err e)
+body_stops whole held new size left End f = absurd f
+body_stops whole held new size left (Bad cause) f = f
+body_stops whole held new size left ReadFault f = tt
+body_stops whole held new size left Memory f = tt
+
+pub stops_body : (whole held new : List ℕ) (size : ℕ) (left : Option (List ℕ)) (e : Ending) → FillsTo whole size held left (Err e) → TakesBody whole size new left (Err e)
+stops_body = body_stops
+
+pub takes : (whole held new body : List ℕ) (size : ℕ) (left : Option (List ℕ)) → Stands whole held left → size ≤ length held → body ≡ take size held → new ≡ drop size held
+    → Taken whole size new left body
+takes whole held new body size left s enough b n = record {
+  rest = s.rest;
+  left_is = s.left_is;
+  enough = let l = ap (λ x. length x) s.whole_is in let m = length-append held s.rest in omega arith;
+  body_is = b ∙ (sym (take-append-le size held s.rest enough) ∙ ap (λ l. take size l) s.whole_is);
+  rest_is = ap (λ l. l ++ s.rest) n ∙ (sym (drop-append-le size held s.rest enough) ∙ ap (λ l. drop size l) s.whole_is);
+}
+
+-- a head in the window, and what follows it
+opens_after : (whole held rest : List ℕ) (headers : List HeaderSpan) (spans : RequestSpans) (h : IsHeadAt (take 16384 held) headers spans) → held ++ rest ≡ whole
+    → spans.len ≤ length held → BeginsWith whole h.head (drop spans.len held ++ rest)
+opens_after whole held rest headers spans h same fits =
+    let more = drop 16384 held ++ rest in
+    let reads = ReadsRequest-append (take 16384 held) h.head (drop spans.len (take 16384 held)) more h.begins.reads in
+    let behind : drop spans.len (take 16384 held) ++ more ≡ drop spans.len held ++ rest =
+    sym (drop-append_seam (print_request h.head) (drop spans.len (take 16384 held) ++ more))
+    ∙ (ap (λ l. drop (length (print_request h.head)) l) (sym reads.1)
+    ∙ (ap (λ n. drop n (take 16384 held ++ more)) (sym h.at.len)
+    ∙ (ap (λ l. drop spans.len l) (window_seam held rest) ∙ drop-append-le spans.len held rest fits))) in
+    record {
+      reads = subst (λ b. ReadsRequest b h.head (drop spans.len held ++ rest)) (window_seam held rest ∙ same)
+          (subst (λ a. ReadsRequest (take 16384 held ++ more) h.head a) behind reads);
+      short = h.begins.short;
+      few = h.begins.few;
+    }
+
+pub opens_at : (whole held new : List ℕ) (left : Option (List ℕ)) (headers : List HeaderSpan) (spans : RequestSpans) (o : Opening) (f : FindsHead whole held left headers (Ok spans))
+    → spans.len ≤ length held → new ≡ drop spans.len held → opening_of f.3.head ≡ Ok o → OpensAt whole new left (Ok o)
+opens_at whole held new left headers spans o f fits n says = (
+  f.0,
+  f.1,
+  record {
+    head = f.3.head;
+    begins = subst (λ l. BeginsWith whole f.3.head (l ++ f.0)) (sym n) (opens_after whole held f.0 headers spans f.3 f.2 fits);
+    says = says;
+  },
+)
+
+pub refuses_head : (whole held : List ℕ) (left : Option (List ℕ)) (headers : List HeaderSpan) (spans : RequestSpans) (e : Ending) (f : FindsHead whole held left headers (Ok spans))
+    → spans.len ≤ length held → Refuses (opening_of f.3.head) e → Ends whole left e
+refuses_head whole held left headers spans (Bad cause) f fits says =
+    inl (by_head (drop spans.len held ++ f.0) (record { head = f.3.head; begins = opens_after whole held f.0 headers spans f.3 f.2 fits; says = says }))
+refuses_head whole held left headers spans Memory f fits says = tt
+refuses_head whole held left headers spans End f fits says = absurd says
+refuses_head whole held left headers spans ReadFault f fits says = absurd says
+
+pub comes_first : (whole held new body : List ℕ) (left after : Option (List ℕ)) (o : Opening) (f : OpensAt whole held left (Ok o))
+    → Taken (held ++ f.0) o.length new after body → Comes whole new after (Ok (request_of o body))
+comes_first whole held new body left after o f t = (
+  t.rest,
+  t.left_is,
+  record {
+    opening = o;
+    after = held ++ f.0;
+    opens = f.2;
+    enough = t.enough;
+    request_is = ap (λ b. request_of o b) t.body_is;
+    rest_is = t.rest_is;
+  },
+)
+
+pub body_ends : (whole held new : List ℕ) (left after : Option (List ℕ)) (o : Opening) (e : Ending) (f : OpensAt whole held left (Ok o))
+    → TakesBody (held ++ f.0) o.length new after (Err e) → Ends whole after e
+body_ends whole held new left after o End f t = absurd t
+body_ends whole held new left after o (Bad cause) f t = inr (in_body o (held ++ f.0) f.2 t.1, t.0, t.2)
+body_ends whole held new left after o ReadFault f t = tt
+body_ends whole held new left after o Memory f t = tt
+
+pub all_within : (m n : ℕ) (spans : List HeaderSpan) → m ≤ n → All (IsHeaderWithin m) spans → All (IsHeaderWithin n) spans
+all_within m n spans le all = λ k d lt. let w = all k d lt in let a = w.0.1 in let b = w.1.1 in ((w.0.0, omega arith), (w.1.0, omega arith))
+
+pub fits : (n : ℕ) (held : List ℕ) → n ≤ length (take 16384 held) → n ≤ length held
+fits n held le = let l = length-take 16384 held in omega arith

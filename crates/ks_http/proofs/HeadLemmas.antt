@@ -1,0 +1,63 @@
+-- What a look at the bytes so far says of the bytes however they go on.
+use Rattle.std.proofs.Common.{◌≡◌, ℕ, ◌≤◌, List, [], ◌++◌, length, take, drop, map, min, sym, ap, ◌∙◌, subst, arith}
+use Rattle.std.proofs.lemmas.List.{append-nil, length-take, length-map, take-append-le, take-append-drop}
+use Rattle.std.proofs.Math.Seq.{take-append_seam}
+use Rattle.httparse.specs.Grammar.{RequestHead, HasNoRequest, print_request}
+use Rattle.httparse.specs.Spans.{IsRequestAt, IsRequestOf, IsRequestWithin, RequestOverflows, header_bytes, name_and_value}
+use Rattle.httparse.specs.declared.spans.HeaderSpan.{HeaderSpan}
+use Rattle.httparse.specs.declared.spans.RequestSpans.{RequestSpans}
+use Rattle.ks_http.specs.declared.look.Look.{Look}
+use Rattle.ks_http.specs.declared.look.Look.TheVariants.{Whole, Refused, More}
+use Rattle.ks_http.specs.Next.{HasNoHead}
+use Rattle.ks_http.specs.Buffers.{IsHeadAt, Finds, Judged}
+use Rattle.ks_http.proofs.ScanLemmas.{unsettled_short, settled_stays}
+
+few_fields : (buf : List ℕ) (headers : List HeaderSpan) (spans : RequestSpans) (h : RequestHead) → IsRequestAt buf headers spans h
+    → length headers ≤ 64 → length h.fields ≤ 64
+few_fields buf headers spans h at room =
+    let same : length (map (header_bytes buf) (take spans.headers headers)) ≡ length (map name_and_value h.fields) = ap (λ l. length l) at.fields in
+    let a : length (map (header_bytes buf) (take spans.headers headers)) ≡ min spans.headers (length headers) = length-map _ _ ∙ length-take spans.headers headers in
+    let b : length (map name_and_value h.fields) ≡ length h.fields = length-map _ _ in
+    omega arith
+
+pub head_at : (bytes : List ℕ) (headers : List HeaderSpan) (spans : RequestSpans) → length bytes ≤ 16384 → length headers ≤ 64
+    → IsRequestWithin bytes headers spans → IsRequestOf bytes headers spans → IsHeadAt bytes headers spans
+head_at bytes headers spans short room within of = record {
+  head = of.0;
+  begins = record {
+    reads = of.1.reads;
+    short = let len = of.1.len in let fits = within.section.len_fits in omega arith;
+    few = few_fields bytes headers spans of.0 of.1 room;
+  };
+  at = of.1;
+}
+
+pub none_over : (bytes more : List ℕ) (room : ℕ) → 64 ≤ room → RequestOverflows room bytes → HasNoHead (bytes ++ more)
+none_over bytes more room le over = λ head after begins. let many = over more head after begins.reads in let few = begins.few in omega arith
+
+front_of : (bytes more head after : List ℕ) → bytes ++ more ≡ head ++ after → length head ≤ length bytes → bytes ≡ head ++ drop (length head) bytes
+front_of bytes more head after same short =
+    let front : take (length head) bytes ≡ head = sym (take-append-le (length head) bytes more short) ∙ (ap (λ l. take (length head) l) same ∙ take-append_seam head after) in
+    sym (take-append-drop (length head) bytes) ∙ ap (λ l. l ++ drop (length head) bytes) front
+
+pub none_full : (bytes more : List ℕ) → HasNoRequest bytes → 16384 ≤ length bytes → HasNoHead (bytes ++ more)
+none_full bytes more none full = λ head after begins.
+    let short : length (print_request head) ≤ length bytes = let s = begins.short in omega arith in
+    none head (drop (length (print_request head)) bytes) (begins.reads.0, front_of bytes more (print_request head) after begins.reads.1 short)
+
+pub none_yet : (bytes : List ℕ) → HasNoRequest bytes → HasNoHead bytes
+none_yet bytes none = λ head after begins. none head after begins.reads
+
+judged : (bytes : List ℕ) (headers : List HeaderSpan) (look : Look) → length bytes ≤ 16384 → ((more : List ℕ) → HasNoHead (bytes ++ more))
+    → Judged bytes look → Finds bytes headers look
+judged bytes headers (Whole spans) short none j = absurd j
+judged bytes headers (Refused cause) short none j = λ more. (none more, settled_stays bytes more cause short j)
+judged bytes headers More short none j = (subst (λ b. HasNoHead b) (append-nil bytes) (none []), unsettled_short bytes short j)
+
+pub finds_over : (bytes : List ℕ) (headers : List HeaderSpan) (look : Look) (room : ℕ) → length bytes ≤ 16384 → 64 ≤ room → RequestOverflows room bytes
+    → Judged bytes look → Finds bytes headers look
+finds_over bytes headers look room short le over j = judged bytes headers look short (λ more. none_over bytes more room le over) j
+
+pub finds_full : (bytes : List ℕ) (headers : List HeaderSpan) (look : Look) → length bytes ≤ 16384 → HasNoRequest bytes → 16384 ≤ length bytes
+    → Judged bytes look → Finds bytes headers look
+finds_full bytes headers look short none full j = judged bytes headers look short (λ more. none_full bytes more none full) j

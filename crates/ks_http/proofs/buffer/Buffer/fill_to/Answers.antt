@@ -1,0 +1,18 @@
+use Rattle.std.proofs.Common.{◌<◌, length, refl, ap, arith}
+use Rattle.std.proofs.lemmas.Result.{err_from_is_err_and}
+use Rattle.ks_http.proofs.BufferLemmas.{fill_stops, all_in_hand, short_whole}
+use Rattle.ks_http.proofs.buffer.Buffer.fill_to.Goals as goal
+
+pub returns-in_err-count-clause-told : goal.returns-in_err-count-clause-told
+returns-in_err-count-clause-told g c left left_is =
+    let p = err_from_is_err_and c.from_residual.result c.from_residual.ensures.1 in
+    let s = c.fills.invariant.told left left_is in
+    rw (p.1, p.2) (fill_stops c.fills.self s.rest c.fill.new.self (g.S.Source.left c.fill.new.source) c.in_err-count.field-0.0 _ c.args.size (c.in_err-count.ensures.told s.rest s.left_is))
+
+pub returns-then-count-eq0-clause-told : goal.returns-then-count-eq0-clause-told
+returns-then-count-eq0-clause-told g c left left_is =
+    let s = c.fills.invariant.told left left_is in
+    let all = all_in_hand _ c.fills.self c.fill.new.self _ _ c.in_ok-count.count s (c.in_ok-count.ensures.told s.rest s.left_is) c.if-count-eq0.true in
+    let same = ap (λ b. length b) c.self.view_is in
+    let few : length c.fills.self < c.args.size = omega arith in
+    (refl, short_whole _ c.fills.self c.fill.new.self c.args.size c.in_ok-count.count all.0 c.in_ok-count.ensures.longer c.if-count-eq0.true few, all.1)

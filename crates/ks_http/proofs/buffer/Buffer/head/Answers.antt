@@ -1,0 +1,16 @@
+use Rattle.ks_http.proofs.BufferLemmas.{finds_refused, all_in_hand, finds_last}
+use Rattle.ks_http.proofs.buffer.Buffer.head.Goals as goal
+
+pub returns-in-Whole-clause-told : goal.returns-in-Whole-clause-told
+returns-in-Whole-clause-told g c left left_is =
+    let s = c.looks.invariant.told left left_is in (s.rest, s.left_is, s.whole_is, c.in-Whole.ensures.glances)
+
+pub returns-in-Refused-clause-told : goal.returns-in-Refused-clause-told
+returns-in-Refused-clause-told g c left left_is =
+    let s = c.looks.invariant.told left left_is in finds_refused _ c.looks.self _ c.in-Refused.cause s c.in-Refused.ensures.glances
+
+pub returns-then-count-eq0-clause-told : goal.returns-then-count-eq0-clause-told
+returns-then-count-eq0-clause-told g c left left_is =
+    let s = c.looks.invariant.told left left_is in
+    let all = all_in_hand _ c.looks.self c.fill.new.self _ _ c.in_ok-count.count s (c.in_ok-count.ensures.told s.rest s.left_is) c.if-count-eq0.true in
+    finds_last _ c.fill.new.self (g.S.Source.left c.fill.new.source) c.last_head.new.headers c.last_head.result all.0 all.1 c.last_head.ensures.told

@@ -1,0 +1,111 @@
+-- The requests of a stream of bytes (RFC 9112).
+use Rattle.std.specs.Prelude.{◌≡◌, ◌≢◌, ◌≤◌, ◌<◌, ◌⊎◌, ◌+◌, ℕ, true, false, List, [], ◌∷◌, ◌++◌, length, take, drop, Option, Some, None, Result, Ok, Err, ⊤}
+use Rattle.httparse.specs.Grammar.{RequestHead, ReadsRequest, print_request}
+use Rattle.ks_http.specs.declared.cause.HttpCause.{HttpCause}
+use Rattle.ks_http.specs.declared.cause.HttpCause.TheVariants.{Malformed}
+use Rattle.ks_http.specs.declared.ending.Ending.{Ending}
+use Rattle.ks_http.specs.declared.ending.Ending.TheVariants as ending
+use Rattle.ks_http.specs.declared.next.Next.{Next}
+use Rattle.ks_http.specs.declared.next.Next.TheVariants as next
+use Rattle.ks_http.specs.declared.opening.Opening.{Opening}
+use Rattle.ks_http.specs.declared.request.Request.{Request}
+use Rattle.ks_http.specs.Heads.{opening_of}
+use Rattle.ks_http.specs.Lines.{settled_cause}
+
+-- the bytes are a head of at most 16,384 bytes and 64 fields, and then `after`
+pub record BeginsWith (bytes : List ℕ) (head : RequestHead) (after : List ℕ) : Type 0 where
+  pub reads : ReadsRequest bytes head after
+  pub short : length (print_request head) ≤ 16384
+  pub few : length head.fields ≤ 64
+
+abbrev pub HasNoHead : List ℕ → Type 0
+HasNoHead bytes = (head : RequestHead) (after : List ℕ) → BeginsWith bytes head after → ⊥
+
+-- the bytes begin with a head that says this, and go on with `after`
+pub record Opens (bytes : List ℕ) (opening : Result Opening HttpCause) (after : List ℕ) : Type 0 where
+  pub head : RequestHead
+  pub begins : BeginsWith bytes head after
+  pub says : opening_of head ≡ opening
+
+-- the request of an opening and a body
+abbrev pub request_of : Opening → List ℕ → Request
+request_of o body = record {
+  method = o.method;
+  path = o.path;
+  query = o.query;
+  auth = o.auth;
+  subject = o.subject;
+  body = body;
+  close = o.close;
+}
+
+-- the bytes are a request, and then `rest`
+pub record IsFirst (bytes : List ℕ) (request : Request) (rest : List ℕ) : Type 0 where
+  pub opening : Opening
+  pub after : List ℕ
+  pub opens : Opens bytes (Ok opening) after
+  pub enough : opening.length ≤ length after
+  pub request_is : request ≡ request_of opening (take opening.length after)
+  pub rest_is : rest ≡ drop opening.length after
+
+-- the bytes are refused, whatever follows them
+pub data IsRefused (bytes : List ℕ) (cause : HttpCause) : Type 0 where
+  headless : HasNoHead bytes → settled_cause bytes ≡ Some cause → IsRefused bytes cause
+  by_head : (after : List ℕ) → Opens bytes (Err cause) after → IsRefused bytes cause
+
+-- the bytes are the beginning of a request, at which the input ended
+pub data IsCut (bytes : List ℕ) : Type 0 where
+  in_head : HasNoHead bytes → settled_cause bytes ≡ None → bytes ≢ [] → IsCut bytes
+  in_body : (opening : Opening) (after : List ℕ) → Opens bytes (Ok opening) after → length after < opening.length → IsCut bytes
+
+-- why no request comes from these bytes, of which `left` is still unread
+abbrev pub Ends : List ℕ → Option (List ℕ) → Ending → Type 0
+Ends bytes left ending.End = (bytes ≡ []) × (left ≡ Some [])
+Ends bytes left (ending.Bad cause) = IsRefused bytes cause ⊎ (IsCut bytes × (cause ≡ Malformed) × (left ≡ Some []))
+Ends bytes left ending.ReadFault = ⊤
+Ends bytes left ending.Memory = ⊤
+
+-- what comes first from these bytes, of which `held` and `left` are what then remains
+abbrev pub Comes : List ℕ → List ℕ → Option (List ℕ) → Result Request Ending → Type 0
+Comes bytes held left (Ok request) = (rest : List ℕ) × (left ≡ Some rest) × IsFirst bytes request (held ++ rest)
+Comes bytes held left (Err ending) = Ends bytes left ending
+
+-- an answer is a request or an ending
+abbrev pub answer_of : Next → Result Request Ending
+answer_of (next.Request request) = Ok request
+answer_of next.End = Err ending.End
+answer_of (next.Bad cause) = Err (ending.Bad cause)
+answer_of next.ReadFault = Err ending.ReadFault
+answer_of next.Memory = Err ending.Memory
+
+abbrev pub next_of : Ending → Next
+next_of ending.End = next.End
+next_of (ending.Bad cause) = next.Bad cause
+next_of ending.ReadFault = next.ReadFault
+next_of ending.Memory = next.Memory
+
+abbrev pub ending_of : Next → Option Ending
+ending_of (next.Request request) = None
+ending_of next.End = Some ending.End
+ending_of (next.Bad cause) = Some (ending.Bad cause)
+ending_of next.ReadFault = Some ending.ReadFault
+ending_of next.Memory = Some ending.Memory
+
+-- how the requests of a connection end
+pub data Close : Type 0 where
+  asked last ended : Close
+  bad : HttpCause → Close
+
+-- the requests of these bytes behind `count` others: up to and with the first that closes or the
+-- 1,000,000th, and how they end
+pub data Requests : ℕ → List ℕ → List Request → Close → Type 0 where
+  none : (count : ℕ) → Requests count [] [] ended
+  refused : (count : ℕ) (bytes : List ℕ) (cause : HttpCause) → IsRefused bytes cause → Requests count bytes [] (bad cause)
+  cut : (count : ℕ) (bytes : List ℕ) → IsCut bytes → Requests count bytes [] (bad Malformed)
+  closes : (count : ℕ) (bytes rest : List ℕ) (request : Request) → IsFirst bytes request rest
+      → request.close ≡ true → Requests count bytes (request ∷ []) asked
+  fills : (count : ℕ) (bytes rest : List ℕ) (request : Request) → IsFirst bytes request rest
+      → request.close ≡ false → count + 1 ≡ 1000000 → Requests count bytes (request ∷ []) last
+  goes_on : (count : ℕ) (bytes rest : List ℕ) (request : Request) (requests : List Request) (close : Close)
+      → IsFirst bytes request rest → request.close ≡ false → count + 1 < 1000000
+      → Requests (count + 1) rest requests close → Requests count bytes (request ∷ requests) close

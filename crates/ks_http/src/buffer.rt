@@ -1,0 +1,275 @@
+ghost use Rattle.std.specs.Prelude.{◌≡◌};
+
+use crate::cause::HttpCause;
+use crate::ending::Ending;
+use crate::fields::Fields;
+use crate::lines::MOST_FIELDS;
+use crate::look::{Look, look_for_head};
+use crate::opening::Opening;
+use crate::request::Request;
+use crate::scan::{LONGEST_HEAD, settled_cause};
+use httparse::spans::{EMPTY_HEADER_SPAN, HeaderSpan, RequestSpans};
+use ks_base::{Bytes, Memory};
+use ks_outside::Source;
+use std::alloc::Global;
+use std::marker::Model;
+
+/// How many bytes are read at once.
+const PIECE: usize = 4_096;
+
+/// The bytes that were read and belong to no request yet.
+#[derive(Drop)]
+pub struct Buffer {
+    bytes: Vec<u8>,
+}
+
+impl Model for Buffer {
+    ghost use Rattle.std.specs.Prelude.{ℕ, List};
+
+    ghost Value = { List ℕ };
+
+    ghost view = { λ buffer. buffer.bytes.items };
+}
+
+impl Buffer {
+    ghost use Rattle.std.specs.Prelude.{◌≡◌, ◌≢◌, ◌+◌, ◌<◌, ◌≤◌, ◌++◌, ℕ, List, [], Some, length, take, drop, IfOk, OnOk, OnErr, IsErrOf, false};
+    ghost use Rattle.httparse.specs.Grammar.{RequestHead};
+    ghost use Rattle.httparse.specs.Spans.{IsRequestWithin, IsRequestAt};
+    ghost use Rattle.ks_outside.specs.Counts.{Rose};
+    ghost use Rattle.ks_http.specs.Buffers.{Fills, FillsTo, Looks, Glances, FindsWithin, FindsHead, OpensAt, TakesBody};
+    ghost use Rattle.ks_http.specs.Heads.{opening_of};
+    ghost use Rattle.ks_http.specs.Says.{Says};
+    ghost use Rattle.ks_http.specs.Next.{HasNoHead, Ends, Comes};
+
+    /// Before the first byte.
+    pub fn new(alloc: Global) -> Result<Buffer, Memory>
+        ensures { IfOk result (λ made. made ≡ []) }
+    {
+        Ok(Buffer {
+            bytes: Vec::with_capacity(alloc, PIECE)?,
+        })
+    }
+
+    /// The bytes that a head may stand in.
+    fn window(&self) -> &[u8]
+        ensures window { result.now ≡ take 16384 self.now }
+        ensures short { length result.now ≤ 16384 }
+    {
+        let bytes = self.bytes.as_slice();
+        bytes.split_at(LONGEST_HEAD.min(bytes.len())).0
+    }
+
+    /// Reads a piece behind the bytes in hand, and says how many bytes came.
+    fn fill<S: Source>(&mut self, source: &mut S) -> Result<usize, Ending>
+        ensures told { (left : List ℕ) → S.left source.old ≡ Some left → Fills self.old left self.new (S.left source.new) result }
+        ensures longer { IfOk result (λ count. length self.new ≡ length self.old + count) }
+        ensures count { S.faults source.old ≤ S.faults source.new }
+        ensures fault { IsErrOf result Ending.ReadFault → Rose (S.faults source.old) (S.faults source.new) }
+    {
+        let mut piece = [0; PIECE];
+        let Ok(count) = source.read(piece.as_mut_slice()) else {
+            return Err(Ending::ReadFault);
+        };
+        let came = piece.as_slice().split_at(count).0;
+        if self.bytes.extend_from_slice(came).is_err() {
+            return Err(Ending::Memory);
+        }
+        Ok(count)
+    }
+
+    /// The ending behind the last byte of the input, where no head has come.
+    fn ending(&self) -> Ending
+        requires short { length self.now < 16384 }
+        requires headless { HasNoHead self.now }
+        ensures ends { Ends self.now (Some []) result }
+        ensures fault { result ≢ Ending.ReadFault }
+    {
+        if self.bytes.is_empty() {
+            return Ending::End;
+        }
+        match settled_cause(self.bytes.as_slice()) {
+            Some(cause) => Ending::Bad(cause),
+            None => Ending::Bad(HttpCause::Malformed),
+        }
+    }
+
+    /// Looks for a head at the front of the bytes in hand.
+    fn look(&self, headers: &mut [HeaderSpan; MOST_FIELDS]) -> Look
+        ensures looks { Looks self.now headers.new result }
+        ensures within { FindsWithin (take 16384 self.now) headers.new result }
+    {
+        look_for_head(self.window(), headers)
+    }
+
+    /// Whether a look can find a head or a refusal that was not there when there were so many bytes.
+    fn is_worth_a_look(&self, before: usize) -> bool
+        ensures { result ≡ false → length self.now < 16384 }
+    {
+        let window = self.window();
+        if window.len() == LONGEST_HEAD {
+            return true;
+        }
+        let fresh = window.split_at(before.min(window.len())).1;
+        fresh.contains(&b'\n')
+    }
+
+    /// Looks where a look is worth it.
+    fn glance(&self, before: usize, headers: &mut [HeaderSpan; MOST_FIELDS]) -> Look
+        ensures glances { Glances self.now headers.new result }
+        ensures within { FindsWithin (take 16384 self.now) headers.new result }
+    {
+        if self.is_worth_a_look(before) {
+            return self.look(headers);
+        }
+        Look::More
+    }
+
+    /// The head in the bytes behind which the input ended.
+    fn last_head(&self, headers: &mut [HeaderSpan; MOST_FIELDS]) -> Result<RequestSpans, Ending>
+        ensures told { FindsHead self.now self.now (Some []) headers.new result }
+        ensures within { IfOk result (λ head. IsRequestWithin (take 16384 self.now) headers.new head) }
+        ensures fault { ¬ (IsErrOf result Ending.ReadFault) }
+    {
+        match self.look(headers) {
+            Look::Whole(head) => Ok(head),
+            Look::Refused(cause) => Err(Ending::Bad(cause)),
+            Look::More => Err(self.ending()),
+        }
+    }
+
+    /// Reads until a head has come or none can come.
+    fn head<S: Source>(
+        &mut self,
+        source: &mut S,
+        headers: &mut [HeaderSpan; MOST_FIELDS],
+    ) -> Result<RequestSpans, Ending>
+        ensures told { (left : List ℕ) → S.left source.old ≡ Some left → FindsHead (self.old ++ left) self.new (S.left source.new) headers.new result }
+        ensures within { IfOk result (λ head. IsRequestWithin (take 16384 self.new) headers.new head) }
+        ensures count { S.faults source.old ≤ S.faults source.new }
+        ensures fault { IsErrOf result Ending.ReadFault → Rose (S.faults source.old) (S.faults source.new) }
+    {
+        let mut before = 0;
+        'looks: loop {
+            match self.glance(before, headers) {
+                Look::Whole(head) => return Ok(head),
+                Look::Refused(cause) => return Err(Ending::Bad(cause)),
+                Look::More => {}
+            }
+            before = self.bytes.len();
+            let count = self.fill(source)?;
+            if count == 0 {
+                return self.last_head(headers);
+            }
+        }
+    }
+
+    /// Lets the front of the bytes in hand go.
+    fn let_go(&mut self, alloc: Global, count: usize) -> Result<(), Memory>
+        requires { count ≤ length self.old }
+        ensures { OnOk result (self.new ≡ drop count self.old) }
+    {
+        self.bytes = Vec::from_slice(alloc, self.bytes.as_slice().split_at(count).1)?;
+        Ok(())
+    }
+
+    /// Reads until there are so many bytes in hand.
+    fn fill_to<S: Source>(&mut self, source: &mut S, size: usize) -> Result<(), Ending>
+        ensures told { (left : List ℕ) → S.left source.old ≡ Some left → FillsTo (self.old ++ left) size self.new (S.left source.new) result }
+        ensures enough { OnOk result (size ≤ length self.new) }
+        ensures count { S.faults source.old ≤ S.faults source.new }
+        ensures fault { IsErrOf result Ending.ReadFault → Rose (S.faults source.old) (S.faults source.new) }
+    {
+        'fills: while self.bytes.len() < size {
+            let count = self.fill(source)?;
+            if count == 0 {
+                return Err(Ending::Bad(HttpCause::Malformed));
+            }
+        }
+        Ok(())
+    }
+
+    /// Takes the body of so many bytes.
+    fn body<S: Source>(
+        &mut self,
+        alloc: Global,
+        source: &mut S,
+        size: usize,
+    ) -> Result<Bytes, Ending>
+        ensures told { (left : List ℕ) → S.left source.old ≡ Some left → TakesBody (self.old ++ left) size self.new (S.left source.new) result }
+        ensures count { S.faults source.old ≤ S.faults source.new }
+        ensures fault { IsErrOf result Ending.ReadFault → Rose (S.faults source.old) (S.faults source.new) }
+    {
+        self.fill_to(source, size)?;
+        let Ok(body) = Bytes::of(alloc, self.bytes.as_slice().split_at(size).0) else {
+            return Err(Ending::Memory);
+        };
+        let Ok(()) = self.let_go(alloc, size) else {
+            return Err(Ending::Memory);
+        };
+        Ok(body)
+    }
+
+    /// What the head with these spans says.
+    fn said(
+        &self,
+        alloc: Global,
+        head: RequestSpans,
+        headers: &[HeaderSpan; MOST_FIELDS],
+    ) -> Result<Opening, Ending>
+        requires { IsRequestWithin (take 16384 self.now) headers.now head }
+        ensures says { (h : RequestHead) → IsRequestAt (take 16384 self.now) headers.now head h → Says (opening_of h) result }
+        ensures fault { ¬ (IsErrOf result Ending.ReadFault) }
+    {
+        let bytes = self.window();
+        let fields = Fields {
+            bytes,
+            spans: headers.as_slice().split_at(head.headers).0,
+        };
+        let method = head.method.of(bytes);
+        let target = head.path.of(bytes);
+        Opening::read(alloc, method, target, head.version, &fields)
+    }
+
+    /// Takes the head of the first request.
+    fn opening<S: Source>(&mut self, alloc: Global, source: &mut S) -> Result<Opening, Ending>
+        ensures told { (left : List ℕ) → S.left source.old ≡ Some left → OpensAt (self.old ++ left) self.new (S.left source.new) result }
+        ensures count { S.faults source.old ≤ S.faults source.new }
+        ensures fault { IsErrOf result Ending.ReadFault → Rose (S.faults source.old) (S.faults source.new) }
+    {
+        let mut headers = [EMPTY_HEADER_SPAN; MOST_FIELDS];
+        let head = self.head(source, &mut headers)?;
+        let opening = self.said(alloc, head, &headers)?;
+        let Ok(()) = self.let_go(alloc, head.len) else {
+            return Err(Ending::Memory);
+        };
+        Ok(opening)
+    }
+
+    /// Takes the first request of the bytes in hand and of those that the source has left.
+    pub fn request<S: Source>(&mut self, alloc: Global, source: &mut S) -> Result<Request, Ending>
+        ensures told { (left : List ℕ) → S.left source.old ≡ Some left → Comes (self.old ++ left) self.new (S.left source.new) result }
+        ensures count { S.faults source.old ≤ S.faults source.new }
+        ensures fault { IsErrOf result Ending.ReadFault → Rose (S.faults source.old) (S.faults source.new) }
+    {
+        let opening = self.opening(alloc, source)?;
+        let body = self.body(alloc, source, opening.length)?;
+        let Opening {
+            method,
+            path,
+            query,
+            auth,
+            subject,
+            length: _,
+            close,
+        } = opening;
+        Ok(Request {
+            method,
+            path,
+            query,
+            auth,
+            subject,
+            body,
+            close,
+        })
+    }
+}

@@ -1,0 +1,47 @@
+ghost use Rattle.std.specs.Prelude.{◌≤◌, length};
+ghost use Rattle.httparse.specs.Spans.{IsRequestWithin};
+ghost use Rattle.ks_http.specs.Buffers.{Finds, FindsWithin, Judged};
+
+use crate::cause::HttpCause;
+use crate::lines::MOST_FIELDS;
+use crate::scan::{LONGEST_HEAD, settled_cause};
+use httparse::Status;
+use httparse::spans::{HeaderSpan, RequestSpans, parse_request};
+
+/// What a look at the bytes so far finds.
+#[derive(Clone, Copy)]
+pub enum Look {
+    /// A whole head at their front.
+    Whole(RequestSpans),
+    /// No head comes, whatever follows.
+    Refused(HttpCause),
+    /// No head yet.
+    More,
+}
+
+fn judge(bytes: &[u8]) -> Look
+    requires { length bytes.now ≤ 16384 }
+    ensures { Judged bytes.now result }
+{
+    match settled_cause(bytes) {
+        Some(cause) => Look::Refused(cause),
+        None => Look::More,
+    }
+}
+
+/// Looks for a head at the front of these bytes.
+pub fn look_for_head(bytes: &[u8], headers: &mut [HeaderSpan; MOST_FIELDS]) -> Look
+    requires { length bytes.now ≤ 16384 }
+    ensures finds { Finds bytes.now headers.new result }
+    ensures within { FindsWithin bytes.now headers.new result }
+{
+    match parse_request(bytes, headers.as_mut_slice()) {
+        Ok(Status::Complete(head)) => return Look::Whole(head),
+        Ok(Status::Partial) => {}
+        Err(_) => return judge(bytes),
+    }
+    if bytes.len() < LONGEST_HEAD {
+        return Look::More;
+    }
+    judge(bytes)
+}
