@@ -3,22 +3,12 @@
 # tables of words. The crate is measured from a program in a folder of its own, which goes afterwards; it
 # is proved first, so a first run takes some minutes.
 set -e
-top=$(cd "$(dirname "$0")/.." && pwd)
-work=$(mktemp -d)
-trap 'rm -rf "$work"' EXIT
+. "$(dirname "$0")/program.sh"
 
 ${CC:-cc} -O2 -o "$work/aes_cbc" "$top/bench/aes_cbc.c"
 "$work/aes_cbc"
 
-mkdir "$work/crates"
-cp -r "$top/crates/ks_aes_cbc" "$work/crates/"
-: > "$work/crates.txt"
-cd "$work"
-rt new crates/aes_cbc_bench start_io > /dev/null
-printf 'ks_aes_cbc:\naes_cbc_bench: ks_aes_cbc anyhow\n' > crates.txt
-cd crates/aes_cbc_bench
-rm -rf src specs proofs stdin stdout args data
-mkdir src
+begin aes_cbc_bench 'ks_aes_cbc anyhow' ks_aes_cbc
 cat > src/main.rt <<'END'
 //! Times sealing and opening 200 times 1 MiB.
 #![tactic(auto)]
@@ -67,5 +57,5 @@ fn main(rt: HostRuntime) -> anyhow::Result<()> {
     Ok(())
 }
 END
-rt run > log 2>&1 || { tail -20 log; exit 1; }
+run
 tail -1 log | awk '{ printf "ks_aes_cbc: seal %.1f MiB/s, open %.1f MiB/s\n", 200000 / ($3 - $2), 200000 / ($2 - $1) }'

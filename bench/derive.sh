@@ -3,11 +3,7 @@
 # and as the best of several runs in turn. The crate is measured from a program in a folder of its own, which
 # goes afterwards; it is proved first, so a first run takes some minutes.
 set -e
-top=$(cd "$(dirname "$0")/.." && pwd)
-work=$(mktemp -d)
-trap 'rm -rf "$work"' EXIT
-one=
-if command -v taskset > /dev/null; then one='taskset -c 0'; fi
+. "$(dirname "$0")/program.sh"
 
 cat > "$work/derive.py" <<'END'
 import hashlib
@@ -22,15 +18,7 @@ end = time.process_time_ns()
 print(end - start, total % 2**64)
 END
 
-mkdir "$work/crates"
-cp -r "$top/crates/ks_hmac" "$work/crates/"
-: > "$work/crates.txt"
-cd "$work"
-rt new crates/derive_bench start_io > /dev/null
-printf 'ks_hmac: sha2\nderive_bench: ks_hmac anyhow\n' > crates.txt
-cd crates/derive_bench
-rm -rf src specs proofs stdin stdout args data
-mkdir src
+begin derive_bench 'ks_hmac anyhow' ks_hmac
 cat > src/main.rt <<'END'
 //! Times 10 keys of 10,000 rounds.
 #![tactic(auto)]
@@ -57,18 +45,12 @@ fn main(rt: HostRuntime) -> anyhow::Result<()> {
     Ok(())
 }
 END
-rt run > log 2>&1 || { tail -20 log; exit 1; }
-for _ in 1 2 3 4 5 6 7; do
-    $one out/derive_bench | awk '{ printf "%.0f %s\n", $2 - $1, $3 }' >> ours
-    $one python3 "$work/derive.py" >> python
-done
-# Each says what its keys add up to.
-if [ "$(cut -d' ' -f2 ours python | sort -u | wc -l)" != 1 ]; then
-    echo 'derive: the keys differ'
-    exit 1
-fi
-ours=$(sort -n ours | head -1 | cut -d' ' -f1)
-python=$(sort -n python | head -1 | cut -d' ' -f1)
+run
+
+# Each prints a time and what the keys add up to.
+ours() { $one out/derive_bench | awk '{ printf "%.0f %s\n", $2 - $1, $3 }'; }
+python() { $one python3 "$work/derive.py"; }
+race 'the keys differ'
 echo "$ours $python" | awk '{
     printf "10,000 rounds: ks_hmac %.2f ms, hashlib %.2f ms; %.2f times its speed\n", $1 / 1e7, $2 / 1e7, $2 / $1
 }'

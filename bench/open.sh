@@ -4,11 +4,7 @@
 # from a program in a folder of its own, which goes afterwards; it is proved first, so a first run takes some
 # minutes.
 set -e
-top=$(cd "$(dirname "$0")/.." && pwd)
-work=$(mktemp -d)
-trap 'rm -rf "$work"' EXIT
-one=
-if command -v taskset > /dev/null; then one='taskset -c 0'; fi
+. "$(dirname "$0")/program.sh"
 
 # The tokens: 16 texts with their padding, since Fernet.decrypt asks for it. Their plain texts are of 80 to 95
 # bytes, as payloads are.
@@ -44,23 +40,7 @@ for token in TOKENS:
 print("];")
 ') > "$work/consts"
 
-mkdir "$work/crates"
-for crate in ks_base ks_aes_cbc ks_hmac ks_fernet; do
-    cp -r "$top/crates/$crate" "$work/crates/"
-done
-: > "$work/crates.txt"
-cd "$work"
-rt new crates/open_bench start_io > /dev/null
-cat > crates.txt <<'END'
-ks_base:
-ks_aes_cbc:
-ks_hmac: sha2
-ks_fernet: ks_base base64 ks_aes_cbc ks_hmac
-open_bench: ks_base ks_fernet anyhow
-END
-cd crates/open_bench
-rm -rf src specs proofs stdin stdout args data
-mkdir src
+begin open_bench 'ks_base ks_fernet anyhow' ks_base ks_aes_cbc ks_hmac ks_fernet
 cat > src/main.rt <<'END'
 //! Times opening 16 tokens 12,500 times.
 #![tactic(auto)]
@@ -98,18 +78,12 @@ fn main(rt: HostRuntime) -> anyhow::Result<()> {
     Ok(())
 }
 END
-rt run > log 2>&1 || { tail -20 log; exit 1; }
-for _ in 1 2 3 4 5 6 7; do
-    $one out/open_bench | awk '{ print ($2 - $1) / 200000, $3 / 200000 }' >> ours
-    (cd "$work" && $one python3 open.py) >> python
-done
-# Each says how long the plain texts are on average.
-if [ "$(cut -d' ' -f2 ours python | sort -u | wc -l)" != 1 ]; then
-    echo 'open: the plain texts differ'
-    exit 1
-fi
-ours=$(sort -n ours | head -1 | cut -d' ' -f1)
-python=$(sort -n python | head -1 | cut -d' ' -f1)
+run
+
+# Each prints a time and how long the plain texts are on average.
+ours() { $one out/open_bench | awk '{ print ($2 - $1) / 200000, $3 / 200000 }'; }
+python() { (cd "$work" && $one python3 open.py); }
+race 'the plain texts differ'
 echo "$ours $python" | awk '{
     printf "tokens opened a second: ks_fernet %.0f, Fernet.decrypt %.0f; ", 1e9 / $1, 1e9 / $2
     printf "%.2f times its speed\n", $2 / $1
