@@ -2,6 +2,10 @@
 -- still at its end.
 use Rattle.std.specs.Prelude.{ℕ, ◌+◌, ◌-◌, ◌^◌, ◌≤◌, min}
 
+-- a count that has not begun
+abbrev pub no_faults : ℕ
+no_faults = 0
+
 -- the count after one more
 abbrev pub next_count : ℕ → ℕ
 next_count count = min (count + 1) (2 ^ 64 - 1)

@@ -1,5 +1,9 @@
 -- What a told source gives and a told sink takes.
-use Rattle.std.specs.Prelude.{◌≡◌, ℕ, ◌≤◌, List, [], ◌++◌, length, take, drop, Option, Some, Result, Ok, Err}
+use Rattle.std.specs.Prelude.{◌≡◌, ℕ, ◌≤◌, List, [], ◌++◌, length, take, drop, Option, Some, None, Result, Ok, Err}
+
+-- what a stream holds, where it does not tell
+abbrev pub untold : Option (List ℕ)
+untold = None
 
 -- n bytes were taken from the front of `bytes` into the front of a piece, and the rest is left; there
 -- are none only at the end

@@ -22,6 +22,7 @@ mod real_sink;
 mod real_source;
 mod sink;
 mod source;
+mod stream;
 mod tcp_link;
 
 pub use desk::Desk;
@@ -41,6 +42,7 @@ pub use real_sink::RealSink;
 pub use real_source::RealSource;
 pub use sink::{Sink, write_all};
 pub use source::Source;
+pub use stream::Stream;
 pub use tcp_link::TcpLink;
 
 #[cfg(test)]

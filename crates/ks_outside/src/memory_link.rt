@@ -2,7 +2,7 @@ ghost use Rattle.std.specs.Prelude.{◌≡◌, ◌+◌, ◌-◌, ◌<◌, ◌≤
 ghost use Rattle.ks_outside.specs.Counts.{Rose, next_count};
 ghost use Rattle.ks_outside.specs.Streams.{Reads, taken};
 
-use crate::{Failed, MemorySink, MemorySource, Sink, Source};
+use crate::{Failed, MemorySink, MemorySource, Sink, Source, Stream};
 use std::marker::Model;
 
 /// A link in memory: what it gives to read, and what was written to it. Either side leaves the other as it
@@ -38,11 +38,17 @@ impl MemoryLink {
     }
 }
 
-impl Source for MemoryLink {
+impl Stream for MemoryLink {
     ghost left = { λ l. Some l.source.left };
 
-    ghost faults = { λ l. l.source.faults };
+    ghost written = { λ l. Some l.sink.written };
 
+    ghost read_faults = { λ l. l.source.faults };
+
+    ghost write_faults = { λ l. l.sink.faults };
+}
+
+impl Source for MemoryLink {
     /// Reads as its source does.
     fn read(&mut self, into: &mut [u8]) -> Result<usize, Failed>
         requires { 0 < length into.old }
@@ -50,6 +56,8 @@ impl Source for MemoryLink {
         ensures told { (bytes : List ℕ) → Some self.old.source.left ≡ Some bytes → Reads bytes (Some self.new.source.left) into.new result }
         ensures count { self.old.source.faults ≤ self.new.source.faults }
         ensures failed { IsErr result → Rose self.old.source.faults self.new.source.faults }
+        ensures written_kept { Some self.new.sink.written ≡ Some self.old.sink.written }
+        ensures writes_kept { self.new.sink.faults ≡ self.old.sink.faults }
 
         ensures fails { IsErr result ↔ Contains self.old.source.failing (self.old.source.calls + 1) }
         ensures came { IfOk result (λ n. n ≡ min (min self.old.source.longest (length into.old)) (length self.old.source.left)) }
@@ -64,10 +72,6 @@ impl Source for MemoryLink {
 }
 
 impl Sink for MemoryLink {
-    ghost written = { λ l. Some l.sink.written };
-
-    ghost faults = { λ l. l.sink.faults };
-
     /// Writes as its sink does.
     fn write(&mut self, piece: &[u8]) -> Result<usize, Failed>
         requires { 0 < length piece.now }
@@ -76,6 +80,8 @@ impl Sink for MemoryLink {
         ensures count { self.old.sink.faults ≤ self.new.sink.faults }
         ensures failed { IsErr result → Rose self.old.sink.faults self.new.sink.faults }
         ensures stuck { result ≡ Ok 0 → Rose self.old.sink.faults self.new.sink.faults }
+        ensures left_kept { Some self.new.source.left ≡ Some self.old.source.left }
+        ensures reads_kept { self.new.source.faults ≡ self.old.source.faults }
 
         ensures fails { IsErr result ↔ (Contains self.old.sink.failing (self.old.sink.calls + 1) ⊎ (length self.old.sink.written ≡ self.old.sink.room)) }
         ensures took { IfOk result (λ n. n ≡ min (min self.old.sink.longest (length piece.now)) (self.old.sink.room - length self.old.sink.written)) }

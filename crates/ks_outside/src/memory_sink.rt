@@ -1,9 +1,9 @@
 ghost use Rattle.std.specs.Prelude.{◌≡◌, ◌+◌, ◌-◌, ◌<◌, ◌≤◌, ◌++◌, ◌↔◌, ◌⊎◌, ℕ, List, Option, Some, [], length, min, take, Contains, IsErr, IfOk, OnErr};
-ghost use Rattle.ks_outside.specs.Counts.{Rose, next_count};
-ghost use Rattle.ks_outside.specs.Streams.{taken};
+ghost use Rattle.ks_outside.specs.Counts.{Rose, next_count, no_faults};
+ghost use Rattle.ks_outside.specs.Streams.{taken, untold};
 
 use crate::calls::Calls;
-use crate::{Failed, Sink};
+use crate::{Failed, Sink, Stream};
 use ks_base::Memory;
 use std::alloc::Global;
 use std::marker::Model;
@@ -58,11 +58,17 @@ impl MemorySink {
     }
 }
 
-impl Sink for MemorySink {
+impl Stream for MemorySink {
+    ghost left = { λ _. untold };
+
     ghost written = { λ s. Some s.written };
 
-    ghost faults = { λ s. s.faults };
+    ghost read_faults = { λ _. no_faults };
 
+    ghost write_faults = { λ s. s.faults };
+}
+
+impl Sink for MemorySink {
     /// Takes as many bytes as `longest`, the piece and the free room allow. A write that is to fail, or
     /// that finds no room, takes nothing. The counts of writes and of faults stand still at 2^64 - 1.
     fn write(&mut self, piece: &[u8]) -> Result<usize, Failed>
@@ -72,6 +78,8 @@ impl Sink for MemorySink {
         ensures count { self.old.faults ≤ self.new.faults }
         ensures failed { IsErr result → Rose self.old.faults self.new.faults }
         ensures stuck { result ≡ Ok 0 → Rose self.old.faults self.new.faults }
+        ensures left_kept { untold ≡ untold }
+        ensures reads_kept { no_faults ≡ no_faults }
 
         ensures fails { IsErr result ↔ (Contains self.old.failing (self.old.calls + 1) ⊎ (length self.old.written ≡ self.old.room)) }
         ensures took { IfOk result (λ n. n ≡ min (min self.old.longest (length piece.now)) (self.old.room - length self.old.written)) }

@@ -1,9 +1,9 @@
 ghost use Rattle.std.specs.Prelude.{◌≡◌, ◌+◌, ◌<◌, ◌≤◌, ◌++◌, ◌↔◌, ℕ, List, Option, Some, length, min, take, drop, Contains, IsErr, IfOk, OnErr};
-ghost use Rattle.ks_outside.specs.Counts.{Rose, next_count};
-ghost use Rattle.ks_outside.specs.Streams.{Reads};
+ghost use Rattle.ks_outside.specs.Counts.{Rose, next_count, no_faults};
+ghost use Rattle.ks_outside.specs.Streams.{Reads, untold};
 
 use crate::calls::Calls;
-use crate::{Failed, Source};
+use crate::{Failed, Source, Stream};
 use ks_base::Memory;
 use std::alloc::Global;
 use std::marker::Model;
@@ -49,11 +49,17 @@ impl MemorySource {
     }
 }
 
-impl Source for MemorySource {
+impl Stream for MemorySource {
     ghost left = { λ s. Some s.left };
 
-    ghost faults = { λ s. s.faults };
+    ghost written = { λ _. untold };
 
+    ghost read_faults = { λ s. s.faults };
+
+    ghost write_faults = { λ _. no_faults };
+}
+
+impl Source for MemorySource {
     /// Gives as many bytes as `longest`, the piece and what is left allow. A read that is to fail takes
     /// nothing. The counts of reads and of faults stand still at 2^64 - 1.
     fn read(&mut self, into: &mut [u8]) -> Result<usize, Failed>
@@ -62,6 +68,8 @@ impl Source for MemorySource {
         ensures told { (bytes : List ℕ) → Some self.old.left ≡ Some bytes → Reads bytes (Some self.new.left) into.new result }
         ensures count { self.old.faults ≤ self.new.faults }
         ensures failed { IsErr result → Rose self.old.faults self.new.faults }
+        ensures written_kept { untold ≡ untold }
+        ensures writes_kept { no_faults ≡ no_faults }
 
         ensures fails { IsErr result ↔ Contains self.old.failing (self.old.calls + 1) }
         ensures came { IfOk result (λ n. n ≡ min (min self.old.longest (length into.old)) (length self.old.left)) }

@@ -77,7 +77,16 @@ impl<R: Clock + RandomSource> Desk for RealDesk<'_, R> {
     }
 
     /// Closes the connection.
-    fn give_back(&mut self, _link: TcpLink) {}
+    fn give_back(&mut self, link: TcpLink)
+        requires { 0 < 1 }
+        ensures told { (returned : List LinkFaults) → None ≡ Some returned → None ≡ Some (returned ++ link ∷ []) }
+        ensures room { 1 ≤ 1 + 1 }
+        ensures kept { untold_desk self.new ≡ record (untold_desk self.old) { returned = None; link_room = 1 } }
+
+        ensures exact { self.new ≡ self.old }
+    {
+        drop(link);
+    }
 
     /// The clock, or the last reading again, at first 0, where it can't be read or stands before 1970.
     fn reading(&mut self) -> u64
@@ -112,12 +121,27 @@ impl<R: Clock + RandomSource> Desk for RealDesk<'_, R> {
     }
 
     /// There is always room, since no receipt is kept.
-    fn ready(&mut self) -> Result<(), Memory> {
+    fn ready(&mut self) -> Result<(), Memory>
+        ensures ok { OnOk result (0 < 1) }
+        ensures room { 1 ≤ 1 }
+        ensures kept { untold_desk self.new ≡ record (untold_desk self.old) { receipt_room = 1 } }
+
+        ensures exact { self.new ≡ self.old }
+    {
         Ok(())
     }
 
     /// Drops the receipt.
-    fn note(&mut self, _receipt: Receipt) {}
+    fn note(&mut self, receipt: Receipt)
+        requires { 0 < 1 }
+        ensures told { (receipts : List Receipt) → None ≡ Some receipts → None ≡ Some (receipts ++ receipt ∷ []) }
+        ensures room { 1 ≤ 1 + 1 }
+        ensures kept { untold_desk self.new ≡ record (untold_desk self.old) { receipts = None; receipt_room = 1 } }
+
+        ensures exact { self.new ≡ self.old }
+    {
+        drop(receipt);
+    }
 }
 
 /// The next connection. An accept that a signal interrupted is tried again, and so is one whose connection

@@ -1,9 +1,9 @@
-ghost use Rattle.std.specs.Prelude.{◌≡◌, ◌<◌, ◌≤◌, ◌++◌, ◌==◌, ℕ, List, Option, Some, None, length, IsErr, IfOk, OnErr, if◌then◌else◌};
+ghost use Rattle.std.specs.Prelude.{◌≡◌, ◌<◌, ◌≤◌, ◌++◌, ◌==◌, ℕ, List, Option, Some, length, IsErr, IfOk, OnErr, if◌then◌else◌};
 ghost use Rattle.std.specs.Io.KnownBytes.{WriteAppends};
-ghost use Rattle.ks_outside.specs.Counts.{Rose, next_count};
-ghost use Rattle.ks_outside.specs.Streams.{taken};
+ghost use Rattle.ks_outside.specs.Counts.{Rose, next_count, no_faults};
+ghost use Rattle.ks_outside.specs.Streams.{taken, untold};
 
-use crate::{Failed, Sink};
+use crate::{Failed, Sink, Stream};
 use std::io::{ErrorKind, Write};
 use std::marker::Model;
 
@@ -33,20 +33,28 @@ impl<W> RealSink<W> {
     }
 }
 
+impl<W> Stream for RealSink<W> {
+    ghost left = { λ _. untold };
+
+    ghost written = { λ _. untold };
+
+    ghost read_faults = { λ _. no_faults };
+
+    ghost write_faults = { λ s. s.faults };
+}
+
 impl<W: Write> Sink for RealSink<W> {
-    ghost written = { λ _. None };
-
-    ghost faults = { λ s. s.faults };
-
     /// Writes to the writer. A write that a signal interrupted is tried again; every other error is a
     /// fault, and so is a write that took nothing.
     fn write(&mut self, piece: &[u8]) -> Result<usize, Failed>
         requires { 0 < length piece.now }
         ensures within { IfOk result (λ n. n ≤ length piece.now) }
-        ensures told { (before : List ℕ) → None ≡ Some before → None ≡ Some (before ++ taken piece.now result) }
+        ensures told { (before : List ℕ) → untold ≡ Some before → untold ≡ Some (before ++ taken piece.now result) }
         ensures count { self.old.faults ≤ self.new.faults }
         ensures failed { IsErr result → Rose self.old.faults self.new.faults }
         ensures stuck { result ≡ Ok 0 → Rose self.old.faults self.new.faults }
+        ensures left_kept { untold ≡ untold }
+        ensures reads_kept { no_faults ≡ no_faults }
 
         // The count rises at a fault alone. What the writer itself tells is what was written to it.
         ensures ok { IfOk result (λ n. self.new.faults ≡ (if n == 0 then next_count self.old.faults else self.old.faults)) }

@@ -1,9 +1,9 @@
-ghost use Rattle.std.specs.Prelude.{◌≡◌, ◌<◌, ◌≤◌, ℕ, List, Option, Some, None, length, is_ok, IsErr, IfOk, if◌then◌else◌};
+ghost use Rattle.std.specs.Prelude.{◌≡◌, ◌<◌, ◌≤◌, ℕ, List, Option, Some, length, is_ok, IsErr, IfOk, if◌then◌else◌};
 ghost use Rattle.std.specs.Io.KnownBytes.{ReadConsumes};
-ghost use Rattle.ks_outside.specs.Counts.{Rose, next_count};
-ghost use Rattle.ks_outside.specs.Streams.{Reads};
+ghost use Rattle.ks_outside.specs.Counts.{Rose, next_count, no_faults};
+ghost use Rattle.ks_outside.specs.Streams.{Reads, untold};
 
-use crate::{Failed, Source};
+use crate::{Failed, Source, Stream};
 use std::io::{ErrorKind, Read};
 use std::marker::Model;
 
@@ -32,19 +32,27 @@ impl<R> RealSource<R> {
     }
 }
 
+impl<R> Stream for RealSource<R> {
+    ghost left = { λ _. untold };
+
+    ghost written = { λ _. untold };
+
+    ghost read_faults = { λ s. s.faults };
+
+    ghost write_faults = { λ _. no_faults };
+}
+
 impl<R: Read> Source for RealSource<R> {
-    ghost left = { λ _. None };
-
-    ghost faults = { λ s. s.faults };
-
     /// Reads from the reader. A read that a signal interrupted is tried again; every other error is a
     /// fault.
     fn read(&mut self, into: &mut [u8]) -> Result<usize, Failed>
         requires { 0 < length into.old }
         ensures within { IfOk result (λ n. n ≤ length into.old) }
-        ensures told { (bytes : List ℕ) → None ≡ Some bytes → Reads bytes None into.new result }
+        ensures told { (bytes : List ℕ) → untold ≡ Some bytes → Reads bytes untold into.new result }
         ensures count { self.old.faults ≤ self.new.faults }
         ensures failed { IsErr result → Rose self.old.faults self.new.faults }
+        ensures written_kept { untold ≡ untold }
+        ensures writes_kept { no_faults ≡ no_faults }
 
         // The count rises at a fault alone. What the reader itself tells is what was read from it.
         ensures exact { self.new.faults ≡ (if is_ok result then self.old.faults else next_count self.old.faults) }

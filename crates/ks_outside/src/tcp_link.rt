@@ -1,10 +1,10 @@
-ghost use Rattle.std.specs.Prelude.{◌≡◌, ◌<◌, ◌≤◌, ◌++◌, ◌==◌, ℕ, List, Some, None, length, is_ok, IsErr, IfOk, OnErr, if◌then◌else◌};
+ghost use Rattle.std.specs.Prelude.{◌≡◌, ◌<◌, ◌≤◌, ◌++◌, ◌==◌, ℕ, List, Some, length, is_ok, IsErr, IfOk, OnErr, if◌then◌else◌};
 ghost use Rattle.ks_outside.specs.Counts.{Rose, next_count};
-ghost use Rattle.ks_outside.specs.Streams.{Reads, taken};
+ghost use Rattle.ks_outside.specs.Streams.{Reads, taken, untold};
 
 use crate::real_sink::write_uninterrupted;
 use crate::real_source::read_uninterrupted;
-use crate::{Failed, Sink, Source};
+use crate::{Failed, Sink, Source, Stream};
 use std::marker::Model;
 use std::net::TcpStream;
 
@@ -38,19 +38,27 @@ impl TcpLink {
     }
 }
 
+impl Stream for TcpLink {
+    ghost left = { λ _. untold };
+
+    ghost written = { λ _. untold };
+
+    ghost read_faults = { λ l. l.reads };
+
+    ghost write_faults = { λ l. l.writes };
+}
+
 impl Source for TcpLink {
-    ghost left = { λ _. None };
-
-    ghost faults = { λ l. l.reads };
-
     /// Reads from the connection. A read that a signal interrupted is tried again; every other error is a
     /// fault.
     fn read(&mut self, into: &mut [u8]) -> Result<usize, Failed>
         requires { 0 < length into.old }
         ensures within { IfOk result (λ n. n ≤ length into.old) }
-        ensures told { (bytes : List ℕ) → None ≡ Some bytes → Reads bytes None into.new result }
+        ensures told { (bytes : List ℕ) → untold ≡ Some bytes → Reads bytes untold into.new result }
         ensures count { self.old.reads ≤ self.new.reads }
         ensures failed { IsErr result → Rose self.old.reads self.new.reads }
+        ensures written_kept { untold ≡ untold }
+        ensures writes_kept { self.new.writes ≡ self.old.writes }
 
         // The count rises at a fault alone.
         ensures exact { self.new ≡ record self.old { reads = (if is_ok result then self.old.reads else next_count self.old.reads) } }
@@ -64,19 +72,17 @@ impl Source for TcpLink {
 }
 
 impl Sink for TcpLink {
-    ghost written = { λ _. None };
-
-    ghost faults = { λ l. l.writes };
-
     /// Writes to the connection. A write that a signal interrupted is tried again; every other error is a
     /// fault, and so is a write that took nothing.
     fn write(&mut self, piece: &[u8]) -> Result<usize, Failed>
         requires { 0 < length piece.now }
         ensures within { IfOk result (λ n. n ≤ length piece.now) }
-        ensures told { (before : List ℕ) → None ≡ Some before → None ≡ Some (before ++ taken piece.now result) }
+        ensures told { (before : List ℕ) → untold ≡ Some before → untold ≡ Some (before ++ taken piece.now result) }
         ensures count { self.old.writes ≤ self.new.writes }
         ensures failed { IsErr result → Rose self.old.writes self.new.writes }
         ensures stuck { result ≡ Ok 0 → Rose self.old.writes self.new.writes }
+        ensures left_kept { untold ≡ untold }
+        ensures reads_kept { self.new.reads ≡ self.old.reads }
 
         // The count rises at a fault alone.
         ensures ok { IfOk result (λ n. self.new ≡ record self.old { writes = (if n == 0 then next_count self.old.writes else self.old.writes) }) }

@@ -1,4 +1,4 @@
-use Rattle.std.proofs.Common.{◌++◌, take, arith}
+use Rattle.std.proofs.Common.{◌++◌, ◌∙◌, take, arith}
 use Rattle.std.proofs.lemmas.Result.{err_from_is_err_and}
 use Rattle.ks_outside.proofs.Writes.{split_more, written_more, written_none, written_zero}
 use Rattle.ks_outside.proofs.sink.write_all.Goals as goal
@@ -27,4 +27,6 @@ writes-preserved g c = record {
         written_more _ before t.0 part (c.in_ok-count.ensures.told (before ++ t.0) t.2),
       );
   count = omega (arith, c.writes.invariant.count, c.write.ensures.count);
+  left_kept = c.write.ensures.left_kept ∙ c.writes.invariant.left_kept;
+  reads_kept = c.write.ensures.reads_kept ∙ c.writes.invariant.reads_kept;
 }
