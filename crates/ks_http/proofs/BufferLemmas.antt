@@ -1,7 +1,10 @@
 -- The bytes in hand and those that are still to come.
-use Rattle.std.proofs.Common.{◌≡◌, ◌≢◌, ℕ, ◌+◌, ◌<◌, ◌≤◌, List, [], ◌++◌, length, take, drop, Option, Some, Result, Ok, Err, inl, inr, refl, sym, ap, ◌∙◌, subst, arith, append_assoc}
+use Rattle.std.proofs.Common.{◌≡◌, ◌≢◌, ℕ, ◌+◌, ◌<◌, ◌≤◌, List, [], ◌++◌, length, get_or, take, drop, min, ◌==◌, Bool, false, Option, Some, Result, Ok, Err, inl, inr, refl, sym, ap, ◌∙◌, subst, arith, append_assoc}
 use Rattle.std.specs.Prelude.{All}
-use Rattle.std.proofs.lemmas.List.{append-nil, length-take, take_all, take-append-le, take-append-drop, drop-append-le, length-append}
+use Rattle.std.specs.List.{list_any}
+use Rattle.std.proofs.lemmas.List.Folds.{list_any_at}
+use Rattle.ks_http.proofs.Basics.{false_from_not}
+use Rattle.std.proofs.lemmas.List.{append-nil, drop_min, length-take, take_all, take-append-le, take-append-drop, drop-append-le, length-append}
 use Rattle.std.proofs.Math.Seq.{drop-append_seam}
 use Rattle.httparse.specs.Grammar.{ReadsRequest, print_request}
 use Rattle.httparse.specs.Spans.{IsHeaderWithin}
@@ -16,8 +19,9 @@ use Rattle.ks_http.specs.declared.look.Look.TheVariants.{Whole, Refused, More}
 use Rattle.ks_http.specs.declared.opening.Opening.{Opening}
 use Rattle.ks_http.specs.Heads.{opening_of}
 use Rattle.ks_http.specs.Says.{Refuses}
-use Rattle.ks_http.specs.Next.{BeginsWith, HasNoHead, IsRefused, headless, by_head, in_body, Ends, Comes, request_of}
-use Rattle.ks_http.specs.Buffers.{Fills, Filled, Finds, Looks, Glances, IsHeadAt, FindsHead, Stands, FillsTo, OpensAt, Taken, TakesBody}
+use Rattle.ks_http.specs.Next.{BeginsWith, IsRefused, headless, by_head, in_body, Ends, Comes, request_of}
+use Rattle.ks_http.proofs.WaitLemmas.{begun}
+use Rattle.ks_http.specs.Buffers.{Fills, Filled, Finds, Looks, Glances, IsHeadAt, IsUndecided, FindsHead, Stands, FillsTo, OpensAt, Taken, TakesBody}
 
 window_seam : (held rest : List ℕ) → take 16384 held ++ (drop 16384 held ++ rest) ≡ held ++ rest
 window_seam held rest = sym (append_assoc (take 16384 held) (drop 16384 held) rest) ∙ ap (λ l. l ++ rest) (take-append-drop 16384 held)
@@ -28,6 +32,19 @@ short_window held lt = let n = length-take 16384 held in omega arith
 pub not_full : (held : List ℕ) → length (take 16384 held) ≢ 16384 → length held < 16384
 not_full held ne = let n = length-take 16384 held in omega arith
 
+all_fail : (p : ℕ → Bool) (xs : List ℕ) → list_any p xs ≡ false → All (λ b. p b ≡ false) xs
+all_fail p xs none = λ k d lt. false_from_not (p (get_or xs k d)) (λ yes. let some = list_any_at p xs k d lt yes in cc)
+
+-- a look would see no line feed that was not there before
+pub no_feed_in : (held window fresh : List ℕ) (before at : ℕ) (found : Bool) → window ≡ take 16384 held → length window ≢ 16384 → at ≡ min before (length window)
+    → fresh ≡ drop at window → found ≡ list_any (λ b. b == 10) fresh → found ≡ false → All (λ b. (b == 10) ≡ false) (drop before held)
+no_feed_in held window fresh before at found w short a f found_is none =
+    let n = length-take 16384 held in
+    let m = ap (λ l. length l) w in
+    let all : window ≡ held = w ∙ take_all 16384 held (omega arith) in
+    let same : fresh ≡ drop before held = f ∙ (ap (λ k. drop k window) a ∙ (drop_min before window ∙ ap (λ l. drop before l) all)) in
+    subst (λ l. All (λ b. (b == 10) ≡ false) l) same (all_fail (λ b. b == 10) fresh (sym found_is ∙ none))
+
 pub looks : (held : List ℕ) (headers : List HeaderSpan) (look : Look) → Finds (take 16384 held) headers look → Looks held headers look
 looks held headers (Whole spans) f = f
 looks held headers (Refused cause) f = λ rest.
@@ -35,12 +52,12 @@ looks held headers (Refused cause) f = λ rest.
     subst (λ b. IsRefused b cause) (window_seam held rest) (headless at.0 at.1)
 looks held headers More f =
     let short = short_window held f.1 in
-    (subst (λ b. HasNoHead b) (take_all 16384 held (omega arith)) f.0, short)
+    (subst (λ b. IsUndecided b) (take_all 16384 held (omega arith)) f.0, short)
 
-pub glances : (held : List ℕ) (headers : List HeaderSpan) (look : Look) → Looks held headers look → Glances held headers look
-glances held headers (Whole spans) f = f
-glances held headers (Refused cause) f = f
-glances held headers More f = f.1
+pub glances : (held : List ℕ) (before : ℕ) (headers : List HeaderSpan) (look : Look) → Looks held headers look → Glances held before headers look
+glances held before headers (Whole spans) f = f
+glances held before headers (Refused cause) f = f
+glances held before headers More f = (λ u. f.0, f.1)
 
 pub stands_at_first : (held left : List ℕ) (o : Option (List ℕ)) → o ≡ Some left → Stands (held ++ left) held o
 stands_at_first held left o e = record { rest = left; left_is = e; whole_is = refl }
@@ -55,17 +72,21 @@ all_in_hand whole held new left after count s f none =
     let e = f.ended none in
     (sym (append-nil new) ∙ (ap (λ r. new ++ r) (sym e) ∙ (sym f.same ∙ s.whole_is)), f.left_is ∙ ap (λ r. Some r) e)
 
-pub fill_ends : (held left new : List ℕ) (after : Option (List ℕ)) (e : Ending) (whole : List ℕ) → Fills held left new after (Err e) → Ends whole after e
-fill_ends held left new after End whole f = absurd f
-fill_ends held left new after (Bad cause) whole f = absurd f
-fill_ends held left new after ReadFault whole f = tt
-fill_ends held left new after Memory whole f = tt
+pub fill_ends : (whole held new : List ℕ) (left after : Option (List ℕ)) (e : Ending) (s : Stands whole held left) → IsUndecided held
+    → Fills held s.rest new after (Err e) → Ends whole after e
+fill_ends whole held new left after End s u f = absurd f
+fill_ends whole held new left after (Bad cause) s u f = absurd f
+fill_ends whole held new left after ReadFault s u f = record { read = held; rest = s.rest; left_is = f.1; bytes_is = sym s.whole_is; begun = begun held u }
+fill_ends whole held new left after Memory s u f = tt
 
-pub fill_stops : (held left new : List ℕ) (after : Option (List ℕ)) (e : Ending) (whole : List ℕ) (size : ℕ) → Fills held left new after (Err e) → FillsTo whole size new after (Err e)
-fill_stops held left new after End whole size f = absurd f
-fill_stops held left new after (Bad cause) whole size f = absurd f
-fill_stops held left new after ReadFault whole size f = tt
-fill_stops held left new after Memory whole size f = tt
+pub fill_stops : (whole held new : List ℕ) (left after : Option (List ℕ)) (e : Ending) (size : ℕ) (s : Stands whole held left) → length held < size
+    → Fills held s.rest new after (Err e) → FillsTo whole size new after (Err e)
+fill_stops whole held new left after End size s few f = absurd f
+fill_stops whole held new left after (Bad cause) size s few f = absurd f
+fill_stops whole held new left after ReadFault size s few f =
+    let same = ap (λ l. length l) f.0 in
+    (record { rest = s.rest; left_is = f.1; whole_is = ap (λ l. l ++ s.rest) f.0 ∙ s.whole_is }, omega arith)
+fill_stops whole held new left after Memory size s few f = tt
 
 pub finds_whole : (whole held : List ℕ) (left : Option (List ℕ)) (headers : List HeaderSpan) (spans : RequestSpans) → Stands whole held left
     → IsHeadAt (take 16384 held) headers spans → FindsHead whole held left headers (Ok spans)
@@ -82,14 +103,11 @@ finds_last whole held left headers r w l f = subst (λ o. FindsHead whole held o
 pub short_whole : (whole held new : List ℕ) (size count : ℕ) → new ≡ whole → length new ≡ length held + count → count ≡ 0 → length held < size → length whole < size
 short_whole whole held new size count e l z lt = let n = ap (λ b. length b) e in omega arith
 
-body_stops : (whole held new : List ℕ) (size : ℕ) (left : Option (List ℕ)) (e : Ending) → FillsTo whole size held left (Err e) → TakesBody whole size new left (Err e)
-body_stops whole held new size left End f = absurd f
-body_stops whole held new size left (Bad cause) f = f
-body_stops whole held new size left ReadFault f = tt
-body_stops whole held new size left Memory f = tt
-
-pub stops_body : (whole held new : List ℕ) (size : ℕ) (left : Option (List ℕ)) (e : Ending) → FillsTo whole size held left (Err e) → TakesBody whole size new left (Err e)
-stops_body = body_stops
+pub stops_body : (whole held : List ℕ) (size : ℕ) (left : Option (List ℕ)) (e : Ending) → FillsTo whole size held left (Err e) → TakesBody whole size held left (Err e)
+stops_body whole held size left End f = absurd f
+stops_body whole held size left (Bad cause) f = f
+stops_body whole held size left ReadFault f = f
+stops_body whole held size left Memory f = tt
 
 pub takes : (whole held new body : List ℕ) (size : ℕ) (left : Option (List ℕ)) → Stands whole held left → size ≤ length held → body ≡ take size held → new ≡ drop size held
     → Taken whole size new left body
@@ -158,7 +176,20 @@ pub body_ends : (whole held new : List ℕ) (left after : Option (List ℕ)) (o 
     → TakesBody (held ++ f.0) o.length new after (Err e) → Ends whole after e
 body_ends whole held new left after o End f t = absurd t
 body_ends whole held new left after o (Bad cause) f t = inr (in_body o (held ++ f.0) f.2 t.1, t.0, t.2)
-body_ends whole held new left after o ReadFault f t = tt
+body_ends whole held new left after o ReadFault f t =
+    let head = f.2.head in
+    let begins = f.2.begins in
+    record {
+      read = print_request head ++ new;
+      rest = t.0.rest;
+      left_is = t.0.left_is;
+      bytes_is = begins.reads.1 ∙ (ap (λ l. print_request head ++ l) (sym t.0.whole_is) ∙ sym (append_assoc (print_request head) new t.0.rest));
+      begun = inr (in_body o new (record {
+        head = head;
+        begins = record { reads = (begins.reads.0, refl); short = begins.short; few = begins.few };
+        says = f.2.says;
+      }) t.1);
+    }
 body_ends whole held new left after o Memory f t = tt
 
 pub all_within : (m n : ℕ) (spans : List HeaderSpan) → m ≤ n → All (IsHeaderWithin m) spans → All (IsHeaderWithin n) spans

@@ -1,7 +1,7 @@
 -- What a look at the bytes so far says of the bytes however they go on.
-use Rattle.std.proofs.Common.{◌≡◌, ℕ, ◌≤◌, List, [], ◌++◌, length, take, drop, map, min, sym, ap, ◌∙◌, subst, arith}
-use Rattle.std.proofs.lemmas.List.{append-nil, length-take, length-map, take-append-le, take-append-drop}
-use Rattle.std.proofs.Math.Seq.{take-append_seam}
+use Rattle.std.proofs.Common.{◌≡◌, ℕ, ◌≤◌, List, [], ◌++◌, length, take, drop, map, min, inl, inr, ap, ◌∙◌, subst, arith}
+use Rattle.std.proofs.lemmas.Bool.{cases_lt}
+use Rattle.std.proofs.lemmas.List.{append-nil, length-take, length-map}
 use Rattle.httparse.specs.Grammar.{RequestHead, HasNoRequest, print_request}
 use Rattle.httparse.specs.Spans.{IsRequestAt, IsRequestOf, IsRequestWithin, RequestOverflows, header_bytes, name_and_value}
 use Rattle.httparse.specs.declared.spans.HeaderSpan.{HeaderSpan}
@@ -11,6 +11,7 @@ use Rattle.ks_http.specs.declared.look.Look.TheVariants.{Whole, Refused, More}
 use Rattle.ks_http.specs.Next.{HasNoHead}
 use Rattle.ks_http.specs.Buffers.{IsHeadAt, Finds, Judged}
 use Rattle.ks_http.proofs.ScanLemmas.{unsettled_short, settled_stays}
+use Rattle.ks_http.proofs.WaitLemmas.{front_of, none_settled}
 
 few_fields : (buf : List ℕ) (headers : List HeaderSpan) (spans : RequestSpans) (h : RequestHead) → IsRequestAt buf headers spans h
     → length headers ≤ 64 → length h.fields ≤ 64
@@ -35,11 +36,6 @@ head_at bytes headers spans short room within of = record {
 pub none_over : (bytes more : List ℕ) (room : ℕ) → 64 ≤ room → RequestOverflows room bytes → HasNoHead (bytes ++ more)
 none_over bytes more room le over = λ head after begins. let many = over more head after begins.reads in let few = begins.few in omega arith
 
-front_of : (bytes more head after : List ℕ) → bytes ++ more ≡ head ++ after → length head ≤ length bytes → bytes ≡ head ++ drop (length head) bytes
-front_of bytes more head after same short =
-    let front : take (length head) bytes ≡ head = sym (take-append-le (length head) bytes more short) ∙ (ap (λ l. take (length head) l) same ∙ take-append_seam head after) in
-    sym (take-append-drop (length head) bytes) ∙ ap (λ l. l ++ drop (length head) bytes) front
-
 pub none_full : (bytes more : List ℕ) → HasNoRequest bytes → 16384 ≤ length bytes → HasNoHead (bytes ++ more)
 none_full bytes more none full = λ head after begins.
     let short : length (print_request head) ≤ length bytes = let s = begins.short in omega arith in
@@ -52,12 +48,18 @@ judged : (bytes : List ℕ) (headers : List HeaderSpan) (look : Look) → length
     → Judged bytes look → Finds bytes headers look
 judged bytes headers (Whole spans) short none j = absurd j
 judged bytes headers (Refused cause) short none j = λ more. (none more, settled_stays bytes more cause short j)
-judged bytes headers More short none j = (subst (λ b. HasNoHead b) (append-nil bytes) (none []), unsettled_short bytes short j)
+judged bytes headers More short none j =
+    (record { headless = subst (λ b. HasNoHead b) (append-nil bytes) (none []); unsettled = j }, unsettled_short bytes short j)
 
 pub finds_over : (bytes : List ℕ) (headers : List HeaderSpan) (look : Look) (room : ℕ) → length bytes ≤ 16384 → 64 ≤ room → RequestOverflows room bytes
     → Judged bytes look → Finds bytes headers look
 finds_over bytes headers look room short le over j = judged bytes headers look short (λ more. none_over bytes more room le over) j
 
-pub finds_full : (bytes : List ℕ) (headers : List HeaderSpan) (look : Look) → length bytes ≤ 16384 → HasNoRequest bytes → 16384 ≤ length bytes
+pub finds_partial : (bytes : List ℕ) (headers : List HeaderSpan) (look : Look) → length bytes ≤ 16384 → HasNoRequest bytes
     → Judged bytes look → Finds bytes headers look
-finds_full bytes headers look short none full j = judged bytes headers look short (λ more. none_full bytes more none full) j
+finds_partial bytes headers (Whole spans) short none j = absurd j
+finds_partial bytes headers (Refused cause) short none j = λ more. elim (cases_lt (length bytes) 16384) [
+  | inl lt ↦ (none_settled bytes more cause lt none j, settled_stays bytes more cause short j)
+  | inr le ↦ (none_full bytes more none le, settled_stays bytes more cause short j)
+]
+finds_partial bytes headers More short none j = (record { headless = none_yet bytes none; unsettled = j }, unsettled_short bytes short j)

@@ -15,15 +15,15 @@ use Rattle.ks_http.proofs.Cuts.{cut_some, cut_none}
 abbrev pub at : Place → List ℕ → Reached
 at place line = record { place = place; line = line }
 
-behind_other : (place : Place) (line : List ℕ) (b : ℕ) → (b == 10) ≡ false → behind_byte (at place line) b ≡ at place (line ++ b ∷ [])
+pub behind_other : (place : Place) (line : List ℕ) (b : ℕ) → (b == 10) ≡ false → behind_byte (at place line) b ≡ at place (line ++ b ∷ [])
 unfolding behind_byte
 behind_other place line b other = rw other refl
 
-behind_feed : (place : Place) (line : List ℕ) → behind_byte (at place line) 10 ≡ at (behind_line place line) []
+pub behind_feed : (place : Place) (line : List ℕ) → behind_byte (at place line) 10 ≡ at (behind_line place line) []
 unfolding behind_byte
 behind_feed place line = refl
 
-clear_line : (place : Place) (before line : List ℕ) → All (λ b. (b == 10) ≡ false) line → fold behind_byte (at place before) line ≡ at place (before ++ line)
+pub clear_line : (place : Place) (before line : List ℕ) → All (λ b. (b == 10) ≡ false) line → fold behind_byte (at place before) line ≡ at place (before ++ line)
 clear_line place before [] clear = ap (at place) (sym (append-nil before))
 clear_line place before (b ∷ line) clear =
     ap (λ r. fold behind_byte r line) (behind_other place before b (clear 0 0 (omega arith)))
@@ -50,16 +50,16 @@ unfolding behind_byte
 refused_byte cause line b true e = rw e (refused_line cause line)
 refused_byte cause line b false e = rw e refl
 
-stays_refused : (cause : HttpCause) (r : Reached) (bytes : List ℕ) → r.place ≡ Refused cause → (fold behind_byte r bytes).place ≡ Refused cause
+pub stays_refused : (cause : HttpCause) (r : Reached) (bytes : List ℕ) → r.place ≡ Refused cause → (fold behind_byte r bytes).place ≡ Refused cause
 stays_refused cause r [] e = e
 stays_refused cause r (b ∷ bytes) e =
     stays_refused cause (behind_byte r b) bytes (ap (λ p. (behind_byte (at p r.line) b).place) e ∙ refused_byte cause r.line b (b == 10) refl)
 
-full_short : (count : ℕ) (place : Place) (line : List ℕ) → count < most → full_cause count place line ≡ None
+pub full_short : (count : ℕ) (place : Place) (line : List ℕ) → count < most → full_cause count place line ≡ None
 unfolding full_cause
 full_short count place line lt = let t : nat_lt count most ≡ true = grind (arith, nat_tests) in rw t refl
 
-short_refused : (count : ℕ) (place : Place) (line : List ℕ) (cause : HttpCause) → count < most → cause_behind count place line ≡ Some cause → place ≡ Refused cause
+pub short_refused : (count : ℕ) (place : Place) (line : List ℕ) (cause : HttpCause) → count < most → cause_behind count place line ≡ Some cause → place ≡ Refused cause
 unfolding cause_behind
 short_refused count Start line cause lt e = let n = full_short count Start line lt in cc
 short_refused count (Fields k) line cause lt e = let n = full_short count (Fields k) line lt in cc

@@ -24,7 +24,7 @@ abbrev pub Fills : List ℕ → List ℕ → List ℕ → Option (List ℕ) → 
 Fills held left new after (Ok count) = Filled held left new after count
 Fills held left new after (Err End) = ⊥
 Fills held left new after (Err (Bad cause)) = ⊥
-Fills held left new after (Err ReadFault) = ⊤
+Fills held left new after (Err ReadFault) = (new ≡ held) × (after ≡ Some left)
 Fills held left new after (Err Memory) = ⊤
 
 -- the spans are those of a head at the front of the bytes
@@ -33,12 +33,17 @@ pub record IsHeadAt (bytes : List ℕ) (headers : List HeaderSpan) (spans : Requ
   pub begins : BeginsWith bytes head (drop spans.len bytes)
   pub at : IsRequestAt bytes headers spans head
 
+-- no head stands at the front of the bytes, and no cause is settled yet
+pub record IsUndecided (bytes : List ℕ) : Type 0 where
+  pub headless : HasNoHead bytes
+  pub unsettled : settled_cause bytes ≡ None
+
 -- what a look finds holds of the bytes however they go on, but that more are awaited
 abbrev pub Finds : List ℕ → List HeaderSpan → Look → Type 0
 Finds bytes headers (Whole spans) = IsHeadAt bytes headers spans
 Finds bytes headers (Refused cause) =
     (more : List ℕ) → HasNoHead (bytes ++ more) × (settled_cause (bytes ++ more) ≡ Some cause)
-Finds bytes headers More = HasNoHead bytes × (length bytes < 16384)
+Finds bytes headers More = IsUndecided bytes × (length bytes < 16384)
 
 -- the cause that is settled, or that none is yet
 abbrev pub Judged : List ℕ → Look → Type 0
@@ -56,13 +61,13 @@ FindsWithin bytes headers More = ⊤
 abbrev pub Looks : List ℕ → List HeaderSpan → Look → Type 0
 Looks held headers (Whole spans) = IsHeadAt (take 16384 held) headers spans
 Looks held headers (Refused cause) = (rest : List ℕ) → IsRefused (held ++ rest) cause
-Looks held headers More = HasNoHead held × (length held < 16384)
+Looks held headers More = IsUndecided held × (length held < 16384)
 
--- where no look was worth it, more are awaited
-abbrev pub Glances : List ℕ → List HeaderSpan → Look → Type 0
-Glances held headers (Whole spans) = IsHeadAt (take 16384 held) headers spans
-Glances held headers (Refused cause) = (rest : List ℕ) → IsRefused (held ++ rest) cause
-Glances held headers More = length held < 16384
+-- the same, where the first `before` bytes were looked at
+abbrev pub Glances : List ℕ → ℕ → List HeaderSpan → Look → Type 0
+Glances held before headers (Whole spans) = IsHeadAt (take 16384 held) headers spans
+Glances held before headers (Refused cause) = (rest : List ℕ) → IsRefused (held ++ rest) cause
+Glances held before headers More = (IsUndecided (take before held) → IsUndecided held) × (length held < 16384)
 
 -- the search for a head in these bytes ended so
 abbrev pub FindsHead : List ℕ → List ℕ → Option (List ℕ) → List HeaderSpan → Result RequestSpans Ending → Type 0
@@ -85,7 +90,7 @@ abbrev pub FillsTo : List ℕ → ℕ → List ℕ → Option (List ℕ) → Res
 FillsTo bytes size held left (Ok done) = Stands bytes held left
 FillsTo bytes size held left (Err End) = ⊥
 FillsTo bytes size held left (Err (Bad cause)) = (cause ≡ Malformed) × (length bytes < size) × (left ≡ Some [])
-FillsTo bytes size held left (Err ReadFault) = ⊤
+FillsTo bytes size held left (Err ReadFault) = Stands bytes held left × (length held < size)
 FillsTo bytes size held left (Err Memory) = ⊤
 
 -- a body of so many bytes was taken from the front
@@ -100,5 +105,5 @@ abbrev pub TakesBody : List ℕ → ℕ → List ℕ → Option (List ℕ) → R
 TakesBody bytes count held left (Ok body) = Taken bytes count held left body
 TakesBody bytes count held left (Err End) = ⊥
 TakesBody bytes count held left (Err (Bad cause)) = (cause ≡ Malformed) × (length bytes < count) × (left ≡ Some [])
-TakesBody bytes count held left (Err ReadFault) = ⊤
+TakesBody bytes count held left (Err ReadFault) = Stands bytes held left × (length held < count)
 TakesBody bytes count held left (Err Memory) = ⊤

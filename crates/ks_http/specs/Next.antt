@@ -58,11 +58,19 @@ pub data IsCut (bytes : List ℕ) : Type 0 where
   in_head : HasNoHead bytes → settled_cause bytes ≡ None → bytes ≢ [] → IsCut bytes
   in_body : (opening : Opening) (after : List ℕ) → Opens bytes (Ok opening) after → length after < opening.length → IsCut bytes
 
+-- a read failed: what was read of these bytes is nothing or the beginning of a request, and `left` is what follows it
+pub record IsBegun (bytes : List ℕ) (left : Option (List ℕ)) : Type 0 where
+  pub read : List ℕ
+  pub rest : List ℕ
+  pub left_is : left ≡ Some rest
+  pub bytes_is : bytes ≡ read ++ rest
+  pub begun : (read ≡ []) ⊎ IsCut read
+
 -- why no request comes from these bytes, of which `left` is still unread
 abbrev pub Ends : List ℕ → Option (List ℕ) → Ending → Type 0
 Ends bytes left ending.End = (bytes ≡ []) × (left ≡ Some [])
 Ends bytes left (ending.Bad cause) = IsRefused bytes cause ⊎ (IsCut bytes × (cause ≡ Malformed) × (left ≡ Some []))
-Ends bytes left ending.ReadFault = ⊤
+Ends bytes left ending.ReadFault = IsBegun bytes left
 Ends bytes left ending.Memory = ⊤
 
 -- what comes first from these bytes, of which `held` and `left` are what then remains

@@ -7,7 +7,7 @@ use crate::lines::MOST_FIELDS;
 use crate::look::{Look, look_for_head};
 use crate::opening::Opening;
 use crate::request::Request;
-use crate::scan::{LONGEST_HEAD, settled_cause};
+use crate::scan::LONGEST_HEAD;
 use httparse::spans::{EMPTY_HEADER_SPAN, HeaderSpan, RequestSpans};
 use ks_base::{Bytes, Memory};
 use ks_outside::Source;
@@ -32,14 +32,14 @@ impl Model for Buffer {
 }
 
 impl Buffer {
-    ghost use Rattle.std.specs.Prelude.{◌≡◌, ◌≢◌, ◌+◌, ◌<◌, ◌≤◌, ◌++◌, ℕ, List, [], Some, length, take, drop, IfOk, OnOk, OnErr, IsErrOf, false};
+    ghost use Rattle.std.specs.Prelude.{◌≡◌, ◌≢◌, ◌+◌, ◌<◌, ◌≤◌, ◌++◌, ℕ, List, [], Some, length, take, drop, IfOk, OnOk, OnErr, IsErrOf, All, ◌==◌, false};
     ghost use Rattle.httparse.specs.Grammar.{RequestHead};
     ghost use Rattle.httparse.specs.Spans.{IsRequestWithin, IsRequestAt};
     ghost use Rattle.ks_outside.specs.Counts.{Rose};
-    ghost use Rattle.ks_http.specs.Buffers.{Fills, FillsTo, Looks, Glances, FindsWithin, FindsHead, OpensAt, TakesBody};
+    ghost use Rattle.ks_http.specs.Buffers.{Fills, FillsTo, IsUndecided, Looks, Glances, FindsWithin, FindsHead, OpensAt, TakesBody};
     ghost use Rattle.ks_http.specs.Heads.{opening_of};
     ghost use Rattle.ks_http.specs.Says.{Says};
-    ghost use Rattle.ks_http.specs.Next.{HasNoHead, Ends, Comes};
+    ghost use Rattle.ks_http.specs.Next.{Ends, Comes};
 
     /// Before the first byte.
     pub fn new(alloc: Global) -> Result<Buffer, Memory>
@@ -63,8 +63,11 @@ impl Buffer {
     fn fill<S: Source>(&mut self, source: &mut S) -> Result<usize, Ending>
         ensures told { (left : List ℕ) → S.left source.old ≡ Some left → Fills self.old left self.new (S.left source.new) result }
         ensures longer { IfOk result (λ count. length self.new ≡ length self.old + count) }
-        ensures count { S.faults source.old ≤ S.faults source.new }
-        ensures fault { IsErrOf result Ending.ReadFault → Rose (S.faults source.old) (S.faults source.new) }
+        ensures kept { IfOk result (λ _. take (length self.old) self.new ≡ self.old) }
+        ensures count { S.read_faults source.old ≤ S.read_faults source.new }
+        ensures written_kept { S.written source.new ≡ S.written source.old }
+        ensures writes_kept { S.write_faults source.new ≡ S.write_faults source.old }
+        ensures fault { IsErrOf result Ending.ReadFault → Rose (S.read_faults source.old) (S.read_faults source.new) }
     {
         let mut piece = [0; PIECE];
         let Ok(count) = source.read(piece.as_mut_slice()) else {
@@ -79,18 +82,14 @@ impl Buffer {
 
     /// The ending behind the last byte of the input, where no head has come.
     fn ending(&self) -> Ending
-        requires short { length self.now < 16384 }
-        requires headless { HasNoHead self.now }
+        requires { IsUndecided self.now }
         ensures ends { Ends self.now (Some []) result }
         ensures fault { result ≢ Ending.ReadFault }
     {
         if self.bytes.is_empty() {
             return Ending::End;
         }
-        match settled_cause(self.bytes.as_slice()) {
-            Some(cause) => Ending::Bad(cause),
-            None => Ending::Bad(HttpCause::Malformed),
-        }
+        Ending::Bad(HttpCause::Malformed)
     }
 
     /// Looks for a head at the front of the bytes in hand.
@@ -103,7 +102,8 @@ impl Buffer {
 
     /// Whether a look can find a head or a refusal that was not there when there were so many bytes.
     fn is_worth_a_look(&self, before: usize) -> bool
-        ensures { result ≡ false → length self.now < 16384 }
+        ensures short { result ≡ false → length self.now < 16384 }
+        ensures clear { result ≡ false → All (λ b. (b == 10) ≡ false) (drop before self.now) }
     {
         let window = self.window();
         if window.len() == LONGEST_HEAD {
@@ -115,7 +115,7 @@ impl Buffer {
 
     /// Looks where a look is worth it.
     fn glance(&self, before: usize, headers: &mut [HeaderSpan; MOST_FIELDS]) -> Look
-        ensures glances { Glances self.now headers.new result }
+        ensures glances { Glances self.now before headers.new result }
         ensures within { FindsWithin (take 16384 self.now) headers.new result }
     {
         if self.is_worth_a_look(before) {
@@ -145,8 +145,10 @@ impl Buffer {
     ) -> Result<RequestSpans, Ending>
         ensures told { (left : List ℕ) → S.left source.old ≡ Some left → FindsHead (self.old ++ left) self.new (S.left source.new) headers.new result }
         ensures within { IfOk result (λ head. IsRequestWithin (take 16384 self.new) headers.new head) }
-        ensures count { S.faults source.old ≤ S.faults source.new }
-        ensures fault { IsErrOf result Ending.ReadFault → Rose (S.faults source.old) (S.faults source.new) }
+        ensures count { S.read_faults source.old ≤ S.read_faults source.new }
+        ensures written_kept { S.written source.new ≡ S.written source.old }
+        ensures writes_kept { S.write_faults source.new ≡ S.write_faults source.old }
+        ensures fault { IsErrOf result Ending.ReadFault → Rose (S.read_faults source.old) (S.read_faults source.new) }
     {
         let mut before = 0;
         'looks: loop {
@@ -176,8 +178,10 @@ impl Buffer {
     fn fill_to<S: Source>(&mut self, source: &mut S, size: usize) -> Result<(), Ending>
         ensures told { (left : List ℕ) → S.left source.old ≡ Some left → FillsTo (self.old ++ left) size self.new (S.left source.new) result }
         ensures enough { OnOk result (size ≤ length self.new) }
-        ensures count { S.faults source.old ≤ S.faults source.new }
-        ensures fault { IsErrOf result Ending.ReadFault → Rose (S.faults source.old) (S.faults source.new) }
+        ensures count { S.read_faults source.old ≤ S.read_faults source.new }
+        ensures written_kept { S.written source.new ≡ S.written source.old }
+        ensures writes_kept { S.write_faults source.new ≡ S.write_faults source.old }
+        ensures fault { IsErrOf result Ending.ReadFault → Rose (S.read_faults source.old) (S.read_faults source.new) }
     {
         'fills: while self.bytes.len() < size {
             let count = self.fill(source)?;
@@ -196,8 +200,10 @@ impl Buffer {
         size: usize,
     ) -> Result<Bytes, Ending>
         ensures told { (left : List ℕ) → S.left source.old ≡ Some left → TakesBody (self.old ++ left) size self.new (S.left source.new) result }
-        ensures count { S.faults source.old ≤ S.faults source.new }
-        ensures fault { IsErrOf result Ending.ReadFault → Rose (S.faults source.old) (S.faults source.new) }
+        ensures count { S.read_faults source.old ≤ S.read_faults source.new }
+        ensures written_kept { S.written source.new ≡ S.written source.old }
+        ensures writes_kept { S.write_faults source.new ≡ S.write_faults source.old }
+        ensures fault { IsErrOf result Ending.ReadFault → Rose (S.read_faults source.old) (S.read_faults source.new) }
     {
         self.fill_to(source, size)?;
         let Ok(body) = Bytes::of(alloc, self.bytes.as_slice().split_at(size).0) else {
@@ -233,8 +239,10 @@ impl Buffer {
     /// Takes the head of the first request.
     fn opening<S: Source>(&mut self, alloc: Global, source: &mut S) -> Result<Opening, Ending>
         ensures told { (left : List ℕ) → S.left source.old ≡ Some left → OpensAt (self.old ++ left) self.new (S.left source.new) result }
-        ensures count { S.faults source.old ≤ S.faults source.new }
-        ensures fault { IsErrOf result Ending.ReadFault → Rose (S.faults source.old) (S.faults source.new) }
+        ensures count { S.read_faults source.old ≤ S.read_faults source.new }
+        ensures written_kept { S.written source.new ≡ S.written source.old }
+        ensures writes_kept { S.write_faults source.new ≡ S.write_faults source.old }
+        ensures fault { IsErrOf result Ending.ReadFault → Rose (S.read_faults source.old) (S.read_faults source.new) }
     {
         let mut headers = [EMPTY_HEADER_SPAN; MOST_FIELDS];
         let head = self.head(source, &mut headers)?;
@@ -248,8 +256,10 @@ impl Buffer {
     /// Takes the first request of the bytes in hand and of those that the source has left.
     pub fn request<S: Source>(&mut self, alloc: Global, source: &mut S) -> Result<Request, Ending>
         ensures told { (left : List ℕ) → S.left source.old ≡ Some left → Comes (self.old ++ left) self.new (S.left source.new) result }
-        ensures count { S.faults source.old ≤ S.faults source.new }
-        ensures fault { IsErrOf result Ending.ReadFault → Rose (S.faults source.old) (S.faults source.new) }
+        ensures count { S.read_faults source.old ≤ S.read_faults source.new }
+        ensures written_kept { S.written source.new ≡ S.written source.old }
+        ensures writes_kept { S.write_faults source.new ≡ S.write_faults source.old }
+        ensures fault { IsErrOf result Ending.ReadFault → Rose (S.read_faults source.old) (S.read_faults source.new) }
     {
         let opening = self.opening(alloc, source)?;
         let body = self.body(alloc, source, opening.length)?;

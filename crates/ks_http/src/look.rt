@@ -4,7 +4,7 @@ ghost use Rattle.ks_http.specs.Buffers.{Finds, FindsWithin, Judged};
 
 use crate::cause::HttpCause;
 use crate::lines::MOST_FIELDS;
-use crate::scan::{LONGEST_HEAD, settled_cause};
+use crate::scan::settled_cause;
 use httparse::Status;
 use httparse::spans::{HeaderSpan, RequestSpans, parse_request};
 
@@ -36,12 +36,8 @@ pub fn look_for_head(bytes: &[u8], headers: &mut [HeaderSpan; MOST_FIELDS]) -> L
     ensures within { FindsWithin bytes.now headers.new result }
 {
     match parse_request(bytes, headers.as_mut_slice()) {
-        Ok(Status::Complete(head)) => return Look::Whole(head),
-        Ok(Status::Partial) => {}
-        Err(_) => return judge(bytes),
+        Ok(Status::Complete(head)) => Look::Whole(head),
+        Ok(Status::Partial) => judge(bytes),
+        Err(_) => judge(bytes),
     }
-    if bytes.len() < LONGEST_HEAD {
-        return Look::More;
-    }
-    judge(bytes)
 }

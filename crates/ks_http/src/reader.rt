@@ -42,8 +42,10 @@ impl Reader {
     /// reader reads no more, and answers the same for ever. Any call may find no memory.
     pub fn next_request<S: Source>(&mut self, alloc: Global, source: &mut S) -> Next
         ensures told { (left : List ℕ) → S.left source.old ≡ Some left → self.old.over ≡ None → Comes (self.old.held ++ left) self.new.held (S.left source.new) (answer_of result) }
-        ensures count { S.faults source.old ≤ S.faults source.new }
-        ensures fault { self.old.over ≡ None → result ≡ Next.ReadFault → Rose (S.faults source.old) (S.faults source.new) }
+        ensures count { S.read_faults source.old ≤ S.read_faults source.new }
+        ensures written_kept { S.written source.new ≡ S.written source.old }
+        ensures writes_kept { S.write_faults source.new ≡ S.write_faults source.old }
+        ensures fault { self.old.over ≡ None → result ≡ Next.ReadFault → Rose (S.read_faults source.old) (S.read_faults source.new) }
         ensures ending { self.old.over ≡ None → self.new.over ≡ ending_of result }
 
         // For ever the same, and nothing more is read.

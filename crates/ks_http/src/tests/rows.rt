@@ -211,3 +211,49 @@ pub const LIMITS: [(&[u8], &[u8], usize, &[u8], &str); 6] = [
     ),
     (b"GET / HTTP/1.1\r\n", b"A:b\r\n", 65, b"", "head too large"),
 ];
+
+/// Inputs, how many bytes a read gives, the read that fails, and the first four answers.
+pub const FAULTS: [(&[u8], usize, u64, &str); 7] = [
+    (
+        b"GET / HTTP/1.1\r\n\r\nGET /",
+        18,
+        3,
+        "GET / [] - - [] keep|read faultread faultread fault",
+    ),
+    (
+        b"GET /a HTTP/1.1\r\n\r\nGET /b HTTP/1.1\r\n\r\n",
+        24,
+        2,
+        "GET /a [] - - [] keep|read faultread faultread fault",
+    ),
+    (
+        b"GET /a HTTP/1.1\r\n\r\nGET /b HTTP/1.1\r\nA: b\r\n\r\n",
+        20,
+        3,
+        "GET /a [] - - [] keep|read faultread faultread fault",
+    ),
+    (
+        b"GET /a HTTP/1.1\r\n\r\nPOST /b HTTP/1.1\r\nContent-Length: 5\r\n\r\nhello",
+        30,
+        3,
+        "GET /a [] - - [] keep|read faultread faultread fault",
+    ),
+    (
+        b"POST /b HTTP/1.1\r\nContent-Length: 5\r\n\r\nhello",
+        43,
+        2,
+        "read faultread faultread faultread fault",
+    ),
+    (
+        b"GET /a HTTP/1.1\r\n\r\nGET /b HTTP/1.1\r\n\r\n",
+        19,
+        3,
+        "GET /a [] - - [] keep|GET /b [] - - [] keep|read faultread fault",
+    ),
+    (
+        b"GET /a HTTP/1.1\r\n\r\nGET /b HTTP/1.1\nBad",
+        38,
+        2,
+        "GET /a [] - - [] keep|read faultread faultread fault",
+    ),
+];
