@@ -2,6 +2,10 @@ pub mod Basics
 pub mod Cuts
 pub mod FieldLemmas
 pub mod ScanLemmas
+pub mod HeadPlaces
+pub mod WaitLemmas
 pub mod HeadLemmas
 pub mod SaysLemmas
 pub mod BufferLemmas
+pub mod RequestLemmas
+pub mod WriteLemmas

@@ -3,5 +3,8 @@ pub mod Fields
 pub mod Heads
 pub mod Lines
 pub mod Next
+pub mod Requests
+pub mod Responses
 pub mod Says
 pub mod State
+pub mod Writes

@@ -1,4 +1,5 @@
-//! Requests of HTTP/1.1 (RFC 9112) out of a stream of bytes, the same for every cutting of the stream.
+//! Requests of HTTP/1.1 (RFC 9112) out of a stream of bytes, the same for every cutting of the stream, and
+//! responses into one.
 #![tactic(auto)]
 
 mod buffer;
@@ -9,15 +10,24 @@ mod lines;
 mod look;
 mod next;
 mod opening;
+mod outgoing;
 mod reader;
 mod request;
+mod response;
 mod scan;
+mod status;
 mod values;
+mod write_fault;
+mod writer;
 
 pub use cause::HttpCause;
 pub use next::Next;
 pub use reader::Reader;
 pub use request::Request;
+pub use response::Response;
+pub use status::reason;
+pub use write_fault::WriteFault;
+pub use writer::{write_memory, write_response};
 
 #[cfg(test)]
 mod tests;

@@ -1,13 +1,14 @@
 mod rows;
+mod writer;
 
 ghost use Rattle.std.specs.Prelude.{◌≡◌, ◌<◌, ◌≤◌, ℕ, List, Some, None, length, IsErr, IfOk};
 ghost use Rattle.ks_outside.specs.Counts.{Rose};
 ghost use Rattle.ks_outside.specs.Streams.{Reads};
 
-use crate::tests::rows::{LIMITS, ROWS};
+use crate::tests::rows::{FAULTS, LIMITS, ROWS};
 use crate::{HttpCause, Next, Reader};
 use ks_base::{Method, Text};
-use ks_outside::{Failed, MemorySource, Source};
+use ks_outside::{Failed, MemorySource, Source, Stream};
 use std::alloc::Global;
 use std::test::Fail;
 
@@ -18,11 +19,17 @@ struct Cut<'a> {
     first: usize,
 }
 
-impl Source for Cut<'_> {
+impl Stream for Cut<'_> {
     ghost left = { λ _. None };
 
-    ghost faults = { λ _. 0 };
+    ghost written = { λ _. None };
 
+    ghost read_faults = { λ _. 0 };
+
+    ghost write_faults = { λ _. 0 };
+}
+
+impl Source for Cut<'_> {
     fn read(&mut self, into: &mut [u8]) -> Result<usize, Failed> {
         let count = self.first.min(into.len()).min(self.bytes.len());
         let (came, rest) = self.bytes.split_at(count);
@@ -176,16 +183,18 @@ fn reads_to_the_limits(rt: HostRuntime) -> Result<(), Fail> {
 }
 
 #[test]
-fn stays_at_its_ending(rt: HostRuntime) -> Result<(), Fail> {
+fn stays_at_a_read_fault(rt: HostRuntime) -> Result<(), Fail> {
     let alloc = rt.alloc();
-    let source = MemorySource::new(alloc, b"GET / HTTP/1.1\r\n\r\nGET /", &[3], 18);
-    let mut source = source.ok().ok_or("memory")?;
-    let mut reader = Reader::new(alloc).ok().ok_or("memory")?;
-    let mut shown = String::new(alloc);
-    for _ in 0..3 {
-        let next = reader.next_request(alloc, &mut source);
-        let _ended = push_next(&mut shown, &next)?;
+    for (input, longest, failing, want) in FAULTS {
+        let source = MemorySource::new(alloc, input, &[failing], longest.max(1));
+        let mut source = source.ok().ok_or("memory")?;
+        let mut reader = Reader::new(alloc).ok().ok_or("memory")?;
+        let mut shown = String::new(alloc);
+        for _ in 0..4 {
+            let next = reader.next_request(alloc, &mut source);
+            let _ended = push_next(&mut shown, &next)?;
+        }
+        assert_eq!(rt; shown.as_str(), want, "read {failing} fails: {input:?}");
     }
-    assert_eq!(rt; shown.as_str(), "GET / [] - - [] keep|read faultread fault");
     Ok(())
 }

@@ -1,0 +1,14 @@
+use ks_base::{Bytes, FieldList};
+
+/// A response of HTTP/1.1 (RFC 9112, section 4).
+#[derive(Drop)]
+pub struct Response {
+    /// The status code.
+    pub status: u16,
+    /// The fields behind `Content-Length`, in the order in which they are written.
+    pub fields: FieldList,
+    /// The body, whose length `Content-Length` gives. A 204 has neither.
+    pub body: Bytes,
+    /// The response answers HEAD: its fields are those of its body, which is not written.
+    pub without_body: bool,
+}
