@@ -1,0 +1,7 @@
+use Rattle.ks_routes.specs.Routes.{table, command_of}
+use Rattle.ks_routes.proofs.LawLemmas.{unrouted}
+use Rattle.ks_routes.proofs.laws.unrouted_paths_fit_nothing.Goals as goal
+
+pub returns : goal.returns
+unfolding command_of
+returns c = unrouted table

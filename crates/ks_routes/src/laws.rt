@@ -1,0 +1,54 @@
+//! What holds of the definitions that the contracts cite. Each law is the contract of a function that
+//! does nothing.
+ghost use Rattle.std.specs.Prelude.{◌≡◌, ◌≢◌, ◌↔◌, ℕ, List, true, false, Some, Contains, codes, slice_get};
+ghost use Rattle.ks_base.specs.Ids.{IsId};
+ghost use Rattle.ks_base.specs.declared.method.Method.{Method};
+ghost use Rattle.ks_base.specs.declared.method.Method.TheVariants.{Get, Other};
+ghost use Rattle.ks_http.specs.declared.request.Request.{Request};
+ghost use Rattle.ks_machine.specs.declared.command.Command.{Command};
+ghost use Rattle.ks_machine.specs.declared.command.Command.TheVariants.{Version};
+ghost use Rattle.ks_routes.specs.declared.action.Action.{Action};
+ghost use Rattle.ks_routes.specs.declared.routed.Routed.TheVariants as routed;
+ghost use Rattle.ks_routes.specs.Patterns.{fits, is_id, segments};
+ghost use Rattle.ks_routes.specs.Tables.{Row};
+ghost use Rattle.ks_routes.specs.Routes.{command_of, table};
+
+/// `GET` asks for the version document at `/v3` and at `/v3/`.
+pub fn version_has_two_paths()
+    ensures bare { (request : Request) → request.method ≡ Get → request.path ≡ codes "/v3" → command_of request ≡ routed.Command Version }
+    ensures slash { (request : Request) → request.method ≡ Get → request.path ≡ codes "/v3/" → command_of request ≡ routed.Command Version }
+{}
+
+/// No path fits two routes of the table.
+pub fn paths_have_one_route()
+    ensures { (i j : ℕ) (a b : Row Action) (path : List ℕ) → slice_get table i ≡ Some a → slice_get table j ≡ Some b
+        → fits a.pattern (segments path) ≡ true → fits b.pattern (segments path) ≡ true → i ≡ j }
+{}
+
+/// A request has no route exactly where its path fits no pattern.
+pub fn unrouted_paths_fit_nothing()
+    ensures { (request : Request) → (command_of request ≡ routed.NoRoute)
+        ↔ ((k : ℕ) (row : Row Action) → slice_get table k ≡ Some row → fits row.pattern (segments request.path) ≡ false) }
+{}
+
+/// A method that is not listed is told those that the path has, and only those: a request with one of
+/// them and the same path has a command.
+pub fn listed_methods_have_commands()
+    ensures { (request : Request) (methods : List Method) → command_of request ≡ routed.NoMethod methods → (m : Method)
+        → Contains methods m ↔ ((command : Command) × (command_of (record request { method = m }) ≡ routed.Command command)) }
+{}
+
+/// No route has a method outside of the six.
+pub fn other_methods_have_no_command()
+    ensures { (request : Request) (command : Command) → request.method ≡ Other → command_of request ≢ routed.Command command }
+{}
+
+/// What the table says needs no memory.
+pub fn routing_is_total()
+    ensures { (request : Request) → command_of request ≢ routed.Memory }
+{}
+
+/// A segment stands for an id exactly where it is one.
+pub fn ids_are_ids()
+    ensures { (segment : List ℕ) → (is_id segment ≡ true) ↔ IsId segment }
+{}

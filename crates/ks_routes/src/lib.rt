@@ -1,0 +1,19 @@
+//! From a request of HTTP to the command of the identity machine that its route names. The routes are a
+//! table, and a path fits one of them at most.
+#![tactic(auto)]
+
+mod action;
+mod laws;
+mod methods;
+mod pattern;
+mod route;
+mod routed;
+mod routes;
+mod segments;
+mod table;
+#[cfg(test)]
+mod tests;
+mod tree;
+
+pub use routed::{Routed, command};
+pub use routes::Routes;
