@@ -1,0 +1,30 @@
+//! What holds of the definitions alone, for callers that have only these.
+ghost use Rattle.std.specs.Prelude.{◌≡◌, ℕ, Bool, true, false, List, [], codes};
+ghost use Rattle.serde_json.specs.Written.{compact_text};
+ghost use Rattle.ks_http.specs.Responses.{head_of, content, memory_response};
+ghost use Rattle.ks_machine.specs.declared.reply.Reply.{Reply as AnyReply};
+ghost use Rattle.ks_machine.specs.declared.reply.Reply.TheVariants.{Refused};
+ghost use Rattle.ks_machine.specs.declared.cause.Cause.TheVariants.{Memory};
+ghost use Rattle.ks_render.specs.Bodies.{version_body};
+ghost use Rattle.ks_render.specs.Answers.{response_of, wire};
+
+/// The version document of a server at `http://127.0.0.1:5000`, byte for byte. The call does nothing, as those
+/// below: its contract is the law.
+pub fn version_document()
+    ensures { compact_text (version_body (codes "http://127.0.0.1:5000"))
+        ≡ codes "{\"version\":{\"id\":\"v3.14\",\"links\":[{\"href\":\"http://127.0.0.1:5000/v3/\",\"rel\":\"self\"}],\"media-types\":[{\"base\":\"application/json\",\"type\":\"application/vnd.openstack.identity-v3+json\"}],\"status\":\"stable\",\"updated\":\"2020-04-07T00:00:00Z\"}}" }
+{}
+
+/// Want of memory is told in one way, by the reply and where there is no memory for any response.
+pub fn memory_ends_the_connection()
+    ensures { (url : List ℕ) → wire (Refused Memory) url false true ≡ memory_response }
+{}
+
+/// The response to HEAD is the head of the response to the same request with another method, and no more
+/// (RFC 9110, section 9.3.2).
+pub fn head_has_no_body()
+    ensures head { (reply : AnyReply) → (url : List ℕ) → (close : Bool)
+        → head_of (response_of reply url true close) ≡ head_of (response_of reply url false close) }
+    ensures content { (reply : AnyReply) → (url : List ℕ) → (close : Bool)
+        → content (response_of reply url true close) ≡ [] }
+{}
