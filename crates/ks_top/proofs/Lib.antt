@@ -2,3 +2,5 @@ pub mod LineLemmas
 pub mod CheckLemmas
 pub mod CheckerLemmas
 pub mod WordLemmas
+mod TalkLemmas
+mod UrlLemmas

@@ -29,6 +29,9 @@ EndsCheck input before left written (Err other) = IsCutShort input before left w
 abbrev pub check_words : List (List ℕ)
 check_words = codes "check" ∷ []
 
+abbrev pub AreTalkWords : List (List ℕ) → Type 0
+AreTalkWords words = (file folder : List ℕ) × (words ≡ codes "talk" ∷ file ∷ folder ∷ [])
+
 -- each fault has its status
 abbrev pub status_of : Option Fault → ℕ
 status_of None = 0

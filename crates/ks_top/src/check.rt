@@ -12,10 +12,10 @@ use std::alloc::{AllocError, Global};
 pub fn check<S: Source, K: Sink>(alloc: Global, input: &mut S, output: &mut K) -> Result<(), Fault>
     ensures told { (text before : List ℕ) → S.left input.old ≡ Some text → K.written output.old ≡ Some before → EndsCheck text before (S.left input.new) (K.written output.new) result }
     ensures usage { result ≢ Err Fault.Usage }
-    ensures reads { S.faults input.old ≤ S.faults input.new }
-    ensures read { IsErrOf result Fault.Read → Rose (S.faults input.old) (S.faults input.new) }
-    ensures writes { K.faults output.old ≤ K.faults output.new }
-    ensures write { IsErrOf result Fault.Write → Rose (K.faults output.old) (K.faults output.new) }
+    ensures reads { S.read_faults input.old ≤ S.read_faults input.new }
+    ensures read { IsErrOf result Fault.Read → Rose (S.read_faults input.old) (S.read_faults input.new) }
+    ensures writes { K.write_faults output.old ≤ K.write_faults output.new }
+    ensures write { IsErrOf result Fault.Write → Rose (K.write_faults output.old) (K.write_faults output.new) }
 {
     let Ok(mut piece) = room(alloc) else {
         return Err(Fault::Memory);

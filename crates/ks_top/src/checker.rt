@@ -181,8 +181,8 @@ impl Checker {
     fn write_out<K: Sink>(&mut self, output: &mut K) -> Result<(), Failed>
         ensures told { (before : List ℕ) → K.written output.old ≡ Some before → WritesOut self.old result self.new (K.written output.new) before }
         ensures bytes { bytes_read self.new ≡ bytes_read self.old }
-        ensures count { K.faults output.old ≤ K.faults output.new }
-        ensures failed { IsErr result → Rose (K.faults output.old) (K.faults output.new) }
+        ensures count { K.write_faults output.old ≤ K.write_faults output.new }
+        ensures failed { IsErr result → Rose (K.write_faults output.old) (K.write_faults output.new) }
     {
         write_all(output, self.answers.as_slice())?;
         self.answers.clear();
@@ -193,8 +193,8 @@ impl Checker {
     fn write_many<K: Sink>(&mut self, output: &mut K) -> Result<(), Failed>
         ensures moves { (whole : List ℕ → Checked) (rest before : List ℕ) → Stands whole rest self.old (K.written output.old) before → Flushes whole rest result self.new (K.written output.new) before }
         ensures bytes { bytes_read self.new ≡ bytes_read self.old }
-        ensures count { K.faults output.old ≤ K.faults output.new }
-        ensures failed { IsErr result → Rose (K.faults output.old) (K.faults output.new) }
+        ensures count { K.write_faults output.old ≤ K.write_faults output.new }
+        ensures failed { IsErr result → Rose (K.write_faults output.old) (K.write_faults output.new) }
     {
         if self.answers.len() < PIECE {
             return Ok(());
@@ -214,8 +214,8 @@ impl Checker {
         ensures reads { result ≢ Err Fault.Read }
         ensures moves { (whole : List ℕ → Checked) (before : List ℕ) → Stands whole piece.now self.old (K.written output.old) before → Moves whole [] result self.new (K.written output.new) before }
         ensures bytes { OnOk result (bytes_read self.old + length piece.now ≤ bytes_read self.new) }
-        ensures count { K.faults output.old ≤ K.faults output.new }
-        ensures failed { IsErrOf result Fault.Write → Rose (K.faults output.old) (K.faults output.new) }
+        ensures count { K.write_faults output.old ≤ K.write_faults output.new }
+        ensures failed { IsErrOf result Fault.Write → Rose (K.write_faults output.old) (K.write_faults output.new) }
     {
         let mut rest = piece;
         'lines: while let Some((line, behind)) = first_line(rest) {
@@ -262,10 +262,10 @@ impl Checker {
         requires room { 0 < length piece.old }
         ensures usage { result ≢ Err Fault.Usage }
         ensures told { (text before : List ℕ) → S.left input.old ≡ Some text → K.written output.old ≡ Some before → ReadsAll text (S.left input.new) result self.new (K.written output.new) before }
-        ensures reads { S.faults input.old ≤ S.faults input.new }
-        ensures read { IsErrOf result Fault.Read → Rose (S.faults input.old) (S.faults input.new) }
-        ensures writes { K.faults output.old ≤ K.faults output.new }
-        ensures write { IsErrOf result Fault.Write → Rose (K.faults output.old) (K.faults output.new) }
+        ensures reads { S.read_faults input.old ≤ S.read_faults input.new }
+        ensures read { IsErrOf result Fault.Read → Rose (S.read_faults input.old) (S.read_faults input.new) }
+        ensures writes { K.write_faults output.old ≤ K.write_faults output.new }
+        ensures write { IsErrOf result Fault.Write → Rose (K.write_faults output.old) (K.write_faults output.new) }
     {
         'reads: loop {
             let Ok(count) = input.read(piece) else {
@@ -283,8 +283,8 @@ impl Checker {
     fn close<K: Sink>(&mut self, ended: Result<(), Fault>, output: &mut K) -> Result<(), Fault>
         ensures told { (text before : List ℕ) (left : Option (List ℕ)) → ReadsAll text left ended self.old (K.written output.old) before → EndsCheck text before left (K.written output.new) result }
         ensures others { result ≡ Err Fault.Write ⊎ result ≡ ended }
-        ensures writes { K.faults output.old ≤ K.faults output.new }
-        ensures write { IsErrOf result Fault.Write → IsErrOf ended Fault.Write ⊎ Rose (K.faults output.old) (K.faults output.new) }
+        ensures writes { K.write_faults output.old ≤ K.write_faults output.new }
+        ensures write { IsErrOf result Fault.Write → IsErrOf ended Fault.Write ⊎ Rose (K.write_faults output.old) (K.write_faults output.new) }
     {
         if failed_to_write(&ended) {
             return Err(Fault::Write);
@@ -307,10 +307,10 @@ impl Checker {
         requires room { 0 < length piece.old }
         ensures told { (text before : List ℕ) → S.left input.old ≡ Some text → K.written output.old ≡ Some before → EndsCheck text before (S.left input.new) (K.written output.new) result }
         ensures usage { result ≢ Err Fault.Usage }
-        ensures reads { S.faults input.old ≤ S.faults input.new }
-        ensures read { IsErrOf result Fault.Read → Rose (S.faults input.old) (S.faults input.new) }
-        ensures writes { K.faults output.old ≤ K.faults output.new }
-        ensures write { IsErrOf result Fault.Write → Rose (K.faults output.old) (K.faults output.new) }
+        ensures reads { S.read_faults input.old ≤ S.read_faults input.new }
+        ensures read { IsErrOf result Fault.Read → Rose (S.read_faults input.old) (S.read_faults input.new) }
+        ensures writes { K.write_faults output.old ≤ K.write_faults output.new }
+        ensures write { IsErrOf result Fault.Write → Rose (K.write_faults output.old) (K.write_faults output.new) }
     {
         let ended = self.read_all(alloc, input, output, piece);
         self.close(ended, output)

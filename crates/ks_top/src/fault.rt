@@ -20,7 +20,7 @@ pub enum Fault {
 impl fmt::Display for Fault {
     fn fmt<W: fmt::Write>(&self, f: &mut fmt::Formatter<W>) -> fmt::Result {
         match self {
-            Fault::Usage => write!(f, "usage: ks check"),
+            Fault::Usage => write!(f, "usage: ks check | ks talk FILE FOLDER"),
             Fault::Read => write!(f, "standard input could not be read"),
             Fault::Write => write!(f, "standard output could not be written"),
             Fault::Memory => write!(f, "out of memory"),

@@ -8,6 +8,7 @@ mod checker;
 mod fault;
 mod lines;
 mod program;
+mod talk;
 #[cfg(test)]
 mod tests;
 

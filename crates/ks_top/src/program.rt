@@ -1,9 +1,11 @@
 ghost use Rattle.std.specs.Prelude.{◌≡◌, ◌≤◌, ◌↔◌, ◌≢◌, ℕ, List, Some, IsTrue};
 ghost use Rattle.ks_outside.specs.Counts.{Rose};
-ghost use Rattle.ks_top.specs.Ending.{EndsCheck, status_of, fault_of, result_of, check_words};
+ghost use Rattle.ks_top.specs.Ending.{EndsCheck, status_of, fault_of, result_of, check_words, AreTalkWords};
+ghost use Rattle.ks_top.specs.Talk.{EndsTalk};
 
 use crate::check::check;
 use crate::fault::Fault;
+use crate::talk::talk;
 use ks_base::Text;
 use ks_outside::{Sink, Source};
 
@@ -58,9 +60,13 @@ impl Ended {
 /// Does what the words say, on an input and an output.
 ///
 /// `check` reads a Fernet key and lines of a moment and a token, and answers which tokens are refused.
-/// Its statuses: 0 where the input was read and answered whole, 2 where the words are not a command's,
-/// 3 where the input could not be read, 4 where the output could not be written, 5 for want of memory,
-/// 6 where a line is not in the grammar.
+/// `talk FILE FOLDER` serves one connection of HTTP/1.1: it reads requests and writes a response to each.
+/// So far neither the file nor the folder is opened.
+///
+/// The statuses: 0 where the input was read and answered whole, or to the request or the refusal that
+/// ends the connection; 2 where the words are not a command's; 3 where the input could not be read;
+/// 4 where the output could not be written; 5 for want of memory; 6 where a line of `check` is not in
+/// the grammar.
 pub fn run<R: AllocGlobal, S: Source, K: Sink>(
     rt: &R,
     words: &[Text],
@@ -68,19 +74,24 @@ pub fn run<R: AllocGlobal, S: Source, K: Sink>(
     output: &mut K,
 ) -> Ended
     ensures status { result.status ≡ status_of result.fault }
-    ensures usage { (result.fault ≡ Some Fault.Usage) ↔ (words.now ≢ check_words) }
+    ensures usage { (result.fault ≡ Some Fault.Usage) ↔ ((words.now ≢ check_words) × ¬ (AreTalkWords words.now)) }
     ensures unread { result.fault ≡ Some Fault.Usage → (S.left input.new ≡ S.left input.old) × (K.written output.new ≡ K.written output.old) }
     ensures told { (text before : List ℕ) → words.now ≡ check_words → S.left input.old ≡ Some text → K.written output.old ≡ Some before →
         EndsCheck text before (S.left input.new) (K.written output.new) (result_of result.fault) }
-    ensures reads { S.faults input.old ≤ S.faults input.new }
-    ensures read { result.fault ≡ Some Fault.Read → Rose (S.faults input.old) (S.faults input.new) }
-    ensures writes { K.faults output.old ≤ K.faults output.new }
-    ensures write { result.fault ≡ Some Fault.Write → Rose (K.faults output.old) (K.faults output.new) }
+    ensures talked { (text before : List ℕ) → AreTalkWords words.now → S.left input.old ≡ Some text → K.written output.old ≡ Some before →
+        EndsTalk text before (S.left input.new) (K.written output.new) (result_of result.fault) }
+    ensures reads { S.read_faults input.old ≤ S.read_faults input.new }
+    ensures read { result.fault ≡ Some Fault.Read → Rose (S.read_faults input.old) (S.read_faults input.new) }
+    ensures writes { K.write_faults output.old ≤ K.write_faults output.new }
+    ensures write { result.fault ≡ Some Fault.Write → Rose (K.write_faults output.old) (K.write_faults output.new) }
 {
-    if !is_check(words) {
-        return Fault::Usage.ended();
+    if is_check(words) {
+        return Ended::of(check(rt.alloc(), input, output));
     }
-    Ended::of(check(rt.alloc(), input, output))
+    if is_talk(words) {
+        return Ended::of(talk(rt.alloc(), input, output));
+    }
+    Fault::Usage.ended()
 }
 
 /// Whether the words are the one word `check`.
@@ -89,6 +100,16 @@ fn is_check(words: &[Text]) -> bool
 {
     match words {
         [word] => word.as_str() == "check",
+        _ => false,
+    }
+}
+
+/// Whether the words are the word `talk` and two more.
+fn is_talk(words: &[Text]) -> bool
+    ensures { IsTrue result ↔ AreTalkWords words.now }
+{
+    match words {
+        [word, _file, _folder] => word.as_str() == "talk",
         _ => false,
     }
 }

@@ -1,3 +1,6 @@
+mod talk;
+mod talks;
+
 use crate::fault::Fault;
 use crate::program::{Ended, run};
 use ks_base::Text;
@@ -38,28 +41,28 @@ fn words(rt: &HostRuntime, words: &[&str]) -> Result<Vec<Text>, Fail> {
     Ok(made)
 }
 
-/// Runs `check`, and gives its end and what it wrote.
-fn check(rt: &HostRuntime, input: &str, outside: &Outside<'_>) -> Result<(Ended, String), Fail> {
+/// Runs a command on an input, and gives its end and what it wrote.
+fn run_on(
+    rt: &HostRuntime,
+    command: &[&str],
+    input: &[u8],
+    outside: &Outside<'_>,
+) -> Result<(Ended, String), Fail> {
     if outside.longest == 0 {
         return Err(Fail::from("no piece is empty"));
     }
-    let source = MemorySource::new(
-        rt.alloc(),
-        input.as_bytes(),
-        outside.fail_reads,
-        outside.longest,
-    );
+    let source = MemorySource::new(rt.alloc(), input, outside.fail_reads, outside.longest);
     let sink = MemorySink::new(rt.alloc(), 1_000_000, outside.fail_writes, outside.longest);
     let mut source = source.ok().ok_or("memory")?;
     let mut sink = sink.ok().ok_or("memory")?;
-    let ended = run(
-        rt,
-        words(rt, &["check"])?.as_slice(),
-        &mut source,
-        &mut sink,
-    );
+    let ended = run(rt, words(rt, command)?.as_slice(), &mut source, &mut sink);
     let written = std::str::from_utf8(sink.written()).ok().ok_or("a text")?;
     Ok((ended, String::from_str(rt.alloc(), written)?))
+}
+
+/// Runs `check`, and gives its end and what it wrote.
+fn check(rt: &HostRuntime, input: &str, outside: &Outside<'_>) -> Result<(Ended, String), Fail> {
+    run_on(rt, &["check"], input.as_bytes(), outside)
 }
 
 fn whole() -> Ended {
@@ -174,6 +177,10 @@ fn refuses_other_words(rt: HostRuntime) -> Result<(), Fail> {
         &["chec"],
         &["Check"],
         &[""],
+        &["talk"],
+        &["talk", "o1.json"],
+        &["talk", "o1.json", "keys", "now"],
+        &["Talk", "o1.json", "keys"],
     ] {
         let mut source = MemorySource::new(rt.alloc(), KEY.as_bytes(), &[], 100)
             .ok()

@@ -33,10 +33,10 @@ returns-in_err-hold-clause-moves g c whole before h =
 
 pub returns-in_default-write_out-clause-moves : goal.returns-in_default-write_out-clause-moves
 returns-in_default-write_out-clause-moves g c whole before h =
-    let standing = stands_hold (Ok c.in_ok-hold.field-0) whole c.lines.rest.now c.lines.self c.hold.new.self (g.K.Sink.written c.lines.output) before (c.lines.invariant.stands whole before h) c.hold.ensures.inside c.in_ok-hold.ensures.holds in
-    stands_written (Err c.in_default-write_out.field-0) whole [] c.hold.new.self c.write_out.new.self (g.K.Sink.written c.lines.output) (g.K.Sink.written c.write_out.new.output) before standing (c.in_default-write_out.ensures.told _ standing.written_is)
+    let standing = stands_hold (Ok c.in_ok-hold.field-0) whole c.lines.rest.now c.lines.self c.hold.new.self (g.K.Stream.written c.lines.output) before (c.lines.invariant.stands whole before h) c.hold.ensures.inside c.in_ok-hold.ensures.holds in
+    stands_written (Err c.in_default-write_out.field-0) whole [] c.hold.new.self c.write_out.new.self (g.K.Stream.written c.lines.output) (g.K.Stream.written c.write_out.new.output) before standing (c.in_default-write_out.ensures.told _ standing.written_is)
 
 pub returns-clause-moves : goal.returns-clause-moves
 returns-clause-moves g c whole before h =
-    let standing = stands_hold (Ok c.in_ok-hold.field-0) whole c.lines.rest.now c.lines.self c.hold.new.self (g.K.Sink.written c.lines.output) before (c.lines.invariant.stands whole before h) c.hold.ensures.inside c.in_ok-hold.ensures.holds in
-    stands_written (Ok c.in-Ok-write_out.field-0) whole [] c.hold.new.self c.write_out.new.self (g.K.Sink.written c.lines.output) (g.K.Sink.written c.write_out.new.output) before standing (c.in-Ok-write_out.ensures.told _ standing.written_is)
+    let standing = stands_hold (Ok c.in_ok-hold.field-0) whole c.lines.rest.now c.lines.self c.hold.new.self (g.K.Stream.written c.lines.output) before (c.lines.invariant.stands whole before h) c.hold.ensures.inside c.in_ok-hold.ensures.holds in
+    stands_written (Ok c.in-Ok-write_out.field-0) whole [] c.hold.new.self c.write_out.new.self (g.K.Stream.written c.lines.output) (g.K.Stream.written c.write_out.new.output) before standing (c.in-Ok-write_out.ensures.told _ standing.written_is)

@@ -5,9 +5,9 @@ use Rattle.ks_top.proofs.checker.Checker.take_piece.Given as goal
 
 abbrev pub invariant-lines : goal.invariant-lines
 invariant-lines g l = record {
-  stands : (whole : List ℕ → Checked) (before : List ℕ) → Stands whole l.piece l.fn.self (g.K.Sink.written l.fn.output) before → Stands whole l.rest l.self (g.K.Sink.written l.output) before;
+  stands : (whole : List ℕ → Checked) (before : List ℕ) → Stands whole l.piece l.fn.self (g.K.Stream.written l.fn.output) before → Stands whole l.rest l.self (g.K.Stream.written l.output) before;
   bytes : bytes_read l.fn.self + length l.piece ≤ bytes_read l.self + length l.rest;
-  count : g.K.Sink.faults l.fn.output ≤ g.K.Sink.faults l.output;
+  count : g.K.Stream.write_faults l.fn.output ≤ g.K.Stream.write_faults l.output;
 }
 
 abbrev pub decreases-lines : goal.decreases-lines
