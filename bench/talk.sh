@@ -1,0 +1,48 @@
+#!/bin/sh
+# Prints how long `ks talk` takes for 100,000 pipelined requests for the version document, and for the same where
+# each request is sent once the response before it has come; and, where there is a valgrind, how many instructions
+# a request takes among 1,000 and among 100,000, and where they go. All responses are compared.
+#
+#     bench/talk.sh [REQUESTS]
+#
+# The program is bin/ks of this repository; the environment's KS names another.
+set -e
+top=$(cd "$(dirname "$0")/.." && pwd)
+ks=${KS:-$top/bin/ks}
+requests=${1:-100000}
+work=$(mktemp -d)
+trap 'rm -rf "$work"' EXIT
+
+if [ ! -x "$ks" ]; then
+    echo "talk: there is no program $ks" >&2
+    exit 1
+fi
+# bin/ks may have to build the program first.
+"$ks" talk o1.json keys < /dev/null
+
+# The program itself, since bin/ks is a script that becomes it.
+program=${KS:-$top/crates/ks_top/out/ks_top}
+
+python3 "$top/bench/talk.py" make "$requests" > "$work/input"
+python3 "$top/bench/talk.py" pipelined "$work/input" "$requests" "$program"
+python3 "$top/bench/talk.py" in-turn "$requests" "$program"
+
+if ! command -v valgrind > /dev/null; then
+    echo 'the instructions are not counted, since there is no valgrind'
+    exit 0
+fi
+
+# What N requests take, beside none.
+instructions() {
+    python3 "$top/bench/talk.py" make "$1" > "$work/input"
+    valgrind --tool=callgrind --callgrind-out-file="$work/counts.$1" "$program" talk o1.json keys \
+        < "$work/input" > /dev/null 2> "$work/log"
+    sed -n 's/^.*Collected : //p' "$work/log"
+}
+
+none=$(instructions 0)
+few=$(instructions 1000)
+many=$(instructions 100000)
+echo "instructions a request among 1,000: $(((few - none) / 1000))"
+echo "instructions a request among 100,000: $(((many - none) / 100000))"
+callgrind_annotate "$work/counts.100000" 2> /dev/null | grep -E '^ *[0-9,]+ \(' | head -n 16
