@@ -1,2 +1,12 @@
 pub mod Ids
 pub mod IdFields
+pub mod OrderLaws
+pub mod Orders
+pub mod Places
+pub mod Tables
+pub mod Refusals
+pub mod Rows
+pub mod Tree
+pub mod Roles
+pub mod Revocation
+pub mod Trusts

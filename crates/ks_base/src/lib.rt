@@ -1,25 +1,62 @@
-//! The types that every layer speaks of: bytes, texts, keys, ids and lists whose growth may find no memory.
+//! The types that every layer speaks of: bytes, texts, keys, ids, rows, faults, and lists and tables whose
+//! growth may find no memory.
 #![tactic(auto)]
 
 mod bytes;
+mod events;
+mod faults;
+mod grants;
 mod id;
 mod key;
+mod kinds;
+mod laws;
 mod list;
 mod lists;
 mod memory;
 mod method;
 mod receipt;
+mod refusal;
+mod row_set;
+mod rows;
+mod shapes;
+mod table;
 mod text;
+mod trusts;
+mod users;
 
 pub use bytes::Bytes;
+pub use events::{EventRow, Holder, Revoke};
+pub use faults::{KeysFault, LoadFault, RowFault, TreeFault, TrustFault};
+pub use grants::{Actor, GrantRow, ImplyRow, Target};
 pub use id::{Id, IdFault};
 pub use key::Key;
+pub use kinds::Kind;
+pub use laws::{
+    group_grant_is_its_members, implied_again_is_implied, implied_of_more,
+    inherited_misses_its_domain, named_is_implied, on_domain_is_direct,
+};
 pub use list::{ListOf, TryCopy};
-pub use lists::{FieldList, IdList, KeyList, MethodList, TextList};
+pub use lists::{
+    DomainList, EventList, FieldList, GrantList, GroupList, IdList, ImplyList, IndexList, KeyList,
+    MemberList, MethodList, ProjectList, RoleList, TextList, TrustList, UserList,
+};
 pub use memory::Memory;
 pub use method::Method;
 pub use receipt::{Drawn, Receipt};
+pub use refusal::refuse_if;
+pub use row_set::{Ordered, RowSet};
+pub use rows::{DomainRow, GroupRow, ProjectRow, RoleRow};
+pub use shapes::{Filter, ShapeFault, ShapeRefusal};
+pub use table::{Row, Table, Test};
 pub use text::Text;
+pub use trusts::TrustRow;
+pub use users::{MemberRow, PasswordRow, UserRow};
 
+#[cfg(test)]
+mod grant_tests;
+#[cfg(test)]
+mod row_tests;
+#[cfg(test)]
+mod table_tests;
 #[cfg(test)]
 mod tests;

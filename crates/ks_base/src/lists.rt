@@ -1,4 +1,7 @@
-use crate::{Id, Key, ListOf, Memory, Method, Text, TryCopy};
+use crate::{
+    DomainRow, EventRow, GrantRow, GroupRow, Id, ImplyRow, Key, ListOf, MemberRow, Memory, Method,
+    ProjectRow, RoleRow, Text, TrustRow, TryCopy, UserRow,
+};
 
 /// Ids, each in its place.
 pub type IdList = ListOf<Id>;
@@ -10,6 +13,44 @@ pub type MethodList = ListOf<Method>;
 pub type KeyList = ListOf<(u32, Key)>;
 /// Names with their values, as the fields of a response.
 pub type FieldList = ListOf<(Text, Text)>;
+/// Indices of files.
+pub type IndexList = ListOf<u32>;
+
+/// Domains, each in its place.
+pub type DomainList = ListOf<DomainRow>;
+
+/// Projects, each in its place.
+pub type ProjectList = ListOf<ProjectRow>;
+
+/// Users, each in its place.
+pub type UserList = ListOf<UserRow>;
+
+/// Groups, each in its place.
+pub type GroupList = ListOf<GroupRow>;
+
+/// Memberships, each in its place.
+pub type MemberList = ListOf<MemberRow>;
+
+/// Roles, each in its place.
+pub type RoleList = ListOf<RoleRow>;
+
+/// Implications, each in its place.
+pub type ImplyList = ListOf<ImplyRow>;
+
+/// Grants, each in its place.
+pub type GrantList = ListOf<GrantRow>;
+
+/// Trusts, each in its place.
+pub type TrustList = ListOf<TrustRow>;
+
+/// Revocations, each in its place.
+pub type EventList = ListOf<EventRow>;
+
+impl TryCopy for u32 {
+    fn copy(&self) -> Result<u32, Memory> {
+        Ok(*self)
+    }
+}
 
 impl TryCopy for (u32, Key) {
     fn copy(&self) -> Result<(u32, Key), Memory> {

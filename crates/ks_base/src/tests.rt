@@ -1,6 +1,6 @@
 use crate::{
     Bytes, Drawn, FieldList, Id, IdFault, Key, KeyList, ListOf, Memory, Method, MethodList,
-    Receipt, Text, TryCopy,
+    Receipt, RowFault, Text, TryCopy, refuse_if,
 };
 use std::test::Fail;
 
@@ -140,5 +140,12 @@ fn copies_each_kind_of_list(rt: HostRuntime) -> Result<(), Fail> {
         memory: true,
     };
     assert!(rt; receipt.copy().ok().ok_or("memory")? == receipt);
+    Ok(())
+}
+
+#[test]
+fn refuses_where_it_applies(rt: HostRuntime) -> Result<(), Fail> {
+    assert!(rt; refuse_if(true, RowFault::Prohibited) == Err(RowFault::Prohibited));
+    assert!(rt; refuse_if(false, RowFault::Prohibited) == Ok(()));
     Ok(())
 }

@@ -1,5 +1,7 @@
 ghost use Rattle.std.specs.Prelude.{◌≡◌, IfOk, IfSome, IfNone};
-ghost use Rattle.std.specs.Str.{IsUtf8};
+ghost use Rattle.std.specs.Str.{IsUtf8, bytes_eq};
+ghost use Rattle.std.specs.Cmp.Rules.{comparing};
+ghost use Rattle.std.proofs.Common.{rules};
 
 use crate::{Memory, TryCopy};
 use std::alloc::Global;
@@ -27,11 +29,18 @@ impl Text {
         ensures none { IfOk result (λ read. IfNone read (¬ IsUtf8 bytes.now)) }
     {
         match std::str::from_utf8(bytes) {
-            Ok(text) => Ok(Some(Text {
-                text: String::from_str(alloc, text)?,
-            })),
+            Ok(text) => Ok(Some(Text::of(alloc, text)?)),
             Err(_) => Ok(None),
         }
+    }
+
+    /// A copy of this text.
+    pub fn of(alloc: Global, text: &str) -> Result<Text, Memory>
+        ensures { IfOk result (λ made. made ≡ text.now) }
+    {
+        Ok(Text {
+            text: String::from_str(alloc, text)?,
+        })
     }
 
     /// An equal text.
@@ -57,6 +66,20 @@ impl Text {
     {
         self.text.as_str()
     }
+}
+
+impl PartialEq for Text {
+    ghost eq = { bytes_eq };
+
+    ghost laws = { Prim.search (comparing, rules) };
+
+    fn eq(&self, other: &Text) -> bool {
+        self.as_slice() == other.as_slice()
+    }
+}
+
+impl Eq for Text {
+    ghost laws = { Prim.search (comparing, rules) };
 }
 
 impl TryCopy for Text {

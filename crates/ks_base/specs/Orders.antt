@@ -1,0 +1,48 @@
+-- The orders of the rows that are their own key.
+use Rattle.std.specs.Prelude.{ℕ, List}
+use Rattle.std.specs.declared.cmp.Ordering.{Ordering}
+use Rattle.std.specs.Ordering.{nat_cmp, bool_cmp, then_cmp, on}
+use Rattle.ks_base.specs.declared.grants.Actor.{Actor}
+use Rattle.ks_base.specs.declared.grants.Actor.TheVariants as actors
+use Rattle.ks_base.specs.declared.grants.Target.{Target}
+use Rattle.ks_base.specs.declared.grants.Target.TheVariants as targets
+use Rattle.ks_base.specs.declared.grants.GrantRow.{GrantRow}
+use Rattle.ks_base.specs.declared.grants.ImplyRow.{ImplyRow}
+use Rattle.ks_base.specs.declared.users.MemberRow.{MemberRow}
+use Rattle.ks_base.specs.Tables.{id_cmp}
+
+-- users before groups
+abbrev pub actor_rank : Actor → ℕ
+actor_rank (actors.User id) = 0
+actor_rank (actors.Group id) = 1
+
+abbrev pub actor_id : Actor → List ℕ
+actor_id (actors.User id) = id
+actor_id (actors.Group id) = id
+
+abbrev pub actor_cmp : Actor → Actor → Ordering
+actor_cmp = then_cmp (on actor_rank nat_cmp) (on actor_id id_cmp)
+
+-- domains before projects
+abbrev pub target_rank : Target → ℕ
+target_rank (targets.Domain id) = 0
+target_rank (targets.Project id) = 1
+
+abbrev pub target_id : Target → List ℕ
+target_id (targets.Domain id) = id
+target_id (targets.Project id) = id
+
+abbrev pub target_cmp : Target → Target → Ordering
+target_cmp = then_cmp (on target_rank nat_cmp) (on target_id id_cmp)
+
+-- by actor, target, whether it is inherited (no before yes) and role
+abbrev pub grant_cmp : GrantRow → GrantRow → Ordering
+grant_cmp = then_cmp (then_cmp (then_cmp (on (λ row. row.actor) actor_cmp) (on (λ row. row.target) target_cmp)) (on (λ row. row.inherited) bool_cmp)) (on (λ row. row.role) id_cmp)
+
+-- by group, then by user
+abbrev pub member_cmp : MemberRow → MemberRow → Ordering
+member_cmp = then_cmp (on (λ row. row.group) id_cmp) (on (λ row. row.user) id_cmp)
+
+-- by the role that implies, then by the one that is implied
+abbrev pub imply_cmp : ImplyRow → ImplyRow → Ordering
+imply_cmp = then_cmp (on (λ row. row.prior) id_cmp) (on (λ row. row.implied) id_cmp)

@@ -1,0 +1,55 @@
+-- The rows of a state as lists (Identity API v3), and how they are found. Each list stands in the order of
+-- its ids; grants, memberships and implications in the order in which they are shown.
+use Rattle.std.specs.Prelude.{ℕ, Bool, List, Option}
+use Rattle.std.specs.Str.{bytes_eq}
+use Rattle.ks_base.specs.declared.rows.DomainRow.{DomainRow}
+use Rattle.ks_base.specs.declared.rows.ProjectRow.{ProjectRow}
+use Rattle.ks_base.specs.declared.users.UserRow.{UserRow}
+use Rattle.ks_base.specs.declared.rows.GroupRow.{GroupRow}
+use Rattle.ks_base.specs.declared.users.MemberRow.{MemberRow}
+use Rattle.ks_base.specs.declared.rows.RoleRow.{RoleRow}
+use Rattle.ks_base.specs.declared.grants.ImplyRow.{ImplyRow}
+use Rattle.ks_base.specs.declared.grants.GrantRow.{GrantRow}
+use Rattle.ks_base.specs.declared.trusts.TrustRow.{TrustRow}
+use Rattle.ks_base.specs.Tables.{id_cmp, find_row}
+
+-- ids and texts as contracts see them
+abbrev pub Id : Type 0
+Id = List ℕ
+
+abbrev pub Text : Type 0
+Text = List ℕ
+
+abbrev pub same : Id → Id → Bool
+same a b = bytes_eq a b
+
+-- the lists of rows of a state
+pub record Rows : Type 0 where
+  pub domains : List DomainRow
+  pub projects : List ProjectRow
+  pub users : List UserRow
+  pub groups : List GroupRow
+  pub members : List MemberRow
+  pub roles : List RoleRow
+  pub implications : List ImplyRow
+  pub grants : List GrantRow
+  pub trusts : List TrustRow
+
+-- the rows of an id
+abbrev pub domain_of : Id → List DomainRow → Option DomainRow
+domain_of id domains = find_row id_cmp (λ row. row.id) id domains
+
+abbrev pub project_of : Id → List ProjectRow → Option ProjectRow
+project_of id projects = find_row id_cmp (λ row. row.id) id projects
+
+abbrev pub user_of : Id → List UserRow → Option UserRow
+user_of id users = find_row id_cmp (λ row. row.id) id users
+
+abbrev pub group_of : Id → List GroupRow → Option GroupRow
+group_of id groups = find_row id_cmp (λ row. row.id) id groups
+
+abbrev pub role_of : Id → List RoleRow → Option RoleRow
+role_of id roles = find_row id_cmp (λ row. row.id) id roles
+
+abbrev pub trust_of : Id → List TrustRow → Option TrustRow
+trust_of id trusts = find_row id_cmp (λ row. row.id) id trusts

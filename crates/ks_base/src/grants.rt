@@ -1,0 +1,155 @@
+ghost use Rattle.std.specs.Prelude.{◌≡◌};
+ghost use Rattle.ks_base.specs.Orders.{actor_rank, actor_id, actor_cmp, target_rank, target_id, target_cmp};
+
+use crate::{Id, Memory, Ordered, TryCopy};
+use std::cmp::Ordering;
+
+/// Whom a role is granted to.
+#[derive(Clone, Copy, PartialEq, Eq)]
+pub enum Actor {
+    User(Id),
+    Group(Id),
+}
+
+/// Where a role is granted.
+#[derive(Clone, Copy, PartialEq, Eq)]
+pub enum Target {
+    Project(Id),
+    Domain(Id),
+}
+
+/// That an actor has a role at a target; `inherited`: at all projects below the target instead.
+#[derive(Clone, Copy, PartialEq, Eq)]
+pub struct GrantRow {
+    pub actor: Actor,
+    pub target: Target,
+    pub inherited: bool,
+    pub role: Id,
+}
+
+/// That who has the role `prior` has `implied` too.
+#[derive(Clone, Copy, PartialEq, Eq)]
+pub struct ImplyRow {
+    pub prior: Id,
+    pub implied: Id,
+}
+
+impl Actor {
+    /// The id of the user or group.
+    pub fn id(&self) -> &Id
+        ensures { result.now ≡ actor_id self.now }
+    {
+        match self {
+            Actor::User(id) => id,
+            Actor::Group(id) => id,
+        }
+    }
+
+    fn rank(&self) -> u8
+        ensures { result ≡ actor_rank self.now }
+    {
+        match self {
+            Actor::User(_) => 0,
+            Actor::Group(_) => 1,
+        }
+    }
+
+    /// Users come before groups, and each by their ids.
+    pub fn compare(&self, other: &Actor) -> Ordering
+        ensures { result ≡ actor_cmp self.now other.now }
+    {
+        self.rank()
+            .cmp(&other.rank())
+            .then(self.id().cmp(other.id()))
+    }
+}
+
+impl Target {
+    /// The id of the project or domain.
+    pub fn id(&self) -> &Id
+        ensures { result.now ≡ target_id self.now }
+    {
+        match self {
+            Target::Project(id) => id,
+            Target::Domain(id) => id,
+        }
+    }
+
+    fn rank(&self) -> u8
+        ensures { result ≡ target_rank self.now }
+    {
+        match self {
+            Target::Domain(_) => 0,
+            Target::Project(_) => 1,
+        }
+    }
+
+    /// Domains come before projects, and each by their ids.
+    pub fn compare(&self, other: &Target) -> Ordering
+        ensures { result ≡ target_cmp self.now other.now }
+    {
+        self.rank()
+            .cmp(&other.rank())
+            .then(self.id().cmp(other.id()))
+    }
+}
+
+impl Ordered for GrantRow {
+    ghost use Rattle.ks_base.specs.Orders.{grant_cmp};
+    ghost use Rattle.ks_base.specs.OrderLaws.{grant_total, grant_exact};
+
+    ghost cmp = { grant_cmp };
+
+    ghost total = { grant_total };
+
+    ghost exact = { grant_exact };
+
+    fn compare(&self, other: &GrantRow) -> Ordering {
+        self.actor
+            .compare(&other.actor)
+            .then(self.target.compare(&other.target))
+            .then(self.inherited.cmp(&other.inherited))
+            .then(self.role.cmp(&other.role))
+    }
+}
+
+impl Ordered for ImplyRow {
+    ghost use Rattle.ks_base.specs.Orders.{imply_cmp};
+    ghost use Rattle.ks_base.specs.OrderLaws.{imply_total, imply_exact};
+
+    ghost cmp = { imply_cmp };
+
+    ghost total = { imply_total };
+
+    ghost exact = { imply_exact };
+
+    fn compare(&self, other: &ImplyRow) -> Ordering {
+        self.prior
+            .cmp(&other.prior)
+            .then(self.implied.cmp(&other.implied))
+    }
+}
+
+impl TryCopy for Actor {
+    fn copy(&self) -> Result<Actor, Memory> {
+        Ok(*self)
+    }
+}
+
+impl TryCopy for Target {
+    fn copy(&self) -> Result<Target, Memory> {
+        Ok(*self)
+    }
+}
+
+impl TryCopy for GrantRow {
+    fn copy(&self) -> Result<GrantRow, Memory> {
+        Ok(*self)
+    }
+}
+
+impl TryCopy for ImplyRow {
+    fn copy(&self) -> Result<ImplyRow, Memory> {
+        Ok(*self)
+    }
+}

@@ -1,0 +1,25 @@
+use crate::{Memory, TryCopy};
+
+/// What a row, a table or a count is of.
+#[derive(Clone, Copy, Debug, PartialEq, Eq)]
+pub enum Kind {
+    Domain,
+    Project,
+    User,
+    Group,
+    Role,
+    Implication,
+    Grant,
+    Member,
+    Trust,
+    /// A revocation.
+    Event,
+    /// The changes that are noted.
+    Journal,
+}
+
+impl TryCopy for Kind {
+    fn copy(&self) -> Result<Kind, Memory> {
+        Ok(*self)
+    }
+}

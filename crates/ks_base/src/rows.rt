@@ -1,0 +1,158 @@
+ghost use Rattle.std.specs.Prelude.{◌≡◌, IfOk};
+
+use crate::{Id, Memory, Row, Text, TryCopy};
+
+/// A domain: it holds projects, users and groups.
+#[derive(Drop)]
+pub struct DomainRow {
+    pub id: Id,
+    /// Unique among domains.
+    pub name: Text,
+    pub description: Text,
+    pub enabled: bool,
+}
+
+/// A project, in the tree of its domain.
+#[derive(Drop)]
+pub struct ProjectRow {
+    pub id: Id,
+    pub domain: Id,
+    /// The project above it; the domain, if it is a top project.
+    pub parent: Id,
+    /// Unique among the projects of the domain.
+    pub name: Text,
+    pub description: Text,
+    pub enabled: bool,
+}
+
+/// A group of users of any domains.
+#[derive(Drop)]
+pub struct GroupRow {
+    pub id: Id,
+    pub domain: Id,
+    /// Unique among the groups of the domain.
+    pub name: Text,
+    pub description: Text,
+}
+
+/// A role, which grants name.
+#[derive(Drop)]
+pub struct RoleRow {
+    pub id: Id,
+    /// Unique among roles.
+    pub name: Text,
+    pub description: Text,
+}
+
+impl DomainRow {
+    /// An equal row.
+    pub fn copy(&self) -> Result<DomainRow, Memory>
+        ensures { IfOk result (λ made. made ≡ self.now) }
+    {
+        Ok(DomainRow {
+            id: self.id,
+            name: self.name.copy()?,
+            description: self.description.copy()?,
+            enabled: self.enabled,
+        })
+    }
+}
+
+impl ProjectRow {
+    /// An equal row.
+    pub fn copy(&self) -> Result<ProjectRow, Memory>
+        ensures { IfOk result (λ made. made ≡ self.now) }
+    {
+        Ok(ProjectRow {
+            id: self.id,
+            domain: self.domain,
+            parent: self.parent,
+            name: self.name.copy()?,
+            description: self.description.copy()?,
+            enabled: self.enabled,
+        })
+    }
+}
+
+impl GroupRow {
+    /// An equal row.
+    pub fn copy(&self) -> Result<GroupRow, Memory>
+        ensures { IfOk result (λ made. made ≡ self.now) }
+    {
+        Ok(GroupRow {
+            id: self.id,
+            domain: self.domain,
+            name: self.name.copy()?,
+            description: self.description.copy()?,
+        })
+    }
+}
+
+impl RoleRow {
+    /// An equal row.
+    pub fn copy(&self) -> Result<RoleRow, Memory>
+        ensures { IfOk result (λ made. made ≡ self.now) }
+    {
+        Ok(RoleRow {
+            id: self.id,
+            name: self.name.copy()?,
+            description: self.description.copy()?,
+        })
+    }
+}
+
+impl Row for DomainRow {
+    ghost key = { λ row. row.id };
+
+    fn id(&self) -> &Id {
+        &self.id
+    }
+}
+
+impl TryCopy for DomainRow {
+    fn copy(&self) -> Result<DomainRow, Memory> {
+        DomainRow::copy(self)
+    }
+}
+
+impl Row for ProjectRow {
+    ghost key = { λ row. row.id };
+
+    fn id(&self) -> &Id {
+        &self.id
+    }
+}
+
+impl TryCopy for ProjectRow {
+    fn copy(&self) -> Result<ProjectRow, Memory> {
+        ProjectRow::copy(self)
+    }
+}
+
+impl Row for GroupRow {
+    ghost key = { λ row. row.id };
+
+    fn id(&self) -> &Id {
+        &self.id
+    }
+}
+
+impl TryCopy for GroupRow {
+    fn copy(&self) -> Result<GroupRow, Memory> {
+        GroupRow::copy(self)
+    }
+}
+
+impl Row for RoleRow {
+    ghost key = { λ row. row.id };
+
+    fn id(&self) -> &Id {
+        &self.id
+    }
+}
+
+impl TryCopy for RoleRow {
+    fn copy(&self) -> Result<RoleRow, Memory> {
+        RoleRow::copy(self)
+    }
+}
