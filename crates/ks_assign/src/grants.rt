@@ -1,0 +1,110 @@
+ghost use Rattle.std.specs.Prelude.{◌≡◌, ◌≢◌, [], not, filter, Ok, Err, false, is_none, IsSome, IfOk, IsTrue};
+ghost use Rattle.ks_base.specs.Orders.{grant_cmp};
+ghost use Rattle.ks_base.specs.Refusals.{Changes, Decides};
+ghost use Rattle.ks_base.specs.Tables.{IsAscending, find_row};
+ghost use Rattle.ks_assign.specs.Grants.{stands, with_grant, without_grant, grant_fault, ungrant_fault, is_of_actor, is_at_target, is_of_role};
+
+use crate::named::{Elsewhere, OfOtherRoles, OfOthers};
+use ks_base::{Actor, GrantList, GrantRow, Id, Kind, Memory, RowFault, RowSet, Target, refuse_if};
+use std::alloc::Global;
+use std::marker::Model;
+
+const LIMIT: usize = 262_144;
+
+/// Grants, each once: by actor (users first), target (domains first), whether they are inherited (those that
+/// are not first) and role.
+#[derive(Drop)]
+pub struct Grants {
+    alloc: Global,
+    rows: RowSet<GrantRow>,
+}
+
+impl Model for Grants {
+    ghost use Rattle.std.specs.Prelude.{List};
+    ghost use Rattle.ks_base.specs.declared.grants.GrantRow.{GrantRow};
+
+    ghost Value = { List GrantRow };
+
+    ghost view = { λ grants. grants.rows };
+}
+
+impl Grants {
+    /// No grants, which take no memory yet.
+    pub fn new(alloc: Global) -> Grants
+        ensures { result ≡ [] }
+    {
+        Grants {
+            alloc,
+            rows: RowSet::new(alloc),
+        }
+    }
+
+    /// Grants, and says whether the grant is new; one that stands is no change and takes no memory. Refused is
+    /// the 262,145th grant (`Full`). Whatever is refused changes nothing.
+    pub fn grant(&mut self, row: GrantRow) -> Result<bool, RowFault>
+        ensures changes { Changes RowFault.Memory (grant_fault self.old row) self.old (with_grant row self.old) result self.new }
+        ensures new { IfOk result (λ new. new ≡ not (stands self.old row)) }
+        ensures standing { IsTrue (stands self.old row) → (result ≡ Ok false) × (self.new ≡ self.old) }
+    {
+        let _actor = &row.actor;
+        refuse_if(
+            !self.rows.has(&row) && self.rows.len() >= LIMIT,
+            RowFault::Full(Kind::Grant),
+        )?;
+        Ok(self.rows.add(row)?)
+    }
+
+    /// Takes a grant back. Refused is one that does not stand (`Absent`, with its role).
+    pub fn ungrant(&mut self, row: &GrantRow) -> Result<(), RowFault>
+        ensures decides { Decides (ungrant_fault self.old row.now) self.old (without_grant row.now self.old) result self.new }
+        ensures memory { result ≢ Err RowFault.Memory }
+    {
+        refuse_if(!self.rows.has(row), RowFault::Absent(Kind::Grant, row.role))?;
+        let _stood = self.rows.remove(row);
+        Ok(())
+    }
+
+    /// Whether the grant stands.
+    pub fn has(&self, row: &GrantRow) -> bool
+        ensures { result ≡ stands self.now row.now }
+    {
+        self.rows.has(row)
+    }
+
+    /// Takes all grants to the user or group back.
+    pub fn drop_actor(&mut self, actor: &Actor)
+        ensures { self.new ≡ filter (λ row. not (is_of_actor actor.now row)) self.old }
+    {
+        self.rows.keep(&OfOthers { actor });
+    }
+
+    /// Takes all grants at the project or domain back.
+    pub fn drop_target(&mut self, target: &Target)
+        ensures { self.new ≡ filter (λ row. not (is_at_target target.now row)) self.old }
+    {
+        self.rows.keep(&Elsewhere { target });
+    }
+
+    /// Takes all grants of the role back.
+    pub fn drop_role(&mut self, role: &Id)
+        ensures { self.new ≡ filter (λ row. not (is_of_role role.now row)) self.old }
+    {
+        self.rows.keep(&OfOtherRoles { role });
+    }
+
+    /// A copy of all grants, in their order.
+    pub fn rows(&self) -> Result<GrantList, Memory>
+        ensures { IfOk result (λ rows. rows ≡ self.now) }
+    {
+        let rows = Vec::from_slice(self.alloc, self.rows.rows())?;
+        Ok(GrantList::from_vec(rows))
+    }
+
+    /// All grants, in their order.
+    pub fn as_slice(&self) -> &[GrantRow]
+        ensures rows { result.now ≡ self.now }
+        ensures ascending { IsAscending grant_cmp (λ row. row) self.now }
+    {
+        self.rows.rows()
+    }
+}

@@ -1,0 +1,2 @@
+pub mod ClosureLemmas
+pub mod ImplyLemmas

@@ -1,0 +1,13 @@
+//! Roles and their implications (Identity API v3, roles and implied roles).
+#![tactic(auto)]
+
+mod changes;
+mod checks;
+mod closure;
+mod lists;
+mod named;
+mod roles;
+#[cfg(test)]
+mod tests;
+
+pub use roles::Roles;

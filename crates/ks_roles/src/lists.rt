@@ -1,0 +1,37 @@
+ghost use Rattle.std.specs.Prelude.{◌≡◌, map, IfOk};
+ghost use Rattle.ks_base.specs.Tables.{id_cmp, IsAscending};
+ghost use Rattle.ks_roles.specs.State.{implied_ids};
+
+use crate::Roles;
+use ks_base::{Id, IdList, ImplyRow, Memory};
+use std::alloc::{AllocError, Global};
+
+/// The roles that these implications let follow from this one.
+fn implied_of(alloc: Global, implications: &[ImplyRow], prior: &Id) -> Result<Vec<Id>, AllocError>
+    ensures { IfOk result (λ ids. ids.items ≡ implied_ids prior.now implications.now) }
+{
+    implications
+        .iter()
+        .filter(|row| row.prior == *prior)
+        .map(|row| row.implied)
+        .collect(alloc)
+}
+
+impl Roles {
+    /// The ids of all roles, in their order.
+    pub fn ids(&self) -> Result<IdList, Memory>
+        ensures { IfOk result (λ ids. ids ≡ map (λ row. row.id) self.now.roles) }
+    {
+        self.roles.ids()
+    }
+
+    /// The ids of the roles that this one implies directly, in their order.
+    #[tactic(auto, using(crate::proofs::ImplyLemmas::implied_ascend))]
+    pub fn implied_by(&self, prior: &Id) -> Result<IdList, Memory>
+        ensures ids { IfOk result (λ ids. ids ≡ implied_ids prior.now self.now.implications) }
+        ensures ascending { IfOk result (λ ids. IsAscending id_cmp (λ id. id) ids) }
+    {
+        let implied = implied_of(self.alloc, self.implications.rows(), prior)?;
+        Ok(IdList::from_vec(implied))
+    }
+}

@@ -1,0 +1,53 @@
+ghost use Rattle.std.specs.Prelude.{◌≡◌, [], find, option_copied};
+ghost use Rattle.ks_base.specs.Rows.{role_of};
+ghost use Rattle.ks_base.specs.Tables.{id_cmp, IsAscending};
+ghost use Rattle.ks_roles.specs.State.{is_named};
+
+use crate::named::Named;
+use ks_base::{Id, ImplyRow, RoleRow, RowSet, Table, Text};
+use std::alloc::Global;
+use std::marker::Model;
+
+/// Roles, and which of them imply which others.
+#[derive(Drop)]
+pub struct Roles {
+    pub(crate) alloc: Global,
+    pub(crate) roles: Table<RoleRow>,
+    pub(crate) implications: RowSet<ImplyRow>,
+}
+
+impl Model for Roles {
+    ghost use Rattle.ks_roles.specs.State.{RolesState};
+
+    ghost Value = { RolesState };
+
+    ghost view = { λ all. record { roles = all.roles; implications = all.implications } };
+}
+
+impl Roles {
+    /// No roles, which take no memory yet.
+    pub fn new(alloc: Global) -> Roles
+        ensures { result ≡ record { roles = []; implications = [] } }
+    {
+        Roles {
+            alloc,
+            roles: Table::new(alloc),
+            implications: RowSet::new(alloc),
+        }
+    }
+
+    /// The role with this id.
+    pub fn role(&self, id: &Id) -> Option<&RoleRow>
+        ensures found { option_copied result ≡ role_of id.now self.now.roles }
+        ensures ascending { IsAscending id_cmp (λ row. row.id) self.now.roles }
+    {
+        self.roles.get(id)
+    }
+
+    /// The role with this name, compared by bytes.
+    pub fn named(&self, name: &Text) -> Option<&RoleRow>
+        ensures { option_copied result ≡ find (is_named name.now) self.now.roles }
+    {
+        self.roles.first(&Named { name })
+    }
+}

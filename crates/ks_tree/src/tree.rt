@@ -1,0 +1,68 @@
+ghost use Rattle.std.specs.Prelude.{◌≡◌, [], find, option_copied};
+ghost use Rattle.ks_base.specs.Rows.{domain_of, project_of};
+ghost use Rattle.ks_base.specs.Tables.{id_cmp, IsAscending};
+ghost use Rattle.ks_tree.specs.State.{is_domain_named, is_project_named};
+
+use crate::named::{DomainNamed, ProjectNamed};
+use ks_base::{DomainRow, Id, ProjectRow, Table, Text};
+use std::alloc::Global;
+use std::marker::Model;
+
+/// Domains, and the projects that lie in them as trees.
+#[derive(Drop)]
+pub struct Tree {
+    pub(crate) alloc: Global,
+    pub(crate) domains: Table<DomainRow>,
+    pub(crate) projects: Table<ProjectRow>,
+}
+
+impl Model for Tree {
+    ghost use Rattle.ks_tree.specs.State.{TreeState};
+
+    ghost Value = { TreeState };
+
+    ghost view = { λ tree. record { domains = tree.domains; projects = tree.projects } };
+}
+
+impl Tree {
+    /// A state without domains and projects, which takes no memory yet.
+    pub fn new(alloc: Global) -> Tree
+        ensures { result ≡ record { domains = []; projects = [] } }
+    {
+        Tree {
+            alloc,
+            domains: Table::new(alloc),
+            projects: Table::new(alloc),
+        }
+    }
+
+    /// The domain with this id.
+    pub fn domain(&self, id: &Id) -> Option<&DomainRow>
+        ensures found { option_copied result ≡ domain_of id.now self.now.domains }
+        ensures ascending { IsAscending id_cmp (λ row. row.id) self.now.domains }
+    {
+        self.domains.get(id)
+    }
+
+    /// The project with this id.
+    pub fn project(&self, id: &Id) -> Option<&ProjectRow>
+        ensures found { option_copied result ≡ project_of id.now self.now.projects }
+        ensures ascending { IsAscending id_cmp (λ row. row.id) self.now.projects }
+    {
+        self.projects.get(id)
+    }
+
+    /// The domain with this name, compared by bytes.
+    pub fn domain_named(&self, name: &Text) -> Option<&DomainRow>
+        ensures { option_copied result ≡ find (is_domain_named name.now) self.now.domains }
+    {
+        self.domains.first(&DomainNamed { name })
+    }
+
+    /// The project of this domain with this name, compared by bytes.
+    pub fn project_named(&self, domain: &Id, name: &Text) -> Option<&ProjectRow>
+        ensures { option_copied result ≡ find (is_project_named domain.now name.now) self.now.projects }
+    {
+        self.projects.first(&ProjectNamed { domain, name })
+    }
+}
