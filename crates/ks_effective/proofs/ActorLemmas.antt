@@ -1,0 +1,43 @@
+use Rattle.std.proofs.Common.{◌≡◌, Bool, true, List, map, refl, sym, subst, ◌∙◌}
+use Rattle.std.specs.Bool.{Decides}
+use Rattle.std.specs.List.{filter}
+use Rattle.std.proofs.lemmas.Slice.Eq.{bytes_eq-Decides}
+use Rattle.ks_base.specs.declared.grants.Actor.{Actor}
+use Rattle.ks_base.specs.declared.grants.Actor.TheVariants as actor
+use Rattle.ks_base.specs.declared.users.MemberRow.{MemberRow}
+use Rattle.ks_base.specs.Roles.{Acts}
+use Rattle.ks_base.specs.Rows.{Id, same}
+use Rattle.ks_base.specs.Tables.{Among}
+use Rattle.ks_base.proofs.RowLemmas.{among_filter, filter_among}
+use Rattle.ks_people.specs.State.{is_of_user}
+use Rattle.ks_effective.specs.Actors.{ActorsOf, include}
+use Rattle.ks_effective.proofs.ListLemmas.{FromOne, among_map, map_among, any-Decides}
+
+-- the groups of a user are those that it is a member of
+abbrev groups_in : Id → List MemberRow → List Id
+groups_in user members = map (λ row. row.group) (filter (is_of_user user) members)
+
+membership : (row : MemberRow) (user group : Id) → row.group ≡ group → row.user ≡ user → row ≡ record { group = group; user = user }
+membership row user group group_is user_is = λ i. record { group = group_is i; user = user_is i }
+
+group_member : (members : List MemberRow) (user group : Id) → Among (groups_in user members) group → Among members (record { group = group; user = user })
+group_member members user group among =
+    let one = among_map (λ (row : MemberRow). row.group) (filter (is_of_user user) members) group among in
+    let kept = among_filter (is_of_user user) members one.item one.stands in
+    subst (Among members) (membership one.item user group one.image ((bytes_eq-Decides one.item.user user).0 kept.1)) kept.0
+
+member_group : (members : List MemberRow) (user group : Id) → Among members (record { group = group; user = user }) → Among (groups_in user members) group
+member_group members user group among =
+    let row : MemberRow = record { group = group; user = user } in
+    map_among (λ (next : MemberRow). next.group) (filter (is_of_user user) members) row
+    (filter_among (is_of_user user) members row among ((bytes_eq-Decides user user).1 refl))
+
+-- the actors that were looked up are those that act for the user
+pub include-Decides : (members : List MemberRow) (user : Id) (groups : List Id) → groups ≡ groups_in user members → (actor : Actor) →
+    Decides (include (record { user = user; groups = groups }) actor) (Acts members user actor)
+include-Decides members user groups is (actor.User id) = bytes_eq-Decides id user
+include-Decides members user groups is (actor.Group id) =
+    let any = any-Decides id groups in (
+      λ found. group_member members user id (subst (λ (ids : List Id). Among ids id) is (any.0 found)),
+      λ among. any.1 (subst (λ (ids : List Id). Among ids id) (sym is) (member_group members user id among)),
+    )

@@ -1,0 +1,6 @@
+pub mod ListLemmas
+pub mod ActorLemmas
+pub mod ReachLemmas
+pub mod GrantedLemmas
+pub mod TopLemmas
+pub mod WalkParts

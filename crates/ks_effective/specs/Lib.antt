@@ -1,0 +1,5 @@
+pub mod State
+pub mod Actors
+pub mod Reach
+pub mod Granted
+pub mod Tops

@@ -1,0 +1,21 @@
+-- The tables of trees, people, roles and grants as the rows of one state.
+use Rattle.std.specs.Prelude.{List, []}
+use Rattle.ks_base.specs.declared.grants.GrantRow.{GrantRow}
+use Rattle.ks_base.specs.Rows.{Rows}
+use Rattle.ks_tree.specs.State.{TreeState}
+use Rattle.ks_people.specs.State.{PeopleState}
+use Rattle.ks_roles.specs.State.{RolesState}
+
+-- without trusts, on which effective roles do not depend
+abbrev pub rows_of : TreeState → PeopleState → RolesState → List GrantRow → Rows
+rows_of tree people roles grants = record {
+  domains = tree.domains;
+  projects = tree.projects;
+  users = people.users;
+  groups = people.groups;
+  members = people.members;
+  roles = roles.roles;
+  implications = roles.implications;
+  grants = grants;
+  trusts = [];
+}
