@@ -1,3 +1,4 @@
+pub mod Derivations
 pub mod Moment
 pub mod Names
 pub mod TokenLines

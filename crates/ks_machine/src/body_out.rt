@@ -1,6 +1,136 @@
-/// What an answer that grants a command tells.
+//! What answers that grant a command tell (Identity API v3).
+ghost use Rattle.std.specs.Prelude.{◌≡◌, IfOk};
+
+use ks_base::{
+    DomainRow, EventList, GrantList, GroupRow, Id, IndexList, Kind, ListOf, Memory, ProjectRow,
+    RoleList, RoleRow, Text, TrustRow, TryCopy, UserRow,
+};
+
+/// An id and the name that goes with it.
+#[derive(Drop)]
+pub struct Titled {
+    pub id: Id,
+    pub name: Text,
+}
+
+/// Ids with their names, in the order of the ids.
+pub type TitledList = ListOf<Titled>;
+
+/// An id and a name within a domain.
+#[derive(Drop)]
+pub struct Homed {
+    pub id: Id,
+    pub name: Text,
+    pub domain: Titled,
+}
+
+/// The trust that a token is of.
+#[derive(Drop)]
+pub struct TrustUse {
+    pub id: Id,
+    pub impersonation: bool,
+    pub trustee: Id,
+    pub trustor: Id,
+}
+
+/// What is told of a token. Moments are in whole seconds since 1970-01-01T00:00:00Z.
+#[derive(Drop)]
+pub struct TokenOut {
+    pub text: Text,
+    /// Whether this answer made the token.
+    pub made: bool,
+    pub audit: [u8; 16],
+    /// The audit id of the token with which its chain began, if that is another one.
+    pub chain: Option<[u8; 16]>,
+    /// A set of bits: 1 for a password, 2 for a token, 4 for a one-time password, 8 for an
+    /// application credential.
+    pub methods: u8,
+    pub issued: u64,
+    pub expires: u64,
+    pub user: Homed,
+    pub project: Option<Homed>,
+    pub domain: Option<Titled>,
+    pub trust: Option<TrustUse>,
+    /// None exactly where the token has no scope.
+    pub roles: Option<TitledList>,
+}
+
+/// A row of any kind that is told by itself or in a listing.
+#[derive(Drop)]
+pub enum Row {
+    Domain(DomainRow),
+    Project(ProjectRow),
+    User(UserRow),
+    Group(GroupRow),
+    Role(RoleRow),
+    /// A trust, and its roles with their names.
+    Trust(TrustRow, TitledList),
+}
+
+/// Rows in the order of their ids.
+pub type RowList = ListOf<Row>;
+
+/// What an answer that grants a command tells. A truth value says whether the command made what is told;
+/// the text at the end is the path of the listing.
 #[derive(Drop)]
 pub enum BodyOut {
+    /// Nothing.
+    Nothing,
     /// The version document of the Identity API.
     Version,
+    Token(TokenOut),
+    One(Row, bool),
+    Many(Kind, RowList, Text),
+    /// One implication: the prior role, and the one that it implies.
+    Inference(Titled, Titled, bool),
+    /// The prior role, and all that it implies directly.
+    Inferences(Titled, TitledList),
+    /// The roles of a grant.
+    Grants(RoleList, Text),
+    Assignments(GrantList, Text),
+    Trusts(RowList, Text),
+    TrustRoles(RoleList, Text),
+    Events(EventList, Text),
+    /// The indices of the keys that are held, rising, and the one that seals.
+    Keys(IndexList, u32),
+}
+
+impl Titled {
+    /// An equal value.
+    pub fn copy(&self) -> Result<Titled, Memory>
+        ensures { IfOk result (λ made. made ≡ self.now) }
+    {
+        Ok(Titled {
+            id: self.id,
+            name: self.name.copy()?,
+        })
+    }
+}
+
+impl TryCopy for Titled {
+    fn copy(&self) -> Result<Titled, Memory> {
+        Titled::copy(self)
+    }
+}
+
+impl Row {
+    /// An equal row.
+    pub fn copy(&self) -> Result<Row, Memory>
+        ensures { IfOk result (λ made. made ≡ self.now) }
+    {
+        match self {
+            Row::Domain(row) => Ok(Row::Domain(row.copy()?)),
+            Row::Project(row) => Ok(Row::Project(row.copy()?)),
+            Row::User(row) => Ok(Row::User(row.copy()?)),
+            Row::Group(row) => Ok(Row::Group(row.copy()?)),
+            Row::Role(row) => Ok(Row::Role(row.copy()?)),
+            Row::Trust(row, roles) => Ok(Row::Trust(row.copy()?, roles.copy()?)),
+        }
+    }
+}
+
+impl TryCopy for Row {
+    fn copy(&self) -> Result<Row, Memory> {
+        Row::copy(self)
+    }
 }

@@ -1,6 +1,53 @@
+use crate::{LoginBody, Made, TrustBody};
+use ks_base::{Actor, Filter, GrantRow, Id, ImplyRow, Kind, MemberRow, Target, Text};
+
 /// What a request asks for, by the route that it came on.
 #[derive(Drop)]
 pub enum Command {
     /// The version document.
     Version,
+    Login(LoginBody),
+    /// The subject token with all that is told of it.
+    Validate,
+    /// Whether the subject token is valid.
+    Check,
+    /// The end of the subject token.
+    RevokeToken,
+    Create(Made),
+    List(Kind, Filter),
+    Get(Kind, Id),
+    Update(Id, Made),
+    Delete(Kind, Id),
+    /// The user, the original password and the new one.
+    ChangePassword(Id, Text, Text),
+    /// The groups that the user is in.
+    GroupsOf(Id),
+    /// The users in the group.
+    MembersOf(Id),
+    Join(MemberRow),
+    IsIn(MemberRow),
+    Leave(MemberRow),
+    /// The roles that this one implies directly.
+    Implied(Id),
+    Imply(ImplyRow),
+    /// One implication, with the names of its roles.
+    Implication(ImplyRow),
+    IsImplied(ImplyRow),
+    Unimply(ImplyRow),
+    /// The roles of the actor at the target, those that are inherited or those that are not.
+    GrantsOf(Actor, Target, bool),
+    Grant(GrantRow),
+    IsGranted(GrantRow),
+    Ungrant(GrantRow),
+    Assignments(Filter),
+    CreateTrust(TrustBody),
+    Trusts(Filter),
+    Trust(Id),
+    DeleteTrust(Id),
+    TrustRoles(Id),
+    /// The revocations that are live.
+    Events,
+    RotateKeys,
+    /// The keys of the folder are to be held.
+    LoadKeys,
 }

@@ -1,22 +1,34 @@
-//! The identity machine: what every answer is by the state, the moment and the request alone. So far it
-//! has the lines of a token's validity that its keys, its payload and the time decide, and the commands,
-//! answers and causes that need no state.
+//! The identity machine: what every answer is by the state, the moment and the request alone. So far it has the
+//! commands, answers, causes and changes, the facts of derived passwords, and the lines of a token's validity
+//! that its keys, its payload and the time decide.
 #![tactic(auto)]
 
+mod bodies;
 mod body_out;
+mod call;
 mod cause;
+mod change;
 mod clock;
 mod command;
+mod derived;
 mod lines;
 mod reply;
+mod settings;
 #[cfg(test)]
 mod tests;
 mod why;
 
-pub use body_out::BodyOut;
-pub use cause::Cause;
+pub use bodies::{
+    LoginBody, Made, Named, NamedList, ProjectNamed, Proof, ScopeIn, TrustBody, UserNamed,
+};
+pub use body_out::{BodyOut, Homed, Row, RowList, Titled, TitledList, TokenOut, TrustUse};
+pub use call::{Call, FolderRead};
+pub use cause::{Cause, ScopeWhy};
+pub use change::{Change, Entry};
 pub use clock::moment;
 pub use command::Command;
+pub use derived::Derived;
 pub use lines::{Held, first_answer, token_lines};
 pub use reply::Reply;
+pub use settings::{OpenFault, Settings};
 pub use why::Why;

@@ -1,7 +1,7 @@
 -- The responses of HTTP that tell the machine's replies, and those to bytes that are no request.
 use Rattle.std.specs.Prelude.{ℕ, Bool, true, false, if◌then◌else◌, List, [], ◌∷◌, ◌++◌, codes}
 use Rattle.std.specs.List.{join_by}
-use Rattle.serde_json.specs.Data.{Data}
+use Rattle.serde_json.specs.Data.{Data, null}
 use Rattle.serde_json.specs.Written.{compact_text}
 use Rattle.ks_base.specs.declared.method.Method.{Method}
 use Rattle.ks_base.specs.declared.method.Method.TheVariants.{Get, Head, Post, Patch, Put, Delete, Other}
@@ -18,15 +18,33 @@ use Rattle.ks_http.specs.declared.cause.HttpCause.TheVariants as bad
 use Rattle.ks_http.specs.declared.response.Response.{Response}
 use Rattle.ks_render.specs.Bodies.{error_body, version_body}
 
+-- ---- the replies that have a response so far; what is said below of others stands for none
+
+abbrev pub is_granted_told : BodyOut → Bool
+is_granted_told body_out.Version = true
+is_granted_told other = false
+
+abbrev pub is_cause_told : Cause → Bool
+is_cause_told cause.NoRoute = true
+is_cause_told (cause.NoMethod methods) = true
+is_cause_told cause.Memory = true
+is_cause_told other = false
+
+abbrev pub is_told : Reply → Bool
+is_told (reply.Ok granted) = is_granted_told granted
+is_told (reply.Refused refused) = is_cause_told refused
+
 -- ---- what the response says, by the case
 
 abbrev pub status_of_granted : BodyOut → ℕ
 status_of_granted body_out.Version = 200
+status_of_granted other = 0
 
 abbrev pub status_of_cause : Cause → ℕ
 status_of_cause cause.NoRoute = 404
 status_of_cause (cause.NoMethod methods) = 405
 status_of_cause cause.Memory = 503
+status_of_cause other = 0
 
 abbrev pub status_of : Reply → ℕ
 status_of (reply.Ok granted) = status_of_granted granted
@@ -43,6 +61,7 @@ unfoldable pub message_of_cause : Cause → List ℕ
 message_of_cause cause.NoRoute = codes "The resource could not be found."
 message_of_cause (cause.NoMethod methods) = codes "The method is not allowed."
 message_of_cause cause.Memory = codes "Out of memory."
+message_of_cause other = []
 
 unfoldable pub message_of_bad : HttpCause → List ℕ
 message_of_bad bad.Malformed = codes "The request is malformed."
@@ -55,6 +74,7 @@ message_of_bad bad.Version = codes "The version is not supported."
 
 abbrev pub granted_body : BodyOut → List ℕ → Data
 granted_body body_out.Version url = version_body url
+granted_body other url = null
 
 abbrev pub refused_body : Cause → Data
 refused_body refused = error_body (status_of_cause refused) (message_of_cause refused)
@@ -89,9 +109,8 @@ unfoldable pub allow_fields : List Method → List Named
 allow_fields methods = (codes "Allow", method_list methods) ∷ []
 
 abbrev pub cause_fields : Cause → List Named
-cause_fields cause.NoRoute = []
 cause_fields (cause.NoMethod methods) = allow_fields methods
-cause_fields cause.Memory = []
+cause_fields other = []
 
 abbrev pub own_fields : Reply → List Named
 own_fields (reply.Ok granted) = []

@@ -1,8 +1,8 @@
-ghost use Rattle.std.specs.Prelude.{◌≡◌, ◌++◌, [], ◌∷◌, codes, IfOk, OnOk, string_bytes};
+ghost use Rattle.std.specs.Prelude.{◌≡◌, ◌++◌, [], ◌∷◌, codes, IfOk, IsTrue, OnOk, string_bytes};
 ghost use Rattle.json.specs.Token.{key, string};
 ghost use Rattle.serde_json.specs.Written.{compact_text};
 ghost use Rattle.ks_render.specs.Bodies.{error_body, self_links, media_types, version_body};
-ghost use Rattle.ks_render.specs.Answers.{granted_body, refused_body, body_of, bad_body};
+ghost use Rattle.ks_render.specs.Answers.{is_granted_told, is_cause_told, is_told, granted_body, refused_body, body_of, bad_body};
 ghost use Rattle.ks_render.specs.Writing.{Adds, Tells};
 
 use crate::status::{message_of_bad, message_of_cause, status_of_bad, status_of_cause};
@@ -93,20 +93,24 @@ fn write_granted(
     granted: &BodyOut,
     url: &Text,
 ) -> Result<(), AllocError>
+    requires { IsTrue (is_granted_told granted.now) }
     ensures { OnOk result (Tells out.old out.new (granted_body granted.now url.now)) }
 {
     match granted {
         BodyOut::Version => write_version(out, alloc, url),
+        _ => unreachable!(),
     }
 }
 
 fn write_refused(out: &mut Writer, cause: &Cause) -> Result<(), AllocError>
+    requires { IsTrue (is_cause_told cause.now) }
     ensures { OnOk result (Tells out.old out.new (refused_body cause.now)) }
 {
     write_error(out, status_of_cause(cause), message_of_cause(cause))
 }
 
 fn write_body(out: &mut Writer, alloc: Global, reply: &Reply, url: &Text) -> Result<(), AllocError>
+    requires { IsTrue (is_told reply.now) }
     ensures { OnOk result (Tells out.old out.new (body_of reply.now url.now)) }
 {
     match reply {
@@ -123,6 +127,7 @@ fn write_bad(out: &mut Writer, cause: &HttpCause) -> Result<(), AllocError>
 
 /// The body of a reply of the server at the URL.
 pub fn body_text(alloc: Global, reply: &Reply, url: &Text) -> Result<Bytes, Memory>
+    requires { IsTrue (is_told reply.now) }
     ensures { IfOk result (λ made. made ≡ compact_text (body_of reply.now url.now)) }
 {
     let mut out = Writer::new(Vec::with_capacity(alloc, ROOM)?);

@@ -5,19 +5,10 @@ use ks_base::{FieldList, Memory, Method, Text};
 use ks_machine::{Cause, Reply};
 use std::alloc::Global;
 
-fn text(alloc: Global, text: &str) -> Result<Text, Memory>
-    ensures { IfOk result (λ made. made ≡ text.now) }
-{
-    match Text::read(alloc, text.as_bytes())? {
-        Some(made) => Ok(made),
-        None => unreachable!(),
-    }
-}
-
 fn push(fields: &mut FieldList, alloc: Global, name: &str, value: &str) -> Result<(), Memory>
     ensures { OnOk result (fields.new ≡ fields.old ++ (name.now, value.now) ∷ []) }
 {
-    fields.push((text(alloc, name)?, text(alloc, value)?))
+    fields.push((Text::of(alloc, name)?, Text::of(alloc, value)?))
 }
 
 #[tactic(auto, unfolding(crate::specs::Answers::name_of))]
@@ -77,9 +68,8 @@ fn push_of_cause(fields: &mut FieldList, alloc: Global, cause: &Cause) -> Result
     ensures { OnOk result (fields.new ≡ fields.old ++ cause_fields cause.now) }
 {
     match cause {
-        Cause::NoRoute => Ok(()),
         Cause::NoMethod(methods) => push_allow(fields, alloc, methods.as_slice()),
-        Cause::Memory => Ok(()),
+        _ => Ok(()),
     }
 }
 

@@ -1,3 +1,6 @@
+ghost use Rattle.std.specs.Prelude.{IfOk, IsTrue};
+ghost use Rattle.ks_render.specs.Answers.{is_told};
+
 mod rows;
 
 use crate::tests::rows::{Asked, BAD, CASES, URLS};
@@ -24,10 +27,12 @@ fn shown(alloc: Global, made: &Response) -> Result<String, Fail> {
 }
 
 fn text(alloc: Global, text: &str) -> Result<Text, Fail> {
-    Ok(Text::read(alloc, text.as_bytes())?.ok_or("no text")?)
+    Ok(Text::of(alloc, text)?)
 }
 
-fn no_method(alloc: Global, methods: &[Method]) -> Result<Reply, Fail> {
+fn no_method(alloc: Global, methods: &[Method]) -> Result<Reply, Fail>
+    ensures { IfOk result (λ made. IsTrue (is_told made)) }
+{
     let mut list = MethodList::new(alloc);
     for method in methods {
         list.push(*method)?;
@@ -35,7 +40,9 @@ fn no_method(alloc: Global, methods: &[Method]) -> Result<Reply, Fail> {
     Ok(Reply::Refused(Cause::NoMethod(list)))
 }
 
-fn reply_of(alloc: Global, asked: Asked) -> Result<Reply, Fail> {
+fn reply_of(alloc: Global, asked: Asked) -> Result<Reply, Fail>
+    ensures { IfOk result (λ made. IsTrue (is_told made)) }
+{
     match asked {
         Asked::Version => Ok(Reply::Ok(BodyOut::Version)),
         Asked::NoRoute => Ok(Reply::Refused(Cause::NoRoute)),
@@ -44,14 +51,21 @@ fn reply_of(alloc: Global, asked: Asked) -> Result<Reply, Fail> {
     }
 }
 
+/// The response to this, as it is shown.
+fn told(alloc: Global, asked: Asked, url: &Text, head: bool, close: bool) -> Result<String, Fail> {
+    let reply = reply_of(alloc, asked)?;
+    let made = render(alloc, &reply, url, head, close);
+    drop(reply);
+    shown(alloc, &made?)
+}
+
 #[test]
 fn tells_replies(rt: HostRuntime) -> Result<(), Fail> {
     let alloc = rt.alloc();
     let url = text(alloc, "http://127.0.0.1:5000")?;
     for case in CASES {
-        let reply = reply_of(alloc, case.asked)?;
-        let made = render(alloc, &reply, &url, case.head, case.close)?;
-        assert!(rt; shown(alloc, &made)?.as_str() == case.expected);
+        let shown = told(alloc, case.asked, &url, case.head, case.close)?;
+        assert!(rt; shown.as_str() == case.expected);
     }
     Ok(())
 }
@@ -70,9 +84,9 @@ fn answers_what_is_no_request(rt: HostRuntime) -> Result<(), Fail> {
 fn names_the_url(rt: HostRuntime) -> Result<(), Fail> {
     let alloc = rt.alloc();
     for (url, part) in URLS {
-        let reply = Reply::Ok(BodyOut::Version);
-        let made = render(alloc, &reply, &text(alloc, url)?, false, false)?;
-        assert!(rt; shown(alloc, &made)?.as_str().contains(part), "{url}");
+        let url = text(alloc, url)?;
+        let shown = told(alloc, Asked::Version, &url, false, false)?;
+        assert!(rt; shown.as_str().contains(part), "{part}");
     }
     Ok(())
 }

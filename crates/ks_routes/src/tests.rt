@@ -328,8 +328,15 @@ fn request(alloc: Global, method: Method, path: &str) -> Result<Request, Fail> {
 
 /// The answer in words.
 fn told(routed: Routed) -> &'static str {
+    let words = words(&routed);
+    drop(routed);
+    words
+}
+
+fn words(routed: &Routed) -> &'static str {
     match routed {
         Routed::Command(Command::Version) => "version",
+        Routed::Command(_) => "another command",
         Routed::NoRoute => "no route",
         Routed::NoMethod(methods) if methods.as_slice() == [Method::Get].as_slice() => "only GET",
         Routed::NoMethod(_) => "others",

@@ -3,4 +3,3 @@ pub mod CheckLemmas
 pub mod CheckerLemmas
 pub mod WordLemmas
 mod TalkLemmas
-mod UrlLemmas

@@ -26,8 +26,10 @@ use Rattle.ks_top.specs.declared.fault.Fault.TheVariants as fault
 abbrev pub default_url : List ℕ
 default_url = codes "http://127.0.0.1:5000"
 
+-- no route leads to another command so far
 abbrev pub reply_to : Command → Reply
 reply_to command.Version = reply.Ok body.Version
+reply_to other = reply.Refused cause.NoRoute
 
 -- the machine's reply to a request by where its route leads
 abbrev pub reply_of : Routed → Reply

@@ -1,13 +1,13 @@
 ghost use Rattle.std.specs.Prelude.{◌≡◌, ◌≢◌, ◌≤◌, ◌<◌, ℕ, List, Some, Err, IsErr, IsErrOf, IfOk, IsTrue, ◌↔◌, ◌⊎◌};
 ghost use Rattle.ks_outside.specs.Counts.{Rose};
 ghost use Rattle.ks_machine.specs.declared.reply.Reply.TheVariants as reply;
-ghost use Rattle.ks_render.specs.Answers.{wire_bad};
+ghost use Rattle.ks_render.specs.Answers.{is_told, response_of, wire_bad};
 ghost use Rattle.ks_routes.specs.Routes.{command_of};
 ghost use Rattle.ks_top.specs.Talk.{EndsTalk, GivesUp, Writes, default_url, ends_with, is_head, reply_of, reply_to, response_to};
 
 use crate::fault::Fault;
 use ks_base::{Memory, Method, Text};
-use ks_http::{HttpCause, Next, Reader, Request, write_memory, write_response};
+use ks_http::{HttpCause, Next, Reader, Request, Response, write_memory, write_response};
 use ks_machine::{BodyOut, Cause, Command, Reply};
 use ks_outside::{Sink, Source};
 use ks_render::{render, render_bad};
@@ -72,6 +72,22 @@ impl Server {
         })
     }
 
+    /// The response to a request by where its route leads.
+    fn response(
+        &self,
+        alloc: Global,
+        routed: Routed,
+        head: bool,
+        last: bool,
+    ) -> Result<Response, Memory>
+        ensures { IfOk result (λ made. made ≡ response_of (reply_of routed) self.now.url head last) }
+    {
+        let reply = reply(routed);
+        let made = render(alloc, &reply, &self.url, head, last);
+        drop(reply);
+        made
+    }
+
     /// Writes the response to a request, which ends the connection where it is the last.
     fn answer<K: Sink>(
         &self,
@@ -91,7 +107,7 @@ impl Server {
             return Err(give_up(output));
         }
         let head = matches!(request.method, Method::Head);
-        let Ok(response) = render(alloc, &reply(routed), &self.url, head, last) else {
+        let Ok(response) = self.response(alloc, routed, head, last) else {
             return Err(give_up(output));
         };
         let Ok(()) = write_response(output, &response) else {
@@ -105,10 +121,7 @@ impl Server {
 fn default_url(alloc: Global) -> Result<Text, Memory>
     ensures { IfOk result (λ made. made ≡ default_url) }
 {
-    let Some(url) = Text::read(alloc, b"http://127.0.0.1:5000")? else {
-        unreachable!();
-    };
-    Ok(url)
+    Text::of(alloc, "http://127.0.0.1:5000")
 }
 
 /// Whether the connection ends with the request behind `count` others.
@@ -121,16 +134,19 @@ fn is_last(request: &Request, count: u32) -> bool
 
 /// The machine's reply to a command.
 fn reply_to_command(command: Command) -> Reply
-    ensures { result ≡ reply_to command }
+    ensures reply { result ≡ reply_to command }
+    ensures told { IsTrue (is_told result) }
 {
     match command {
         Command::Version => Reply::Ok(BodyOut::Version),
+        _ => Reply::Refused(Cause::NoRoute),
     }
 }
 
 /// The machine's reply to a request by where its route leads.
 fn reply(routed: Routed) -> Reply
-    ensures { result ≡ reply_of routed }
+    ensures reply { result ≡ reply_of routed }
+    ensures told { IsTrue (is_told result) }
 {
     match routed {
         Routed::Command(command) => reply_to_command(command),
