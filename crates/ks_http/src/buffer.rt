@@ -1,5 +1,6 @@
 ghost use Rattle.std.specs.Prelude.{◌≡◌};
 
+use crate::backlog::Backlog;
 use crate::cause::HttpCause;
 use crate::ending::Ending;
 use crate::fields::Fields;
@@ -20,7 +21,7 @@ const PIECE: usize = 4_096;
 /// The bytes that were read and belong to no request yet.
 #[derive(Drop)]
 pub struct Buffer {
-    bytes: Vec<u8>,
+    bytes: Backlog,
 }
 
 impl Model for Buffer {
@@ -28,7 +29,7 @@ impl Model for Buffer {
 
     ghost Value = { List ℕ };
 
-    ghost view = { λ buffer. buffer.bytes.items };
+    ghost view = { λ buffer. buffer.bytes };
 }
 
 impl Buffer {
@@ -46,7 +47,7 @@ impl Buffer {
         ensures { IfOk result (λ made. made ≡ []) }
     {
         Ok(Buffer {
-            bytes: Vec::with_capacity(alloc, PIECE)?,
+            bytes: Backlog::with_capacity(alloc, PIECE)?,
         })
     }
 
@@ -74,7 +75,7 @@ impl Buffer {
             return Err(Ending::ReadFault);
         };
         let came = piece.as_slice().split_at(count).0;
-        if self.bytes.extend_from_slice(came).is_err() {
+        if self.bytes.push(came).is_err() {
             return Err(Ending::Memory);
         }
         Ok(count)
@@ -165,15 +166,6 @@ impl Buffer {
         }
     }
 
-    /// Lets the front of the bytes in hand go.
-    fn let_go(&mut self, alloc: Global, count: usize) -> Result<(), Memory>
-        requires { count ≤ length self.old }
-        ensures { OnOk result (self.new ≡ drop count self.old) }
-    {
-        self.bytes = Vec::from_slice(alloc, self.bytes.as_slice().split_at(count).1)?;
-        Ok(())
-    }
-
     /// Reads until there are so many bytes in hand.
     fn fill_to<S: Source>(&mut self, source: &mut S, size: usize) -> Result<(), Ending>
         ensures told { (left : List ℕ) → S.left source.old ≡ Some left → FillsTo (self.old ++ left) size self.new (S.left source.new) result }
@@ -209,9 +201,7 @@ impl Buffer {
         let Ok(body) = Bytes::of(alloc, self.bytes.as_slice().split_at(size).0) else {
             return Err(Ending::Memory);
         };
-        let Ok(()) = self.let_go(alloc, size) else {
-            return Err(Ending::Memory);
-        };
+        self.bytes.let_go(size);
         Ok(body)
     }
 
@@ -247,9 +237,7 @@ impl Buffer {
         let mut headers = [EMPTY_HEADER_SPAN; MOST_FIELDS];
         let head = self.head(source, &mut headers)?;
         let opening = self.said(alloc, head, &headers)?;
-        let Ok(()) = self.let_go(alloc, head.len) else {
-            return Err(Ending::Memory);
-        };
+        self.bytes.let_go(head.len);
         Ok(opening)
     }
 

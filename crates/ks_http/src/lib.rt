@@ -2,6 +2,7 @@
 //! responses into one.
 #![tactic(auto)]
 
+mod backlog;
 mod buffer;
 mod cause;
 mod ending;

@@ -198,3 +198,22 @@ fn stays_at_a_read_fault(rt: HostRuntime) -> Result<(), Fail> {
     }
     Ok(())
 }
+
+#[test]
+fn reads_many_in_a_row(rt: HostRuntime) -> Result<(), Fail> {
+    let alloc = rt.alloc();
+    let input = repeated(alloc, b"", b"GET /a HTTP/1.1\r\n\r\n", 1_000, b"")?;
+    for longest in [usize::MAX, 1_000, 77] {
+        let mut source = pieces(alloc, input.as_slice(), longest)?;
+        let mut reader = Reader::new(alloc).ok().ok_or("memory")?;
+        for _ in 0..1_000 {
+            let mut shown = String::new(alloc);
+            let next = reader.next_request(alloc, &mut source);
+            let _ended = push_next(&mut shown, &next)?;
+            assert_eq!(rt; shown.as_str(), "GET /a [] - - [] keep|");
+        }
+        let ended = matches!(reader.next_request(alloc, &mut source), Next::End);
+        assert!(rt; ended);
+    }
+    Ok(())
+}

@@ -1,9 +1,12 @@
+use Rattle.std.proofs.Common.{length, ap, arith}
 use Rattle.std.proofs.lemmas.Result.{err_from_is_err_and}
 use Rattle.ks_http.proofs.BufferLemmas.{fits, opens_at, refuses_head}
 use Rattle.ks_http.proofs.buffer.Buffer.opening.Goals as goal
 
 pub let_go-requires : goal.let_go-requires
-let_go-requires g c = fits c.in_ok-head.head.len c.head.new.self c.in_ok-head.ensures.within.section.len_fits
+let_go-requires g c =
+    let same = ap (λ l. length l) c.self.view_is in
+    let inside = fits c.in_ok-head.head.len c.head.new.self c.in_ok-head.ensures.within.section.len_fits in omega arith
 
 pub returns-in_err-opening-clause-told : goal.returns-in_err-opening-clause-told
 returns-in_err-opening-clause-told g c left left_is =
@@ -16,4 +19,4 @@ pub returns-clause-told : goal.returns-clause-told
 returns-clause-told g c left left_is =
     let f = c.in_ok-head.ensures.told left left_is in
     opens_at _ c.head.new.self c.let_go.new.self (g.S.Stream.left c.head.new.source) c.head.new.headers c.in_ok-head.head c.in_ok-opening.opening f
-    (fits c.in_ok-head.head.len c.head.new.self c.in_ok-head.ensures.within.section.len_fits) c.in-Ok.ensures (c.in_ok-opening.ensures.says f.3.head f.3.at)
+    (fits c.in_ok-head.head.len c.head.new.self c.in_ok-head.ensures.within.section.len_fits) (cc) (c.in_ok-opening.ensures.says f.3.head f.3.at)
