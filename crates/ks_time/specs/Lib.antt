@@ -1,0 +1,3 @@
+pub mod Calendar
+pub mod TimeTexts
+pub mod Laws
