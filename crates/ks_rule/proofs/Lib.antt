@@ -1,0 +1,12 @@
+mod CheckLemmas
+mod FillingLemmas
+mod FillsLemmas
+mod GrammarLemmas
+mod JoinLemmas
+mod LeafLemmas
+mod PieceLemmas
+mod PlaceLemmas
+mod ReadingLemmas
+mod SpelledLemmas
+mod TokenLemmas
+mod WrittenLemmas

@@ -1,0 +1,13 @@
+use ks_base::{FieldList, TextList};
+
+/// What is known of a caller.
+#[derive(Drop)]
+pub struct Credentials {
+    /// The names of the caller's roles.
+    pub roles: TextList,
+    /// The caller's other credentials by name, as `user_id`.
+    pub named: FieldList,
+}
+
+/// The texts of a target by key, as `target.user.id`.
+pub type Attributes = FieldList;
