@@ -1,0 +1,10 @@
+pub mod Readings
+pub mod Places
+pub mod Fields
+pub mod Times
+pub mod Types
+pub mod Names
+pub mod Logins
+pub mod Rows
+pub mod Trusts
+pub mod Bodies

@@ -1,0 +1,83 @@
+-- The bodies that make and change rows (Identity API v3). A creation needs the name; a change needs nothing, and it
+-- alone reads the id.
+use Rattle.std.specs.Prelude.{ℕ, Bool, true, false, List, Option, Some, None, Result, Ok, Err, codes}
+use Rattle.ks_base.specs.declared.kinds.Kind.{Kind}
+use Rattle.ks_base.specs.declared.kinds.Kind.TheVariants as kind
+use Rattle.ks_base.specs.declared.shapes.ShapeFault.{ShapeFault}
+use Rattle.ks_base.specs.declared.shapes.ShapeFault.TheVariants as fault
+use Rattle.ks_machine.specs.declared.bodies.Made.{Made}
+use Rattle.ks_machine.specs.declared.bodies.Made.TheVariants as made
+use Rattle.ks_shape.specs.Places.{Place, names}
+use Rattle.ks_shape.specs.Fields.{FieldType, needed, optional}
+use Rattle.ks_shape.specs.Types.{description_text, falsehood, id_text, name_text, password_text, truth}
+use Rattle.ks_shape.specs.Readings.{◌>>=◌}
+
+abbrev pub name_at : Bool → List (List ℕ) → Place → Result (Option (List ℕ)) ShapeFault
+name_at true names body = do
+  name ← needed name_text names body
+  Ok (Some name)
+name_at false names body = optional name_text names body
+
+abbrev pub id_at : Bool → List (List ℕ) → Place → Result (Option (List ℕ)) ShapeFault
+id_at true names body = Ok None
+id_at false names body = optional id_text names body
+
+unfoldable pub domain_of : Bool → Place → Result Made ShapeFault
+domain_of new body = do
+  name ← name_at new (names (codes "domain.name")) body
+  description ← optional description_text (names (codes "domain.description")) body
+  enabled ← optional truth (names (codes "domain.enabled")) body
+  id ← id_at new (names (codes "domain.id")) body
+  Ok (made.Domain id name description enabled)
+
+unfoldable pub project_of : Bool → Place → Result Made ShapeFault
+project_of new body = do
+  name ← name_at new (names (codes "project.name")) body
+  domain ← optional id_text (names (codes "project.domain_id")) body
+  parent ← optional id_text (names (codes "project.parent_id")) body
+  description ← optional description_text (names (codes "project.description")) body
+  enabled ← optional truth (names (codes "project.enabled")) body
+  _ ← optional falsehood (names (codes "project.is_domain")) body
+  id ← id_at new (names (codes "project.id")) body
+  Ok (made.Project id name domain parent description enabled)
+
+unfoldable pub user_of : Bool → Place → Result Made ShapeFault
+user_of new body = do
+  name ← name_at new (names (codes "user.name")) body
+  domain ← optional id_text (names (codes "user.domain_id")) body
+  password ← optional password_text (names (codes "user.password")) body
+  enabled ← optional truth (names (codes "user.enabled")) body
+  id ← id_at new (names (codes "user.id")) body
+  Ok (made.User id name domain password enabled)
+
+unfoldable pub group_of : Bool → Place → Result Made ShapeFault
+group_of new body = do
+  name ← name_at new (names (codes "group.name")) body
+  domain ← optional id_text (names (codes "group.domain_id")) body
+  description ← optional description_text (names (codes "group.description")) body
+  id ← id_at new (names (codes "group.id")) body
+  Ok (made.Group id name domain description)
+
+unfoldable pub role_of : Bool → Place → Result Made ShapeFault
+role_of new body = do
+  name ← name_at new (names (codes "role.name")) body
+  description ← optional description_text (names (codes "role.description")) body
+  id ← id_at new (names (codes "role.id")) body
+  Ok (made.Role id name description)
+
+-- the kinds of rows that have a body
+abbrev pub has_body : Kind → Bool
+has_body kind.Domain = true
+has_body kind.Project = true
+has_body kind.User = true
+has_body kind.Group = true
+has_body kind.Role = true
+has_body _ = false
+
+abbrev pub made_of : Kind → Bool → Place → Result Made ShapeFault
+made_of kind.Domain new body = domain_of new body
+made_of kind.Project new body = project_of new body
+made_of kind.User new body = user_of new body
+made_of kind.Group new body = group_of new body
+made_of kind.Role new body = role_of new body
+made_of _ new body = Err fault.NotJson

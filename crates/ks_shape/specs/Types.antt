@@ -1,0 +1,100 @@
+-- The types of fields.
+use Rattle.std.specs.Prelude.{ℕ, suc, Bool, not, ◌&&◌, nat_lt, nat_le, if◌then◌else◌, List, length, Option, Some, None, option_and_then, Result, Ok, codes}
+use Rattle.std.specs.Int.{is_in_range}
+use Rattle.std.specs.List.{list_all}
+use Rattle.std.specs.Str.{bytes_eq}
+use Rattle.serde_json.specs.Data.{Items, no_items, item}
+use Rattle.serde_json.specs.Find.{as_array, as_bool, as_number, as_str, as_u64}
+use Rattle.ks_base.specs.Ids.{is_id_byte}
+use Rattle.ks_shape.specs.declared.method.LoginMethod.{LoginMethod}
+use Rattle.ks_shape.specs.declared.method.LoginMethod.TheVariants as method
+use Rattle.ks_shape.specs.declared.misfit.Misfit.{Misfit}
+use Rattle.ks_shape.specs.declared.misfit.Misfit.TheVariants as misfit
+use Rattle.ks_shape.specs.Fields.{FieldType}
+use Rattle.ks_shape.specs.Times.{time_of}
+use Rattle.ks_shape.specs.Readings.{◌>>=◌, found, need}
+
+abbrev pub any_text : FieldType (List ℕ)
+any_text value = found (as_str value) misfit.Kind
+
+-- a text of so many bytes
+unfoldable pub text_of : ℕ → ℕ → FieldType (List ℕ)
+text_of least most value = do
+  text ← any_text value
+  _ ← need (is_in_range least most (length text)) misfit.Range
+  Ok text
+
+abbrev pub name_text : FieldType (List ℕ)
+name_text = text_of 1 255
+
+abbrev pub description_text : FieldType (List ℕ)
+description_text = text_of 0 4096
+
+abbrev pub password_text : FieldType (List ℕ)
+password_text = text_of 1 4096
+
+-- 1 to 64 bytes of 0-9, A-Z, a-z, _ and -
+abbrev pub is_id : List ℕ → Bool
+is_id text = nat_lt 0 (length text) && (nat_le (length text) 64 && list_all is_id_byte text)
+
+unfoldable pub id_in : List ℕ → Result (List ℕ) Misfit
+id_in text = do
+  _ ← need (is_id text) misfit.Range
+  Ok text
+
+unfoldable pub id_text : FieldType (List ℕ)
+id_text value = do
+  text ← any_text value
+  id_in text
+
+abbrev pub truth : FieldType Bool
+truth value = found (as_bool value) misfit.Kind
+
+-- a truth value that is not true
+unfoldable pub falsehood : FieldType Bool
+falsehood value = do
+  holds ← truth value
+  _ ← need (not holds) misfit.Range
+  Ok holds
+
+-- a whole number within these bounds; none below 0 or from 2^64 on, and none with a point or an exponent
+unfoldable pub whole : ℕ → ℕ → FieldType ℕ
+whole least most value = do
+  number ← found (option_and_then as_u64 (as_number value)) misfit.Kind
+  _ ← need (is_in_range least most number) misfit.Range
+  Ok number
+
+-- the text of a moment
+unfoldable pub time_text : FieldType ℕ
+time_text value = do
+  text ← any_text value
+  found (time_of text) misfit.Kind
+
+abbrev pub count_of : Items → ℕ
+count_of no_items = 0
+count_of (item value items) = suc (count_of items)
+
+-- a list of so many values at most
+unfoldable pub list_of : ℕ → FieldType Items
+list_of most value = do
+  items ← found (as_array value) misfit.Kind
+  _ ← need (nat_le (count_of items) most) misfit.Range
+  Ok items
+
+-- the text of a list that has one text alone
+abbrev pub only_text : Items → Option (List ℕ)
+only_text no_items = None
+only_text (item value no_items) = as_str value
+only_text (item value (item second items)) = None
+
+abbrev pub method_named : List ℕ → Option LoginMethod
+method_named text =
+    if bytes_eq text (codes "password") then Some method.Password
+    else (if bytes_eq text (codes "token") then Some method.Token else None)
+
+-- a list of the one method of a login
+unfoldable pub one_method : FieldType LoginMethod
+one_method value = do
+  items ← found (as_array value) misfit.Kind
+  text ← found (only_text items) misfit.Range
+  found (method_named text) misfit.Range

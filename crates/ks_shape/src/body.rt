@@ -1,0 +1,61 @@
+ghost use Rattle.std.specs.Prelude.{◌≡◌, Some, IsTrue};
+ghost use Rattle.serde_json.specs.View.{view};
+ghost use Rattle.ks_base.specs.declared.shapes.ShapeFault.TheVariants as fault;
+ghost use Rattle.ks_shape.specs.Bodies.{body_of, document, form_of, is_form, password_of, whole_document};
+ghost use Rattle.ks_shape.specs.Places.{place_of};
+ghost use Rattle.ks_shape.specs.Readings.{Reads, ReadsBy, found};
+
+use crate::form::{BodyIn, Form};
+use crate::login::login;
+use crate::node::Node;
+use crate::rows::{PASSWORD, made};
+use crate::trust::trust;
+use ks_base::{ShapeFault, ShapeRefusal, Text};
+use serde_json::Value;
+use std::alloc::Global;
+
+#[tactic(auto, unfolding(crate::specs::Bodies::password_of))]
+fn password(body: &Node) -> Result<BodyIn, ShapeRefusal>
+    ensures { Reads result (password_of (place_of body.now)) }
+{
+    let original = body.needed(&["user", "original_password"], &PASSWORD)?;
+    let password = body.needed(&["user", "password"], &PASSWORD)?;
+    Ok(BodyIn::Password(original, password))
+}
+
+/// What the document at the node asks for.
+#[tactic(auto, unfolding(crate::specs::Bodies::form_of))]
+fn read_form(form: Form, body: &Node) -> Result<BodyIn, ShapeRefusal>
+    requires { IsTrue (is_form form) }
+    ensures { Reads result (form_of form (place_of body.now)) }
+{
+    match form {
+        Form::Login => Ok(BodyIn::Login(login(body)?)),
+        Form::Made(kind, new) => Ok(BodyIn::Made(made(kind, new, body)?)),
+        Form::Password => password(body),
+        Form::Trust => Ok(BodyIn::Trust(trust(body)?)),
+    }
+}
+
+/// The value of a document.
+fn read_document(alloc: Global, bytes: &[u8]) -> Result<Value, ShapeRefusal>
+    ensures { ReadsBy view result (found (document bytes.now) fault.NotJson) }
+{
+    match Value::from_slice(alloc, bytes) {
+        Ok(value) => Ok(value),
+        Err(error) if error.is_memory() => Err(ShapeRefusal::Memory),
+        Err(_) => Err(ShapeRefusal::Shape(ShapeFault::NotJson)),
+    }
+}
+
+/// What the bytes of a body ask for, which is to be of the form, or the first fault in the order of the form's fields.
+#[tactic(auto, unfolding(crate::specs::Bodies::body_of))]
+pub fn read_body(alloc: Global, form: Form, bytes: &[u8]) -> Result<BodyIn, ShapeRefusal>
+    requires { IsTrue (is_form form) }
+    ensures { Reads result (body_of form bytes.now) }
+{
+    let value = read_document(alloc, bytes)?;
+    let path = Text::of(alloc, "")?;
+    let body = Node::known_as(alloc, path, &value);
+    read_form(form, &body)
+}

@@ -1,0 +1,23 @@
+use ks_base::{Kind, Text};
+use ks_machine::{LoginBody, Made, TrustBody};
+
+/// What a body is to be.
+#[derive(Clone, Copy)]
+pub enum Form {
+    Login,
+    /// A row of this kind. In a creation, which is true, the name is needed; in a change nothing is.
+    Made(Kind, bool),
+    /// A change of one's own password.
+    Password,
+    Trust,
+}
+
+/// What a body asks for.
+#[derive(Drop)]
+pub enum BodyIn {
+    Login(LoginBody),
+    Made(Made),
+    /// The original password, and the new one.
+    Password(Text, Text),
+    Trust(TrustBody),
+}
