@@ -1,0 +1,205 @@
+-- The words that give each command.
+use Rattle.std.proofs.Common.{◌≡◌, ℕ, Bool, true, false, not, ◌&&◌, ◌||◌, List, [], ◌∷◌, Option, Some, None, refl, ap, ap₂, sym, ◌∙◌, inl, inr, codes}
+use Rattle.std.specs.Prelude.{slice_get}
+use Rattle.std.specs.List.{list_all}
+use Rattle.std.specs.Option.{option_map_or}
+use Rattle.std.specs.Str.{bytes_eq}
+use Rattle.std.proofs.lemmas.Bool.{cases_Bool}
+use Rattle.std.proofs.lemmas.Slice.Eq.{bytes_eq-Decides}
+use Rattle.clap.specs.Words.{Row, Rule, first_of, matches_of}
+use Rattle.ks_setup.specs.declared.words.Places.{Places}
+use Rattle.ks_setup.specs.declared.words.Words.{Words}
+use Rattle.ks_setup.specs.declared.words.Words.TheVariants.{Check, Talk, Usage}
+use Rattle.ks_setup.specs.Words.{check, check_app, is_dashed, is_open, names_option, read_by, rows_read, talk, talk_app, talk_places, words_of}
+use Rattle.ks_setup.proofs.ReadLemmas.{both_true, read_fault, read_none, read_some}
+use Rattle.ks_setup.proofs.WordLemmas.{check_word_taken, check_words_fault, file_is_first, folder_is_second, no_word_fault, one_word_fault, three_words_fault, two_words_taken}
+
+plain_from : (dashed : Bool) → (not dashed || false) ≡ true → dashed ≡ false
+plain_from true h = cc
+plain_from false h = refl
+
+-- no argument of the two commands has a long name
+talk_plain : (word : List ℕ) → is_open talk_app.top.rules word ≡ true → is_dashed word ≡ false
+unfolding is_open names_option
+talk_plain word h = plain_from (is_dashed word) h
+
+check_plain : (word : List ℕ) → is_open check_app.top.rules word ≡ true → is_dashed word ≡ false
+unfolding is_open names_option
+check_plain word h = plain_from (is_dashed word) h
+
+abbrev pub OfTalk : List (List ℕ) → Places → Type 0
+OfTalk words places = (file folder : List ℕ) × (is_dashed file ≡ false) × (is_dashed folder ≡ false)
+    × (words ≡ file ∷ folder ∷ []) × (places ≡ talk_places (Some file) (Some folder))
+
+meaning_is : (rows : List Row) (file folder : List ℕ) → first_of (codes "file") rows ≡ Some file → first_of (codes "folder") rows ≡ Some folder
+    → talk.meaning rows ≡ Talk (talk_places (Some file) (Some folder))
+meaning_is rows file folder p q = rw (p, q) refl
+
+talk_usage : (words : List (List ℕ)) → rows_read talk_app words ≡ None → read_by talk words ≡ Usage
+unfolding read_by
+talk_usage words none = rw none refl
+
+open_two : (file folder : List ℕ) → is_dashed file ≡ false → is_dashed folder ≡ false → list_all (is_open talk_app.top.rules) (file ∷ folder ∷ []) ≡ true
+unfolding is_open names_option
+open_two file folder p q = rw (p, q) refl
+
+pub talk_given : (name file folder : List ℕ) → is_dashed file ≡ false → is_dashed folder ≡ false
+    → read_by talk (name ∷ file ∷ folder ∷ []) ≡ Talk (talk_places (Some file) (Some folder))
+unfolding read_by
+talk_given name file folder p q =
+    ap (λ found. option_map_or talk.meaning found Usage)
+    (read_some talk_app (name ∷ file ∷ folder ∷ []) (open_two file folder p q) (two_words_taken name file folder p q))
+    ∙ meaning_is (matches_of talk_app (name ∷ file ∷ folder ∷ [])) file folder (file_is_first name file folder p q) (folder_is_second name file folder p q)
+
+refused : {A : Type 0} (words : Words) (places : Places) → words ≡ Usage → words ≡ Talk places → A
+refused words places usage given = cc (sym usage ∙ given)
+
+talk_same : (places other : Places) (words : Words) → words ≡ Talk other → words ≡ Talk places → places ≡ other
+talk_same places other words a b = cc (sym b ∙ a)
+
+talk_open : (name : List ℕ) (rest : List (List ℕ)) (places : Places) → list_all (is_open talk_app.top.rules) rest ≡ true
+    → read_by talk (name ∷ rest) ≡ Talk places → OfTalk rest places
+talk_open name [] places h e = refused _ places (talk_usage _ (read_fault talk_app _ (no_word_fault name))) e
+talk_open name (file ∷ []) places h e =
+    let p = talk_plain file (both_true _ _ h).0 in
+    refused _ places (talk_usage _ (read_fault talk_app _ (one_word_fault name file p))) e
+talk_open name (file ∷ folder ∷ []) places h e =
+    let all = both_true _ _ h in
+    let p = talk_plain file all.0 in
+    let q = talk_plain folder (both_true _ _ all.1).0 in
+    (file, folder, p, q, refl, talk_same places _ _ (talk_given name file folder p q) e)
+talk_open name (file ∷ folder ∷ more ∷ words) places h e =
+    let all = both_true _ _ h in
+    let next = both_true _ _ all.1 in
+    let p = talk_plain file all.0 in
+    let q = talk_plain folder next.0 in
+    let r = talk_plain more (both_true _ _ next.1).0 in
+    refused _ places (talk_usage _ (read_fault talk_app _ (three_words_fault name file folder more words p q r))) e
+
+pub talk_only : (name : List ℕ) (rest : List (List ℕ)) (places : Places) → read_by talk (name ∷ rest) ≡ Talk places → OfTalk rest places
+talk_only name rest places e = elim (cases_Bool (list_all (is_open talk_app.top.rules) rest)) [
+  | inl h ↦ talk_open name rest places h e
+  | inr h ↦ refused _ places (talk_usage _ (read_none talk_app (name ∷ rest) h)) e
+]
+
+check_found : (found : Option (List Row)) (places : Places) → option_map_or check.meaning found Usage ≡ Talk places → ⊥
+check_found None places e = cc
+check_found (Some rows) places e = cc
+
+pub check_is_not_talk : (words : List (List ℕ)) (places : Places) → read_by check words ≡ Talk places → ⊥
+unfolding read_by
+check_is_not_talk words places e = check_found (rows_read check_app words) places e
+
+talk_found : (found : Option (List Row)) → option_map_or talk.meaning found Usage ≡ Check → ⊥
+talk_found None e = cc
+talk_found (Some rows) e = cc
+
+pub talk_is_not_check : (words : List (List ℕ)) → read_by talk words ≡ Check → ⊥
+unfolding read_by
+talk_is_not_check words e = talk_found (rows_read talk_app words) e
+
+check_usage : (words : List (List ℕ)) → rows_read check_app words ≡ None → read_by check words ≡ Usage
+unfolding read_by
+check_usage words none = rw none refl
+
+pub check_given : (name : List ℕ) → read_by check (name ∷ []) ≡ Check
+unfolding read_by
+check_given name = rw (read_some check_app (name ∷ []) refl (check_word_taken name)) refl
+
+not_usage : {A : Type 0} (words : Words) → words ≡ Usage → words ≡ Check → A
+not_usage words usage given = cc (sym usage ∙ given)
+
+pub check_only : (name : List ℕ) (rest : List (List ℕ)) → read_by check (name ∷ rest) ≡ Check → rest ≡ []
+check_only name [] e = refl
+check_only name (word ∷ words) e = elim (cases_Bool (list_all (is_open check_app.top.rules) (word ∷ words))) [
+  | inl h ↦ not_usage _ (check_usage _ (read_fault check_app _ (check_words_fault name word words (check_plain word (both_true _ _ h).0)))) e
+  | inr h ↦ not_usage _ (check_usage _ (read_none check_app (name ∷ word ∷ words) h)) e
+]
+
+-- the first word names the command
+
+pub named_check : (words : List (List ℕ)) (name : List ℕ) (b : Bool) → slice_get words 0 ≡ Some name → b ≡ bytes_eq name (codes "check") → b ≡ true
+    → words_of words ≡ read_by check words
+unfolding words_of
+named_check [] name b first is h = cc
+named_check (word ∷ words) name b first is h =
+    let same : word ≡ name = cc in
+    let test : bytes_eq word (codes "check") ≡ true = ap (λ w. bytes_eq w (codes "check")) same ∙ sym is ∙ h in
+    rw test refl
+
+pub named_talk : (words : List (List ℕ)) (name : List ℕ) (b d : Bool) → slice_get words 0 ≡ Some name → b ≡ bytes_eq name (codes "check") → b ≡ false
+    → d ≡ bytes_eq name (codes "talk") → d ≡ true → words_of words ≡ read_by talk words
+unfolding words_of
+named_talk [] name b d first is h also g = cc
+named_talk (word ∷ words) name b d first is h also g =
+    let same : word ≡ name = cc in
+    let test : bytes_eq word (codes "check") ≡ false = ap (λ w. bytes_eq w (codes "check")) same ∙ sym is ∙ h in
+    let next : bytes_eq word (codes "talk") ≡ true = ap (λ w. bytes_eq w (codes "talk")) same ∙ sym also ∙ g in
+    rw (test, next) refl
+
+pub named_else : (words : List (List ℕ)) (name : List ℕ) (b d : Bool) → slice_get words 0 ≡ Some name → b ≡ bytes_eq name (codes "check") → b ≡ false
+    → d ≡ bytes_eq name (codes "talk") → d ≡ false → words_of words ≡ Usage
+unfolding words_of
+named_else [] name b d first is h also g = cc
+named_else (word ∷ words) name b d first is h also g =
+    let same : word ≡ name = cc in
+    let test : bytes_eq word (codes "check") ≡ false = ap (λ w. bytes_eq w (codes "check")) same ∙ sym is ∙ h in
+    let next : bytes_eq word (codes "talk") ≡ false = ap (λ w. bytes_eq w (codes "talk")) same ∙ sym also ∙ g in
+    rw (test, next) refl
+
+pub not_named : (words : List (List ℕ)) → slice_get words 0 ≡ None → words_of words ≡ Usage
+unfolding words_of
+not_named [] first = refl
+not_named (word ∷ words) first = cc
+
+-- what each command needs of its words
+
+check_name : (name : List ℕ) (rest : List (List ℕ)) → bytes_eq name (codes "check") ≡ true → words_of (name ∷ rest) ≡ read_by check (name ∷ rest)
+check_name name rest h = named_check (name ∷ rest) name true refl (sym h) refl
+
+talk_name : (name : List ℕ) (rest : List (List ℕ)) → bytes_eq name (codes "check") ≡ false → bytes_eq name (codes "talk") ≡ true → words_of (name ∷ rest) ≡ read_by talk (name ∷ rest)
+talk_name name rest h g = named_talk (name ∷ rest) name false true refl (sym h) refl (sym g) refl
+
+else_name : (name : List ℕ) (rest : List (List ℕ)) → bytes_eq name (codes "check") ≡ false → bytes_eq name (codes "talk") ≡ false → words_of (name ∷ rest) ≡ Usage
+else_name name rest h g = named_else (name ∷ rest) name false false refl (sym h) refl (sym g) refl
+
+is_name : (name text : List ℕ) → bytes_eq name text ≡ true → name ≡ text
+is_name name text h = (bytes_eq-Decides name text).0 h
+
+pub check_words_are : (words : List (List ℕ)) → words_of words ≡ Check → words ≡ codes "check" ∷ []
+check_words_are [] e = not_usage _ (not_named [] refl) e
+check_words_are (name ∷ rest) e = elim (cases_Bool (bytes_eq name (codes "check"))) [
+  | inl h ↦ ap₂ (λ a b. a ∷ b) (is_name name (codes "check") h) (check_only name rest (sym (check_name name rest h) ∙ e))
+  | inr h ↦ elim (cases_Bool (bytes_eq name (codes "talk"))) [
+    | inl g ↦ absurd (talk_is_not_check (name ∷ rest) (sym (talk_name name rest h g) ∙ e))
+    | inr g ↦ not_usage _ (else_name name rest h g) e
+  ]
+]
+
+pub check_words_give : (words : List (List ℕ)) → words ≡ codes "check" ∷ [] → words_of words ≡ Check
+check_words_give words e = ap words_of e ∙ check_name (codes "check") [] refl ∙ check_given (codes "check")
+
+pub talk_words_give : (file folder : List ℕ) → is_dashed file ≡ false → is_dashed folder ≡ false
+    → words_of (codes "talk" ∷ file ∷ folder ∷ []) ≡ Talk (talk_places (Some file) (Some folder))
+talk_words_give file folder p q = talk_name (codes "talk") (file ∷ folder ∷ []) refl refl ∙ talk_given (codes "talk") file folder p q
+
+abbrev pub AreTalk : List (List ℕ) → Places → Type 0
+AreTalk words places = (file folder : List ℕ) × (is_dashed file ≡ false) × (is_dashed folder ≡ false)
+    × (words ≡ codes "talk" ∷ file ∷ folder ∷ []) × (places ≡ talk_places (Some file) (Some folder))
+
+talk_rest : (name : List ℕ) (rest : List (List ℕ)) (places : Places) → name ≡ codes "talk" → OfTalk rest places → AreTalk (name ∷ rest) places
+talk_rest name rest places is h = (h.0, h.1, h.2, h.3, ap₂ (λ a b. a ∷ b) is h.4, h.5)
+
+pub talk_words_are : (words : List (List ℕ)) (places : Places) → words_of words ≡ Talk places → AreTalk words places
+talk_words_are [] places e = refused _ places (not_named [] refl) e
+talk_words_are (name ∷ rest) places e = elim (cases_Bool (bytes_eq name (codes "check"))) [
+  | inl h ↦ absurd (check_is_not_talk (name ∷ rest) places (sym (check_name name rest h) ∙ e))
+  | inr h ↦ elim (cases_Bool (bytes_eq name (codes "talk"))) [
+    | inl g ↦ talk_rest name rest places (is_name name (codes "talk") g) (talk_only name rest places (sym (talk_name name rest h g) ∙ e))
+    | inr g ↦ refused _ places (else_name name rest h g) e
+  ]
+]
+
+pub talk_meant : (file folder : Option (List ℕ)) (rows : List Row) → file ≡ first_of (codes "file") rows → folder ≡ first_of (codes "folder") rows
+    → Talk (talk_places file folder) ≡ talk.meaning rows
+talk_meant file folder rows p q = rw (p, q) refl

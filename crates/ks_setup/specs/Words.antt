@@ -1,0 +1,87 @@
+-- The commands of the program, and the words that give them.
+use Rattle.std.specs.Prelude.{ℕ, Bool, true, false, not, ◌&&◌, ◌||◌, ◌==◌, List, [], ◌∷◌, ◌++◌, drop, find, Option, Some, None, option_and_then, if◌then◌else◌, codes}
+use Rattle.std.specs.List.{list_all, list_any}
+use Rattle.std.specs.Option.{option_map_or}
+use Rattle.std.specs.Str.{bytes_eq}
+use Rattle.clap.specs.Kinds.{Kinds}
+use Rattle.clap.specs.Words.{App, Row, Rule, fault_of, first_of, matches_of, new_app, new_rule, with_rule}
+use Rattle.ks_setup.specs.declared.words.Places.{Places}
+use Rattle.ks_setup.specs.declared.words.Words.{Words}
+use Rattle.ks_setup.specs.declared.words.Words.TheVariants.{Check, Talk, Usage}
+
+-- the word begins with `-`
+abbrev pub is_dashed : List ℕ → Bool
+is_dashed [] = false
+is_dashed (b ∷ word) = b == 45
+
+-- what follows the front in a text that begins with it
+unfoldable pub behind : List ℕ → List ℕ → Option (List ℕ)
+behind [] text = Some text
+behind (b ∷ front) [] = None
+behind (b ∷ front) (c ∷ text) = if c == b then behind front text else None
+
+-- nothing follows, or what follows begins with `=`
+abbrev pub is_value : Option (List ℕ) → Bool
+is_value (Some []) = true
+is_value (Some (b ∷ rest)) = b == 61
+is_value None = false
+
+-- the word is `--name` or begins with `--name=`, for the argument's long name
+unfoldable pub names_option : List ℕ → Rule → Bool
+names_option word rule = is_value (option_and_then (λ name. behind (codes "--" ++ name) word) rule.long)
+
+-- the word does not begin with `-`, or names an option of the command
+unfoldable pub is_open : List Rule → List ℕ → Bool
+is_open rules word = not (is_dashed word) || list_any (names_option word) rules
+
+-- no step of the parse fails
+abbrev pub has_none : Kinds → Bool
+has_none [] = true
+has_none (kind ∷ kinds) = false
+
+-- what a command of clap finds in the words, the first of which is its name, where it takes them
+unfoldable pub rows_read : App → List (List ℕ) → Option (List Row)
+rows_read app words =
+    if list_all (is_open app.top.rules) (drop 1 words) && has_none (fault_of app words)
+    then Some (matches_of app words) else None
+
+-- a command of the program: its command of clap, and what is meant by what that finds
+pub record Form : Type 0 where
+  pub app : App
+  pub meaning : List Row → Words
+
+-- a word that has to be there
+abbrev pub needed : List ℕ → Rule
+needed id = record (new_rule id) { required = true }
+
+abbrev pub check_app : App
+check_app = new_app (codes "check")
+
+abbrev pub check : Form
+check = record { app = check_app; meaning = λ rows. Check }
+
+abbrev pub talk_app : App
+talk_app = with_rule (with_rule (new_app (codes "talk")) (needed (codes "file"))) (needed (codes "folder"))
+
+-- what one connection is served with, by one desk
+abbrev pub talk_places : Option (List ℕ) → Option (List ℕ) → Places
+talk_places file folder = record { file = file; folder = folder; address = None; workers = 1 }
+
+abbrev pub talk : Form
+talk = record {
+  app = talk_app;
+  meaning = λ rows. Talk (talk_places (first_of (codes "file") rows) (first_of (codes "folder") rows));
+}
+
+abbrev pub forms : List Form
+forms = check ∷ talk ∷ []
+
+-- what the words of a command mean
+unfoldable pub read_by : Form → List (List ℕ) → Words
+read_by form words = option_map_or form.meaning (rows_read form.app words) Usage
+
+-- the command whose name is the first word, where its command of clap takes the rest
+unfoldable pub words_of : List (List ℕ) → Words
+words_of [] = Usage
+words_of (name ∷ words) =
+    option_map_or (λ form. read_by form (name ∷ words)) (find (λ form. bytes_eq name form.app.top.name) forms) Usage

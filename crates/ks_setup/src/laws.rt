@@ -1,0 +1,21 @@
+//! What holds of the definitions that the contracts cite. Each law is the contract of a function that
+//! does nothing.
+ghost use Rattle.std.specs.Prelude.{◌≡◌, ◌↔◌, ℕ, List, [], ◌∷◌, false, Some, codes};
+ghost use Rattle.ks_setup.specs.Words.{is_dashed, talk_places, words_of};
+ghost use Rattle.ks_setup.specs.declared.words.Places.{Places};
+ghost use Rattle.ks_setup.specs.declared.words.Words.TheVariants.{Check, Talk};
+
+/// `check` is given by the one word `check` alone.
+pub fn check_is_one_word()
+    ensures { (words : List (List ℕ)) → (words_of words ≡ Check) ↔ (words ≡ codes "check" ∷ []) }
+{}
+
+/// `talk` is given by the three words `talk`, a file and a folder alone, where neither the file nor the
+/// folder begins with `-`. Either may be the empty word.
+pub fn talk_is_three_words()
+    ensures given { (file folder : List ℕ) → is_dashed file ≡ false → is_dashed folder ≡ false
+        → words_of (codes "talk" ∷ file ∷ folder ∷ []) ≡ Talk (talk_places (Some file) (Some folder)) }
+    ensures only { (words : List (List ℕ)) (places : Places) → words_of words ≡ Talk places
+        → (file folder : List ℕ) × (is_dashed file ≡ false) × (is_dashed folder ≡ false)
+        × (words ≡ codes "talk" ∷ file ∷ folder ∷ []) × (places ≡ talk_places (Some file) (Some folder)) }
+{}

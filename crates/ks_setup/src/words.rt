@@ -1,0 +1,64 @@
+ghost use Rattle.std.specs.Prelude.{◌≡◌, IfOk, map};
+ghost use Rattle.ks_setup.specs.Words.{words_of};
+
+use crate::commands::{read_check, read_talk};
+use ks_base::{Memory, Text};
+use std::alloc::{AllocError, Global};
+
+/// What a command works on.
+#[derive(Drop)]
+pub struct Places {
+    /// The path of the opening file.
+    pub file: Option<Text>,
+    /// The path of the folder of the keys.
+    pub folder: Option<Text>,
+    /// The address to listen at.
+    pub address: Option<Text>,
+    /// How many desks serve.
+    pub workers: u32,
+}
+
+/// A command of the program.
+#[derive(Drop)]
+pub enum Words {
+    /// `check`: tokens are judged by a key and the time alone.
+    Check,
+    /// `talk FILE FOLDER`: one connection is served, by the first desk alone, so there is no address and one
+    /// worker.
+    Talk(Places),
+    /// The words are no command's.
+    Usage,
+}
+
+/// The command that these words give, the program's own name not among them.
+///
+/// The first word is the command's name. The others are its positional words in the order in which the
+/// command has them, and its options, each at most once, as `--name N` or `--name=N`. A word that begins
+/// with `-` and names no option of the command is refused, so `--`, `-h` and `--help` are. What no
+/// command takes is `Words::Usage`.
+pub fn read_words(alloc: Global, words: &[Text]) -> Result<Words, Memory>
+    ensures { IfOk result (λ read. read ≡ words_of words.now) }
+{
+    let words = borrowed(alloc, words)?;
+    let words = words.as_slice();
+    let Some(name) = words.first() else {
+        return Ok(Words::Usage);
+    };
+    if *name == "check" {
+        return read_check(alloc, words);
+    }
+    if *name == "talk" {
+        return read_talk(alloc, words);
+    }
+    Ok(Words::Usage)
+}
+
+fn borrowed<'a>(alloc: Global, words: &'a [Text]) -> Result<Vec<&'a str>, AllocError>
+    ensures { IfOk result (λ made. map (λ word. word.now) made.items ≡ words.entry.now) }
+{
+    let mut made = Vec::with_capacity(alloc, words.len())?;
+    for word in words {
+        made.push(word.as_str())?;
+    }
+    Ok(made)
+}
