@@ -1,0 +1,6 @@
+mod CycleLemmas
+mod HoldLemmas
+mod MarkLemmas
+mod PlaceLemmas
+mod TextLemmas
+mod LawLemmas

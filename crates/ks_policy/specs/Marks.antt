@@ -1,0 +1,30 @@
+-- Marks on the places of a list of rules.
+use Rattle.std.specs.Prelude.{◌≡◌, ◌⊎◌, ℕ, zero, suc, ◌<◌, Bool, true, false, List, [], ◌∷◌, length, Option, Some, None, slice_index_or}
+use Rattle.ks_policy.specs.Rules.{NamedRule}
+use Rattle.ks_policy.specs.Cycles.{Leads}
+
+abbrev pub mark_at : List Bool → ℕ → Bool
+mark_at marks i = slice_index_or marks i false
+
+-- the mark of a place, if there is one
+abbrev pub mark_of : List Bool → Option ℕ → Bool
+mark_of marks None = false
+mark_of marks (Some i) = mark_at marks i
+
+abbrev pub IsMarked : List Bool → ℕ → Type 0
+IsMarked marks i = mark_at marks i ≡ true
+
+abbrev pub unmarked : List Bool → ℕ
+unmarked [] = zero
+unmarked (true ∷ marks) = unmarked marks
+unmarked (false ∷ marks) = suc (unmarked marks)
+
+-- no mark goes, and where one comes there are fewer places without
+pub record Grows (grown : Bool) (old new : List Bool) : Type 0 where
+  pub kept : (i : ℕ) → IsMarked old i → IsMarked new i
+  pub same : grown ≡ false → new ≡ old
+  pub more : grown ≡ true → unmarked new < unmarked old
+
+-- where each step from this rule leads is marked
+abbrev pub AllMarked : List NamedRule → List Bool → ℕ → Type 0
+AllMarked rules marks i = (j : ℕ) → Leads rules i j → IsMarked marks j

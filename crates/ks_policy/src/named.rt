@@ -1,0 +1,49 @@
+ghost use Rattle.std.specs.Prelude.{◌≡◌};
+ghost use Rattle.ks_rule.specs.Trees.{tree_of};
+
+use crate::place::Named;
+use ks_base::Text;
+use ks_rule::Rule;
+use std::marker::Model;
+
+/// A rule with its name.
+#[derive(Drop)]
+pub struct NamedRule {
+    name: Text,
+    rule: Rule,
+}
+
+impl Model for NamedRule {
+    ghost use Rattle.ks_rule.specs.Trees.{tree_of};
+    ghost use Rattle.ks_policy.specs.Rules.{NamedRule};
+    ghost use Rattle.ks_policy.specs.Codes.{rule_code};
+
+    ghost Value = { NamedRule };
+
+    ghost coded = { rule_code };
+
+    ghost view = { λ row. record { name = row.name; tree = tree_of row.rule } };
+}
+
+impl NamedRule {
+    pub fn new(name: Text, rule: Rule) -> NamedRule
+        ensures { result ≡ record { name = name; tree = tree_of rule } }
+    {
+        NamedRule { name, rule }
+    }
+
+    /// The tree of the rule.
+    pub fn rule(&self) -> &Rule
+        ensures { tree_of result.now ≡ self.now.tree }
+    {
+        &self.rule
+    }
+}
+
+impl Named for NamedRule {
+    ghost naming = { λ row. row.name };
+
+    fn name(&self) -> &Text {
+        &self.name
+    }
+}
