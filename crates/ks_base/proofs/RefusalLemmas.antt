@@ -1,6 +1,6 @@
 -- What a refusal leaves, for the crates above.
-use Rattle.std.proofs.Common.{◌≡◌, Bool, true, false, List, [], ◌∷◌, inl, inr, Option, Some, None, Result, Ok, Err, refl, sym, ap, ◌∙◌}
-use Rattle.ks_base.specs.Refusals.{fault_if, first_of, fault_in, Decides, Changes}
+use Rattle.std.proofs.Common.{◌≡◌, inr, Option, Some, Result, Ok, Err, refl, sym, ap, ◌∙◌}
+use Rattle.ks_base.specs.Refusals.{fault_in, Decides, Changes}
 
 -- a change that is refused for the first cause that applies
 pub refused : (X F S : Type 0) (memory : F) (refusal : Option F) (old changed : S) (other : F) → Some other ≡ refusal →

@@ -1,4 +1,4 @@
-use Rattle.std.proofs.Common.{◌≡◌, Bool, true, List, map, refl, sym, subst, ◌∙◌}
+use Rattle.std.proofs.Common.{◌≡◌, List, map, refl, sym, subst}
 use Rattle.std.specs.Bool.{Decides}
 use Rattle.std.specs.List.{filter}
 use Rattle.std.proofs.lemmas.Slice.Eq.{bytes_eq-Decides}
@@ -6,12 +6,12 @@ use Rattle.ks_base.specs.declared.grants.Actor.{Actor}
 use Rattle.ks_base.specs.declared.grants.Actor.TheVariants as actor
 use Rattle.ks_base.specs.declared.users.MemberRow.{MemberRow}
 use Rattle.ks_base.specs.Roles.{Acts}
-use Rattle.ks_base.specs.Rows.{Id, same}
+use Rattle.ks_base.specs.Rows.{Id}
 use Rattle.ks_base.specs.Tables.{Among}
 use Rattle.ks_base.proofs.RowLemmas.{among_filter, filter_among}
 use Rattle.ks_people.specs.State.{is_of_user}
-use Rattle.ks_effective.specs.Actors.{ActorsOf, include}
-use Rattle.ks_effective.proofs.ListLemmas.{FromOne, among_map, map_among, any-Decides}
+use Rattle.ks_effective.specs.Actors.{include}
+use Rattle.ks_effective.proofs.ListLemmas.{among_map, map_among, any-Decides}
 
 -- the groups of a user are those that it is a member of
 abbrev groups_in : Id → List MemberRow → List Id

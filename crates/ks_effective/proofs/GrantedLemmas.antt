@@ -1,4 +1,4 @@
-use Rattle.std.proofs.Common.{◌≡◌, Bool, true, List, map, Result, Ok, Err, sym, subst}
+use Rattle.std.proofs.Common.{◌≡◌, List, map, Result, Ok, Err, sym, subst}
 use Rattle.std.specs.Bool.{Decides}
 use Rattle.std.specs.List.{filter}
 use Rattle.std.specs.Prelude.{◌↔◌, IfOk}
@@ -13,7 +13,7 @@ use Rattle.ks_effective.specs.declared.reach.Reach.{Reach}
 use Rattle.ks_effective.specs.Actors.{ActorsOf, include}
 use Rattle.ks_effective.specs.Reach.{includes}
 use Rattle.ks_effective.specs.Granted.{counts}
-use Rattle.ks_effective.proofs.ListLemmas.{FromOne, among_map, map_among, both_true, true_both}
+use Rattle.ks_effective.proofs.ListLemmas.{among_map, map_among, both_true, true_both}
 
 -- the actors and the places that were looked up are those of the state
 abbrev pub AreActors : Rows → Id → ActorsOf → Type 0

@@ -1,11 +1,11 @@
-use Rattle.std.proofs.Common.{◌≡◌, ℕ, Bool, true, false, ◌&&◌, ◌||◌, inl, inr, List, [], ◌∷◌, map, Result, Ok, Err, Some, get_or, refl, sym, ap, ◌∙◌}
+use Rattle.std.proofs.Common.{◌≡◌, ℕ, Bool, true, false, ◌&&◌, ◌||◌, inl, inr, List, [], ◌∷◌, map, refl, sym, ap, ◌∙◌}
 use Rattle.std.specs.Bool.{Decides}
 use Rattle.std.specs.List.{list_any}
 use Rattle.std.specs.Option.{is_some}
 use Rattle.std.proofs.lemmas.Slice.Eq.{bytes_eq-Decides}
 use Rattle.ks_base.specs.Places.{IsFoundAt, IsGapAt}
 use Rattle.ks_base.specs.Rows.{Id, same}
-use Rattle.ks_base.specs.Tables.{id_cmp, Among, find_row}
+use Rattle.ks_base.specs.Tables.{id_cmp, Among}
 use Rattle.ks_base.proofs.PlaceLemmas.{find_found, find_gap}
 use Rattle.ks_base.proofs.RowLemmas.{find_by_id}
 use Rattle.ks_tree.proofs.WalkLemmas.{any_found}

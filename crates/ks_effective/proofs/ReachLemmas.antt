@@ -1,4 +1,4 @@
-use Rattle.std.proofs.Common.{◌≡◌, Bool, true, false, List, Option, Some, None, refl, sym, ap, subst, ◌∙◌}
+use Rattle.std.proofs.Common.{◌≡◌, Bool, true, false, List, Option, Some, None, refl, ap, subst, ◌∙◌}
 use Rattle.std.specs.Bool.{Decides}
 use Rattle.std.specs.Option.{option_map}
 use Rattle.std.proofs.lemmas.Cmp.{nat_list_cmp_total}
@@ -9,7 +9,7 @@ use Rattle.ks_base.specs.declared.grants.Target.TheVariants as target
 use Rattle.ks_base.specs.declared.rows.ProjectRow.{ProjectRow}
 use Rattle.ks_base.specs.OrderLaws.{id_exact}
 use Rattle.ks_base.specs.Roles.{LiesIn, Reaches}
-use Rattle.ks_base.specs.Rows.{Id, same, project_of}
+use Rattle.ks_base.specs.Rows.{Id, project_of}
 use Rattle.ks_base.specs.Tables.{id_cmp, IsAscending, Among}
 use Rattle.ks_base.specs.Tree.{ancestors}
 use Rattle.ks_base.proofs.RowLemmas.{found_among, among_found}

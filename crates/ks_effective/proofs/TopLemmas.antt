@@ -1,4 +1,4 @@
-use Rattle.std.proofs.Common.{◌≡◌, ℕ, zero, suc, ◌<◌, Bool, true, false, if◌then◌else◌, inl, inr, List, [], ◌∷◌, length, map, Option, Some, None, refl, sym, ap, subst, ◌∙◌, arith}
+use Rattle.std.proofs.Common.{◌≡◌, ℕ, zero, suc, ◌<◌, Bool, true, false, if◌then◌else◌, inl, inr, List, ◌∷◌, length, map, Option, Some, None, refl, sym, ap, subst, ◌∙◌, arith}
 use Rattle.std.specs.Prelude.{IfSome, IsTrue}
 use Rattle.ks_base.specs.declared.grants.GrantRow.{GrantRow}
 use Rattle.ks_base.specs.declared.grants.Target.{Target}
@@ -9,7 +9,7 @@ use Rattle.ks_base.specs.Rows.{Id, Rows, project_of}
 use Rattle.ks_base.specs.Tables.{Among}
 use Rattle.ks_base.specs.Tree.{is_top, parent_of, with_parent, above_within, above, ancestors_in, ancestors}
 use Rattle.ks_effective.specs.Tops.{highest, IsTopIn, LeadsUp}
-use Rattle.ks_effective.proofs.ListLemmas.{FromOne, among_map}
+use Rattle.ks_effective.proofs.ListLemmas.{among_map}
 use Rattle.ks_effective.proofs.ReachLemmas.{found_stands}
 
 -- a parent is the project that is found by its own id

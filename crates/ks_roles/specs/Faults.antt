@@ -1,5 +1,5 @@
 -- Why a change of roles or implications is refused (Identity API v3, roles): the first cause that applies.
-use Rattle.std.specs.Prelude.{nat_le, Bool, false, not, ◌&&◌, if◌then◌else◌, List, [], ◌∷◌, length, find, Option, Some, None, is_some, is_none, codes}
+use Rattle.std.specs.Prelude.{nat_le, Bool, false, not, ◌&&◌, [], ◌∷◌, length, find, Option, Some, None, is_some, is_none, codes}
 use Rattle.std.specs.Option.{option_map}
 use Rattle.ks_base.specs.declared.kinds.Kind.TheVariants as kind
 use Rattle.ks_base.specs.declared.faults.RowFault.{RowFault}
