@@ -1,5 +1,5 @@
 -- A check is cut at its first colon.
-use Rattle.std.proofs.Common.{◌≡◌, sym, ap, ◌∙◌, subst, ℕ, ◌+◌, List, [], ◌∷◌, ◌++◌, take, drop, get_or, Some, arith, lit<, eqb-true}
+use Rattle.std.proofs.Common.{◌≡◌, sym, ap, ◌∙◌, subst, ℕ, ◌+◌, List, ◌∷◌, ◌++◌, take, drop, get_or, Some, lit<, eqb-true}
 use Rattle.std.specs.Prelude.{IsUtf8}
 use Rattle.std.specs.List.{position, before_first, after_first}
 use Rattle.std.proofs.lemmas.List.{drop-drop}

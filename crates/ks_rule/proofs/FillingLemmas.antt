@@ -1,5 +1,5 @@
 -- The pieces at the front of a text that is filled.
-use Rattle.std.proofs.Common.{◌≡◌, ◌≢◌, ◌⊎◌, inl, inr, refl, sym, ap, ◌∙◌, subst, ℕ, zero, suc, ◌+◌, ◌<◌, Bool, true, false, cond, ◌||◌, ◌==◌, List, [], ◌∷◌, ◌++◌, length, Some, None, Option, arith, append_assoc, append-nil, length-append, length-take, take, drop, get_or, eqb-true, take-append-drop, not}
+use Rattle.std.proofs.Common.{◌≡◌, ◌≢◌, ◌⊎◌, inl, inr, refl, sym, ap, ◌∙◌, subst, ℕ, ◌+◌, ◌<◌, Bool, true, false, cond, ◌||◌, ◌==◌, List, [], ◌∷◌, ◌++◌, length, Some, None, Option, arith, append_assoc, append-nil, length-take, take, drop, get_or, eqb-true, take-append-drop, not}
 use Rattle.std.specs.Prelude.{option_map, option_and_then, is_some}
 use Rattle.std.specs.List.{list_any, position, position_or_len}
 use Rattle.std.proofs.lemmas.Bool.Decides.{nat_tests}

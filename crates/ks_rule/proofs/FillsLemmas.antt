@@ -1,16 +1,15 @@
 -- How a filled text is compared with a value, part by part.
-use Rattle.std.proofs.Common.{◌≡◌, refl, sym, ap, ◌∙◌, subst, ℕ, zero, suc, ◌+◌, ◌<◌, ◌≤◌, Bool, true, false, cond, ◌&&◌, ◌==◌, List, [], ◌∷◌, ◌++◌, length, take, drop, Some, None, Option, arith, length-append, take-append-drop, length-take}
+use Rattle.std.proofs.Common.{◌≡◌, refl, sym, ap, ◌∙◌, ℕ, ◌<◌, ◌≤◌, Bool, true, false, ◌&&◌, ◌==◌, List, [], ◌∷◌, ◌++◌, length, take, drop, Some, None, arith, length-append, take-append-drop, length-take}
 use Rattle.std.proofs.lemmas.List.{length-map, map-append}
-use Rattle.std.specs.Prelude.{option_map, option_and_then, map}
-use Rattle.std.specs.Str.{bytes_eq, str_eq_ignore_ascii_case, str_to_ascii_lowercase}
+use Rattle.std.specs.Prelude.{option_map, option_and_then}
+use Rattle.std.specs.Str.{bytes_eq, str_to_ascii_lowercase}
 use Rattle.std.specs.Char.{to_ascii_lowercase}
 use Rattle.std.specs.List.{list_any}
 use Rattle.ks_rule.specs.declared.filling.Case.{Case}
 use Rattle.ks_rule.specs.declared.filling.Case.TheVariants.{Exact, Ignored}
 use Rattle.ks_rule.specs.Kinds.{Fields, value_in}
-use Rattle.ks_rule.specs.Filling.{key, is_percent, pieces, filled, spelling, IsKey}
+use Rattle.ks_rule.specs.Filling.{key, is_percent, filled, spelling, IsKey}
 use Rattle.ks_rule.specs.Fronts.{same_by}
-use Rattle.ks_rule.specs.Truth.{agrees}
 use Rattle.ks_rule.proofs.FillingLemmas.{filled_plain, filled_key}
 
 -- a part of the filled text, and what is left of it

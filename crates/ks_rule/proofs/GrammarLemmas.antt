@@ -1,10 +1,10 @@
 -- A text has one tree at most.
-use Rattle.std.proofs.Common.{◌≡◌, ◌≢◌, ◌⊎◌, inl, inr, ℕ, zero, suc, refl, sym, ap, ◌∙◌, subst, List, [], ◌∷◌, ◌++◌, append_assoc, Some, append-nil}
-use Rattle.ks_rule.specs.Trees.{Tree, always, never, negated, both, either}
+use Rattle.std.proofs.Common.{◌≡◌, ◌≢◌, ◌⊎◌, inl, inr, ℕ, zero, suc, refl, sym, ap, ◌∙◌, subst, List, [], ◌∷◌, ◌++◌, append_assoc, Some}
+use Rattle.ks_rule.specs.Trees.{Tree, always, never, both, either}
 use Rattle.ks_rule.specs.Tokens.{Token, opening, closing, not_word, and_word, or_word, check, tokens}
 use Rattle.ks_rule.specs.Checks.{check_of}
-use Rattle.ks_rule.specs.Grammar.{Form, Joined, IsCheck, Negation, Group, AndOf, OrOf, IsNotRule, IsAndRule, IsOrRule, Parses, IsRule}
-use Rattle.ks_rule.specs.Reading.{Follow, Anything, NoAnd, NoOperator}
+use Rattle.ks_rule.specs.Grammar.{Form, Joined, IsCheck, Negation, Group, AndOf, OrOf, IsNotRule, IsAndRule, IsOrRule, IsRule}
+use Rattle.ks_rule.specs.Reading.{Anything, NoAnd, NoOperator}
 use Rattle.ks_rule.proofs.JoinLemmas.{OneReading, one_joined}
 
 pub one_and : (form : Form) → OneReading form Anything → OneReading (AndOf form) NoAnd

@@ -1,5 +1,5 @@
 -- What a reader takes from the front of tokens.
-use Rattle.std.proofs.Common.{◌≡◌, ◌≢◌, ◌⊎◌, inl, inr, refl, sym, ap, ◌∙◌, subst, ℕ, zero, suc, ◌-◌, ◌<◌, List, [], ◌∷◌, ◌++◌, append_assoc, append-nil, Some, None, Ok, Err, Result, arith}
+use Rattle.std.proofs.Common.{◌≡◌, inl, inr, refl, sym, ap, ◌∙◌, subst, ℕ, zero, suc, ◌-◌, ◌<◌, List, [], ◌∷◌, ◌++◌, append_assoc, append-nil, Some, None, Ok, Err, Result, arith}
 use Rattle.ks_rule.specs.declared.rule.Rule.{Rule}
 use Rattle.ks_rule.specs.declared.stop.Stop.{Stop}
 use Rattle.ks_rule.specs.declared.stop.Stop.TheVariants.{Unreadable, OutOfMemory}
@@ -7,11 +7,11 @@ use Rattle.ks_rule.specs.declared.tokens.End.{End}
 use Rattle.ks_rule.specs.declared.tokens.End.TheVariants as end
 use Rattle.ks_rule.specs.Seen.{seen_end}
 use Rattle.ks_rule.specs.Trees.{Tree, negated, both, either, tree_of}
-use Rattle.ks_rule.specs.Tokens.{Token, opening, closing, not_word, and_word, or_word, check, tokens}
+use Rattle.ks_rule.specs.Tokens.{Token, opening, closing, not_word, and_word, or_word, check}
 use Rattle.ks_rule.specs.Checks.{check_of}
-use Rattle.ks_rule.specs.Grammar.{Form, IsCheck, Negation, Group, AndOf, OrOf, IsNotRule, IsAndRule, IsOrRule}
+use Rattle.ks_rule.specs.Grammar.{Form, IsNotRule, IsAndRule, IsOrRule}
 use Rattle.ks_rule.specs.Reading.{Follow, Anything, NoAnd, NoOperator, Takes, Lacks, Reads, ReadsWhole, Checked, Closed, Negated, Below}
-use Rattle.ks_rule.proofs.JoinLemmas.{OneReading, begun, more, ended, lacks_first, lacks_next}
+use Rattle.ks_rule.proofs.JoinLemmas.{begun, more, ended, lacks_first, lacks_next}
 use Rattle.ks_rule.proofs.GrammarLemmas.{behind_or, behind_closing, one_not, one_and_rule, one_or_rule}
 
 -- an and-rule

@@ -1,9 +1,9 @@
 -- The tokens of texts that are put together.
-use Rattle.std.proofs.Common.{◌≡◌, ◌≢◌, refl, sym, ap, ◌∙◌, subst, ℕ, zero, suc, ◌+◌, ◌-◌, ◌<◌, ◌≤◌, Bool, true, false, cond, not, ◌||◌, ◌==◌, List, [], ◌∷◌, ◌++◌, length, take, drop, get_or, append_assoc, append-nil, arith, add-one, length-take, length-append, replicate}
+use Rattle.std.proofs.Common.{◌≡◌, ◌≢◌, refl, sym, ap, ◌∙◌, ℕ, zero, suc, ◌-◌, ◌<◌, Bool, true, false, cond, ◌||◌, List, [], ◌∷◌, ◌++◌, length, take, get_or, append_assoc, append-nil, arith, length-take, replicate}
 use Rattle.std.specs.Prelude.{flat_map, reverse}
-use Rattle.std.specs.List.{slice_split, onto_first, suffix_len, prefix_len, list_any, AllByRecursion}
-use Rattle.std.proofs.lemmas.List.{length-reverse, get_or-reverse, replicate_more, take_all, append_cancel_left}
-use Rattle.std.proofs.lemmas.List.Sums.{prefix_len_stops, prefix_len-le-length, suffix_len-take_no, suffix_len-le-length}
+use Rattle.std.specs.List.{slice_split, onto_first, list_any, AllByRecursion}
+use Rattle.std.proofs.lemmas.List.{length-reverse, get_or-reverse, replicate_more, take_all}
+use Rattle.std.proofs.lemmas.List.Sums.{prefix_len_stops, suffix_len-take_no, suffix_len-le-length}
 use Rattle.std.proofs.lemmas.List.Splits.{length-slice_split, slice_split-cons_no, slice_split-cons_yes}
 use Rattle.ks_rule.specs.Tokens.{Token, opening, closing, check, not_word, and_word, or_word, token_of, is_space, is_opening, is_closing, kept_tokens, closes, without_closes, closed_tokens, word_tokens, tokens}
 use Rattle.ks_rule.proofs.FillingLemmas.{neither}

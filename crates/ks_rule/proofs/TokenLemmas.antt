@@ -1,9 +1,9 @@
 -- The tokens at the front of a text.
-use Rattle.std.proofs.Common.{◌≡◌, ◌≢◌, refl, sym, ap, ◌∙◌, subst, ℕ, zero, suc, ◌+◌, ◌-◌, ◌<◌, ◌≤◌, Bool, true, false, cond, not, List, [], ◌∷◌, ◌++◌, length, take, drop, get_or, append_assoc, append-nil, arith, add-one, sub-one, length-take, length-append, drop-cons, replicate, ◌==◌}
-use Rattle.std.specs.Prelude.{IsUtf8, flat_map, reverse, slice_index, IsCharBoundary, unwrap_or, position, nat_lt as ltb}
-use Rattle.std.specs.List.{slice_split, onto_first, suffix_len, prefix_len, position_or_len, before_first, after_first, All}
+use Rattle.std.proofs.Common.{◌≡◌, refl, sym, ap, ◌∙◌, subst, ℕ, zero, suc, ◌+◌, ◌-◌, ◌<◌, ◌≤◌, Bool, true, false, cond, not, List, [], ◌∷◌, ◌++◌, length, take, drop, get_or, append_assoc, arith, add-one, length-take, length-append, drop-cons, replicate, ◌==◌}
+use Rattle.std.specs.Prelude.{IsUtf8, flat_map, IsCharBoundary, nat_lt as ltb}
+use Rattle.std.specs.List.{slice_split, onto_first, prefix_len, position_or_len, before_first, after_first}
 use Rattle.std.proofs.lemmas.List.{reverse-append, take_all, drop_all, take_at, drop_at, get_or_at, take-append-le}
-use Rattle.std.proofs.lemmas.List.Sums.{fails_before_first, passes_at_first, split_at_first, suffix_len-le-length, prefix_len-le-length}
+use Rattle.std.proofs.lemmas.List.Sums.{fails_before_first, passes_at_first, suffix_len-le-length, prefix_len-le-length}
 use Rattle.std.proofs.lemmas.List.Splits.{slice_split-cons_yes, slice_split-cons_no, slice_split_first, slice_split_none}
 use Rattle.std.proofs.lemmas.Str.{IsUtf8-take, IsUtf8-drop, IsCharBoundary-before_ascii, IsCharBoundary-after_ascii}
 use Rattle.std.proofs.lemmas.Bool.Decides.{nat_tests}

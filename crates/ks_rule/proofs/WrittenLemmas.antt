@@ -1,5 +1,5 @@
 -- What is written of a rule is read as that rule.
-use Rattle.std.proofs.Common.{◌≡◌, ◌≢◌, ◌⊎◌, inl, inr, refl, sym, ap, ◌∙◌, subst, ℕ, zero, suc, ◌+◌, ◌≤◌, Bool, true, false, cond, max, List, [], ◌∷◌, ◌++◌, append_assoc, append-nil, Some, arith}
+use Rattle.std.proofs.Common.{◌≡◌, inl, inr, refl, sym, ap, ◌∙◌, subst, ℕ, zero, suc, ◌+◌, ◌≤◌, Bool, true, false, max, List, [], ◌∷◌, ◌++◌, Some, arith}
 use Rattle.std.specs.Prelude.{codes, fold, flat_map, IsUtf8, IfOk, Result, Ok, Err}
 use Rattle.std.specs.List.{AllByRecursion}
 use Rattle.ks_rule.specs.declared.writer.Level.{Level}
@@ -7,7 +7,7 @@ use Rattle.ks_rule.specs.declared.writer.Level.TheVariants as level
 use Rattle.ks_rule.specs.Trees.{Tree, always, never, named, role, compare, negated, both, either}
 use Rattle.ks_rule.specs.Tokens.{Token, opening, closing, not_word, and_word, or_word, check, tokens}
 use Rattle.ks_rule.specs.Checks.{check_of}
-use Rattle.ks_rule.specs.Grammar.{Form, Part, Joined, IsCheck, Negation, Group, AndOf, OrOf, IsNotRule, IsAndRule, IsOrRule, IsWithinLimits, Parses, IsRule}
+use Rattle.ks_rule.specs.Grammar.{Form, Part, IsCheck, IsNotRule, IsAndRule, IsOrRule, IsWithinLimits, IsRule}
 use Rattle.ks_rule.specs.Writing.{groups_and, groups_or, grouped, written, text_of}
 use Rattle.ks_rule.proofs.JoinLemmas.{joined_one, joined_more}
 use Rattle.ks_rule.proofs.SpelledLemmas.{AllProper, proper_front, proper_behind, tokens_proper, tokens_parted, tokens_closed_by}

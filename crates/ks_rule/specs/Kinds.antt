@@ -1,5 +1,5 @@
 -- What the kind of a comparison stands for.
-use Rattle.std.specs.Prelude.{ℕ, ◌-◌, Bool, ◌&&◌, ◌||◌, ◌==◌, not, if◌then◌else◌, nat_le, List, [], ◌∷◌, length, slice_index, slice_range, find, Option, Some, None, option_map, codes}
+use Rattle.std.specs.Prelude.{ℕ, ◌-◌, Bool, ◌&&◌, ◌||◌, ◌==◌, not, if◌then◌else◌, nat_le, List, length, slice_index, slice_range, find, Option, Some, None, option_map, codes}
 use Rattle.std.specs.Char.{is_ascii_digit}
 use Rattle.std.specs.List.{list_all}
 use Rattle.std.specs.Str.{bytes_eq}

@@ -2,6 +2,8 @@
 //! where a tree holds.
 #![tactic(auto)]
 
+#[cfg(test)]
+mod caller_tests;
 mod check;
 mod credentials;
 mod filling;

@@ -8,7 +8,7 @@ use std::process::Abort;
 use std::test::Fail;
 
 /// The rule `yes` holds, and no other.
-struct Yes;
+pub struct Yes;
 
 impl NamedRules for Yes {
     ghost holding = { λ _ name. bytes_eq name (codes "yes") };
@@ -18,11 +18,11 @@ impl NamedRules for Yes {
     }
 }
 
-fn text(alloc: Global, text: &str) -> Result<Text, Fail> {
+pub fn text(alloc: Global, text: &str) -> Result<Text, Fail> {
     Ok(Text::read(alloc, text.as_bytes())?.ok_or("a text")?)
 }
 
-fn fields(alloc: Global, rows: &[(&str, &str)]) -> Result<FieldList, Fail> {
+pub fn fields(alloc: Global, rows: &[(&str, &str)]) -> Result<FieldList, Fail> {
     let mut fields = FieldList::new(alloc);
     for (name, value) in rows {
         fields.push((text(alloc, name)?, text(alloc, value)?))?;
@@ -56,6 +56,8 @@ fn target(alloc: Global) -> Result<Attributes, Fail> {
         ("name", "True"),
         ("empty", ""),
         ("a%b", "u1"),
+        ("a(b", "u1"),
+        ("percent", "100%"),
     ];
     fields(alloc, rows.as_slice())
 }
@@ -109,7 +111,18 @@ None:None
 colon::x
 rule:yes
 user_id:%(a%b)s
-'1u2.':%(one)s%(owner)s.";
+user_id:%(a(b)s
+user_id:%(empty)s%(user_id)s%(empty)s
+'1u2.':%(one)s%(owner)s.
+'a':a
+\"a\":a
+\"'\":'
+\"'u2'\":'%(owner)s'
+'100%':%(percent)s
+'http':http
+True:True
+0:0
+12:%(one)s2";
 
 /// Checks that do not, though each is a rule.
 const CHECKS_THAT_FAIL: &str = "!
@@ -137,10 +150,32 @@ True:%(missing)s
 0x1:0x1
 1.5:1.5
 rule:no
+rule:
+rule:Yes
 rule:a%b
 a%b:x
+%(user_id)s:u1
 'u1:u1
-'a:b':x";
+'a:b':x
+'a':b
+'a':A
+'a\":a
+'':%(missing)s
+role:
+role:(admin
+user_id:
+user_id:%(USER_ID)s
+http
+https
+Https://host/
+TRUE:TRUE
+none:none
+00:0
+-1:-1
++1:+1
+1e3:1e3
+a(b
+50%";
 
 /// Texts of several checks that hold.
 const RULES_THAT_HOLD: &str = "not !
@@ -167,7 +202,20 @@ not user_id:%(missing)s
 not nobody:x
 not not role:admin
 (role:admin and user_id:u1) or !
-role:owner or project_id:p1 and user_id:%(user_id)s";
+role:owner or project_id:p1 and user_id:%(user_id)s
+nOT !
+! oR @
+@ And @
+@ or @ and !
+not ( not ( @ ) )
+((role:(x)) or @
+'a or @
+http or @
+oR:x or @
+not:x or @
+nota or @
+rule:50% or @
+a%b:x or @";
 
 /// Texts of several checks that do not hold.
 const RULES_THAT_FAIL: &str = "not @
@@ -180,7 +228,12 @@ foo and @
 not @ or !
 not ! and !
 not (@ or !)
-role:admin and role:owner";
+NOT @
+@ and ! or !
+role:admin and role:owner
+(role:admin)and(user_id:u1)
+'a':b or \"a\":%(missing)s
+not (rule:yes or !)";
 
 /// Texts that do not parse: each holds in no place, though all but the first few have `@` in them.
 const NO_RULES: &str = " 
@@ -199,11 +252,32 @@ or @
 @ or (! and @
 not(@)
 (not)@
+@ AND
+nOt
+not not
+@ and and @
+)
+(
+@)
+((@)
+()@
+@) or (@
+role:(admin) or @
 'foo' or @
 '' or @
+\"\" or @
+'a:b' or @
 \"a:b\" or @
+not 'a:b'
+('a:b') or @
+'a b' or @
+\"u2\":%(owner)s\" or @
+: or @
 :x or @
+http: or @
 http:x or @
+not http:x
+https:x or @
 https://host/ or @
 role:% or @
 role:50% or @
@@ -213,7 +287,13 @@ user_id:%(user_id)d or @
 user_id:%user_id or @
 user_id:%%(user_id)s or @
 user_id:%()s or @
-not user_id:% or @";
+not user_id:% or @
+user_id:%(user_id)S or @
+user_id:%(a b)s or @
+role:%(a or @
+role:100% or @
+True:%x or @
+'a':% or @";
 
 #[test]
 fn these_checks_hold(rt: HostRuntime) -> Result<(), Fail> {
@@ -253,6 +333,7 @@ fn these_are_no_rules(rt: HostRuntime) -> Result<(), Fail> {
 fn white_space_is_of_four_kinds(rt: HostRuntime) -> Result<(), Fail> {
     assert!(rt; holds(rt.alloc(), "\t@\r\nand\n @ \t")?);
     assert!(rt; !holds(rt.alloc(), "@\u{b}or\u{b}@")?);
+    assert!(rt; rewritten(rt.alloc(), " \t\r\n")?.as_str() == "!");
     Ok(())
 }
 
@@ -346,6 +427,13 @@ fn rewritten_between(
 fn parentheses_stand_64_deep(rt: HostRuntime) -> Result<(), Fail> {
     let alloc = rt.alloc();
     assert!(rt; rewritten_between(alloc, "(", "@", ")", 64)?.as_str() == "@");
+    let deepest = between(alloc, "(", "@", ")", 64)?;
+    assert!(rt;
+        holds(
+            alloc,
+            between(alloc, deepest.as_str(), " and ", deepest.as_str(), 1)?.as_str()
+        )?
+    );
     assert!(rt; rewritten_between(alloc, "(", "@", ")", 65)?.as_str() == "!");
     Ok(())
 }

@@ -1,4 +1,4 @@
-use Rattle.std.proofs.Common.{◌∙◌, sym, ap, refl}
+use Rattle.std.proofs.Common.{◌∙◌, ap}
 use Rattle.ks_rule.specs.Filling.{filled}
 use Rattle.ks_rule.proofs.FillingLemmas.{filled_end, filled_none}
 use Rattle.ks_rule.proofs.FillsLemmas.{part_plain, part_key, part_missing}

@@ -1,4 +1,4 @@
-use Rattle.std.proofs.Common.{◌∙◌, sym, ap, subst, []}
+use Rattle.std.proofs.Common.{◌∙◌, sym, ap, subst}
 use Rattle.std.specs.Prelude.{IsUtf8}
 use Rattle.ks_rule.specs.Tokens.{tokens}
 use Rattle.ks_rule.proofs.TokenLemmas.{tokens_space, utf8_tail}

@@ -1,5 +1,5 @@
 use Rattle.std.proofs.Common.{◌∙◌, sym}
-use Rattle.ks_rule.proofs.FillsLemmas.{strip_true, strip_false, same_short}
+use Rattle.ks_rule.proofs.FillsLemmas.{strip_true, strip_false}
 use Rattle.ks_rule.proofs.filling.Case.strip.Goals as goal
 
 pub returns-then-same : goal.returns-then-same

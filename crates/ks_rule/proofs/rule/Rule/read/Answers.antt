@@ -1,6 +1,4 @@
 use Rattle.std.proofs.Common.{◌∙◌, sym}
-use Rattle.ks_rule.specs.Grammar.{IsOrRule}
-use Rattle.ks_rule.specs.Tokens.{tokens}
 use Rattle.ks_rule.proofs.FillingLemmas.{some_is}
 use Rattle.ks_rule.proofs.GrammarLemmas.{never_rule}
 use Rattle.ks_rule.proofs.rule.Rule.read.Goals as goal

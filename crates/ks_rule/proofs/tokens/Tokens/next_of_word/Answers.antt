@@ -1,4 +1,4 @@
-use Rattle.std.proofs.Common.{◌∙◌, sym, ap, ◌∷◌, length, arith, eqb-true}
+use Rattle.std.proofs.Common.{◌∙◌, sym, length, eqb-true}
 use Rattle.ks_rule.specs.Seen.{seen}
 use Rattle.ks_rule.proofs.TokenLemmas.{next_closing, next_kept, not_empty}
 use Rattle.ks_rule.proofs.tokens.Tokens.next_of_word.Goals as goal

@@ -1,6 +1,6 @@
-use Rattle.std.proofs.Common.{◌≡◌, [], ◌∷◌, length, lit<, arith, subst, ◌∙◌, ap}
+use Rattle.std.proofs.Common.{◌≡◌, [], ◌∷◌, lit<, subst, ◌∙◌, ap}
 use Rattle.std.specs.Prelude.{IsUtf8}
-use Rattle.ks_rule.proofs.TokenLemmas.{next_none, next_opening, next_word, utf8_behind}
+use Rattle.ks_rule.proofs.TokenLemmas.{next_none, next_opening, utf8_behind}
 use Rattle.ks_rule.proofs.tokens.Tokens.next_token.Goals as goal
 
 pub returns-in_default-clause-next : goal.returns-in_default-clause-next
