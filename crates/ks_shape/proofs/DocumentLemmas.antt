@@ -1,6 +1,6 @@
 -- Reading a document.
 use Rattle.std.proofs.Common.{◌≡◌, ℕ, Bool, true, false, List, Some, None, Ok, Err, refl, arith}
-use Rattle.std.specs.Prelude.{Option, Result, IsTrue, if◌then◌else◌}
+use Rattle.std.specs.Prelude.{Option, IsTrue, if◌then◌else◌}
 use Rattle.std.specs.Str.{IsUtf8, is_utf8}
 use Rattle.std.proofs.lemmas.Str.{IsUtf8-from_is_utf8, is_utf8-from_IsUtf8}
 use Rattle.serde_json.specs.Data.{Data}

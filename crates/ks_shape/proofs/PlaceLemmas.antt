@@ -1,12 +1,11 @@
 -- Going down by one name more.
-use Rattle.std.proofs.Common.{◌≡◌, ℕ, zero, suc, ◌+◌, ◌<◌, ◌≤◌, Bool, true, false, List, [], ◌∷◌, length, get_or, take, drop, Some, None, Ok, Err, refl, sym, ap, ◌∙◌, arith, add-one}
-use Rattle.std.specs.Prelude.{Option, Result, if◌then◌else◌, is_some}
+use Rattle.std.proofs.Common.{◌≡◌, ℕ, zero, suc, ◌+◌, ◌<◌, ◌≤◌, true, false, List, [], ◌∷◌, length, get_or, take, drop, Some, None, Ok, Err, refl, sym, arith, add-one}
+use Rattle.std.specs.Prelude.{Option, is_some}
 use Rattle.std.specs.Borrow.{Bor}
 use Rattle.serde_json.specs.Data.{Data}
 use Rattle.serde_json.specs.Find.{get, as_object}
-use Rattle.ks_base.specs.declared.shapes.ShapeFault.{ShapeFault}
 use Rattle.ks_base.specs.declared.shapes.ShapeFault.TheVariants as fault
-use Rattle.ks_shape.specs.Places.{names_in, member_path, path_below, member_of, value_below}
+use Rattle.ks_shape.specs.Places.{names_in, member_path, path_below, value_below}
 use Rattle.ks_shape.specs.Readings.{◌>>=◌}
 
 path_more : (path : List ℕ) (xs : List (Bor (List ℕ))) (i : ℕ) (x : Bor (List ℕ)) → i < length xs

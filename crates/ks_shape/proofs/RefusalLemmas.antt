@@ -1,5 +1,5 @@
 -- Refusals, and the exits of a `?`.
-use Rattle.std.proofs.Common.{◌≡◌, Ok, Err, refl, sym, ap}
+use Rattle.std.proofs.Common.{◌≡◌, Ok, Err, sym, ap}
 use Rattle.std.specs.Prelude.{Result, IsErrAnd}
 use Rattle.ks_base.specs.declared.shapes.ShapeFault.{ShapeFault}
 use Rattle.ks_base.specs.declared.shapes.ShapeRefusal.{ShapeRefusal}

@@ -1,14 +1,14 @@
 -- A text has a moment exactly where it is a time text of that moment.
-use Rattle.std.proofs.Common.{◌≡◌, ℕ, ◌+◌, ◌-◌, ◌*◌, ◌/◌, ◌%◌, ◌<◌, ◌≤◌, ◌↔◌, Bool, true, false, List, [], ◌∷◌, ◌++◌, length, take, drop, Some, None, refl, sym, ap, ◌∙◌, arith, length-append, append_assoc}
+use Rattle.std.proofs.Common.{◌≡◌, ℕ, ◌+◌, ◌-◌, ◌*◌, ◌/◌, ◌%◌, ◌<◌, ◌≤◌, Bool, true, false, List, ◌++◌, length, take, Some, None, refl, sym, ap, ◌∙◌, arith, length-append, append_assoc}
 use Rattle.std.proofs.Math.Seq.{take-append_seam}
 use Rattle.std.proofs.lemmas.Bool.{and_from, and_parts}
 use Rattle.std.proofs.lemmas.Bool.Decides.{nat_tests}
 use Rattle.std.proofs.lemmas.Slice.Eq.{bytes_eq-Decides}
-use Rattle.std.specs.Prelude.{Option, Result, Err, Ok, IfSome, IsTrue, ◌&&◌, nat_lt, nat_le, if◌then◌else◌, codes}
+use Rattle.std.specs.Prelude.{Option, Err, Ok, nat_lt, nat_le, if◌then◌else◌, codes}
 use Rattle.std.specs.Int.{IsInRange, is_in_range}
 use Rattle.std.specs.Str.{bytes_eq}
 use Rattle.ks_time.specs.Calendar.{Civil, IsCivil, days_in_month, moment_of}
-use Rattle.ks_time.specs.TimeTexts.{IsCivilText, IsTimeText, clock_text, date_text, is_fraction}
+use Rattle.ks_time.specs.TimeTexts.{IsTimeText, clock_text, date_text, is_fraction}
 use Rattle.ks_shape.specs.declared.misfit.Misfit.TheVariants.{Kind}
 use Rattle.ks_shape.specs.Readings.{found}
 use Rattle.ks_shape.specs.Times.{civil_in, fraction_in, is_civil, is_spelled, is_time_text, time_of}

@@ -10,7 +10,7 @@ use Rattle.ks_machine.specs.declared.bodies.ProjectNamed.{ProjectNamed}
 use Rattle.ks_machine.specs.declared.bodies.ProjectNamed.TheVariants as project
 use Rattle.ks_shape.specs.Places.{Place, names, place_at}
 use Rattle.ks_shape.specs.Fields.{needed, optional}
-use Rattle.ks_shape.specs.Types.{id_text, list_of, name_text}
+use Rattle.ks_shape.specs.Types.{id_text, name_text}
 use Rattle.ks_shape.specs.Readings.{◌>>=◌}
 
 abbrev pub own_id : Place → Result (Option (List ℕ)) ShapeFault

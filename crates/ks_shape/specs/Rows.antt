@@ -8,7 +8,7 @@ use Rattle.ks_base.specs.declared.shapes.ShapeFault.TheVariants as fault
 use Rattle.ks_machine.specs.declared.bodies.Made.{Made}
 use Rattle.ks_machine.specs.declared.bodies.Made.TheVariants as made
 use Rattle.ks_shape.specs.Places.{Place, names}
-use Rattle.ks_shape.specs.Fields.{FieldType, needed, optional}
+use Rattle.ks_shape.specs.Fields.{needed, optional}
 use Rattle.ks_shape.specs.Types.{description_text, falsehood, id_text, name_text, password_text, truth}
 use Rattle.ks_shape.specs.Readings.{◌>>=◌}
 

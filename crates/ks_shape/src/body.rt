@@ -37,8 +37,9 @@ fn read_form(form: Form, body: &Node) -> Result<BodyIn, ShapeRefusal>
     }
 }
 
-/// The value of a document.
-fn read_document(alloc: Global, bytes: &[u8]) -> Result<Value, ShapeRefusal>
+/// The value of a JSON document (RFC 8259). `NotJson` where the bytes are not UTF-8, or no JSON text of at most 127
+/// levels.
+pub fn read_document(alloc: Global, bytes: &[u8]) -> Result<Value, ShapeRefusal>
     ensures { ReadsBy view result (found (document bytes.now) fault.NotJson) }
 {
     match Value::from_slice(alloc, bytes) {

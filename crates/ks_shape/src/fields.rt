@@ -37,7 +37,7 @@ pub fn unless_null(value: Option<&Value>) -> Option<&Value>
 
 impl<'a> Node<'a> {
     /// The refusal of the value to which these names lead.
-    pub(crate) fn refuse<T: Drop>(&self, names: &[&str], misfit: Misfit) -> Result<T, ShapeRefusal>
+    pub fn refuse<T: Drop>(&self, names: &[&str], misfit: Misfit) -> Result<T, ShapeRefusal>
         ensures { Refuses result (fault_at (path_at (names_in names.now) (place_of self.now)) misfit) }
     {
         let path = self.path_at(names)?;
@@ -77,8 +77,9 @@ impl<'a> Node<'a> {
         }
     }
 
+    /// The value of a field that may be absent, for which null stands too.
     #[tactic(auto, unfolding(crate::specs::Fields::optional_value))]
-    fn optional_value(&self, names: &[&str]) -> Result<Option<&'a Value>, ShapeRefusal>
+    pub fn optional_value(&self, names: &[&str]) -> Result<Option<&'a Value>, ShapeRefusal>
         ensures { ReadsBy (option_map (λ value. view value.now)) result (optional_value (names_in names.now) (place_of self.now)) }
     {
         let standing = self.value_at(names)?;

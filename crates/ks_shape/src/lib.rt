@@ -8,6 +8,8 @@ mod document_tests;
 mod fields;
 mod form;
 mod laws;
+#[cfg(test)]
+mod limit_tests;
 mod login;
 #[cfg(test)]
 mod login_tests;
@@ -15,6 +17,8 @@ mod method;
 mod misfit;
 mod names;
 mod node;
+#[cfg(test)]
+mod node_tests;
 #[cfg(test)]
 mod row_tests;
 mod rows;
@@ -26,10 +30,11 @@ mod trust;
 mod trust_tests;
 mod types;
 
-pub use body::read_body;
+pub use body::{read_body, read_document};
 pub use fields::FieldType;
 pub use form::{BodyIn, Form};
 pub use laws::moments_are_of_time_texts;
 pub use misfit::{Misfit, Unread};
 pub use node::Node;
+pub use rows::{DESCRIPTION, NAME, PASSWORD};
 pub use types::{AnyText, Count, Falsehood, IdText, TextOf, TimeText, Truth, Whole};

@@ -57,6 +57,16 @@ fn walks_to_the_methods(rt: HostRuntime) -> Result<(), Fail> {
             r#"{"auth":{"identity":{},"scope":3}}"#,
             "Missing auth.identity.methods",
         ),
+        (r#"{"auth":[]}"#, "Kind auth"),
+        (r#"{"auth":{"identity":null}}"#, "Kind auth.identity"),
+        (
+            r#"{"auth":{"identity":{"methods":["token"],"token":{"id":3}},"scope":3}}"#,
+            "Kind auth.identity.token.id",
+        ),
+        (
+            r#"{"auth":{"identity":{"methods":["token"],"token":{"id":"t"}},"scope":3,"scope":"unscoped"},"more":3}"#,
+            "token t unscoped",
+        ),
     ] {
         assert!(rt; login(rt.alloc(), body, answer)?);
     }
@@ -84,6 +94,24 @@ fn wants_one_method(rt: HostRuntime) -> Result<(), Fail> {
         (
             r#"["token"],"token":{"id":3}"#,
             "Kind auth.identity.token.id",
+        ),
+        ("[null]", "Range auth.identity.methods"),
+        (r#"["password",3]"#, "Range auth.identity.methods"),
+        (r#"["Token"]"#, "Range auth.identity.methods"),
+        (r#"{"0":"token"}"#, "Kind auth.identity.methods"),
+        (r#"["token"],"token":null"#, "Kind auth.identity.token"),
+        (
+            r#"["token"],"token":{"id":null}"#,
+            "Kind auth.identity.token.id",
+        ),
+        (r#"["token"],"token":{"id":"t"},"password":3"#, "token t"),
+        (
+            r#"["password"],"password":3"#,
+            "Kind auth.identity.password",
+        ),
+        (
+            r#"["password"],"password":{"user":[]}"#,
+            "Kind auth.identity.password.user",
         ),
     ] {
         assert!(rt; by_methods(rt.alloc(), methods, answer)?);
@@ -129,6 +157,18 @@ fn names_users(rt: HostRuntime) -> Result<(), Fail> {
         (
             r#""password":"s","name":"ann","domain":{"id":7}"#,
             "Kind auth.identity.password.user.domain.id",
+        ),
+        (
+            r#""password":"s","name":3,"domain":3"#,
+            "Kind auth.identity.password.user.name",
+        ),
+        (
+            r#""password":"s","name":"ann","domain":{}"#,
+            "Missing auth.identity.password.user.domain.name",
+        ),
+        (
+            r#""password":"s","name":"ann","domain":{"id":"d","name":3}"#,
+            "ann of #d by s",
         ),
     ] {
         assert!(rt; by_user(rt.alloc(), members, answer)?);

@@ -1,29 +1,7 @@
 use crate::Form;
 use crate::shown::answers;
 use ks_base::Kind;
-use std::alloc::Global;
 use std::test::Fail;
-
-/// A text in quotes that is as long as this.
-fn quoted(alloc: Global, length: usize) -> Result<String, Fail> {
-    let mut text = String::from_str(alloc, "\"")?;
-    for _ in 0..length {
-        text.push('n')?;
-    }
-    text.push('"')?;
-    Ok(text)
-}
-
-/// The answer to the creation of a role whose member is a text as long as this.
-fn role_with(alloc: Global, member: &str, length: usize, answer: &str) -> Result<bool, Fail> {
-    let text = quoted(alloc, length)?;
-    let body = format!(in alloc;
-        "{{\"role\":{{\"name\":\"r\",\"{member}\":{}}}}}",
-        text.as_str()
-    )?;
-    let said = crate::shown::shown(alloc, Form::Made(Kind::Role, true), body.as_bytes())?;
-    Ok(said.as_str().starts_with(answer))
-}
 
 #[test]
 fn creates_domains(rt: HostRuntime) -> Result<(), Fail> {
@@ -56,6 +34,21 @@ fn creates_domains(rt: HostRuntime) -> Result<(), Fail> {
             "Kind domain.enabled",
         ),
         (r#"{"domain":[]}"#, "Kind domain"),
+        ("{}", "Missing domain.name"),
+        ("null", "Kind "),
+        (
+            r#"{"domain":{"name":null,"enabled":3}}"#,
+            "Kind domain.name",
+        ),
+        (
+            r#"{"domain":{"name":"d","more":{"name":3}},"name":3}"#,
+            "domain name=d",
+        ),
+        (r#"{"domain":3,"domain":{"name":"e"}}"#, "domain name=e"),
+        (
+            r#"{"domain":{"name":"d","enabled":3,"enabled":true}}"#,
+            "domain name=d enabled=true",
+        ),
     ] {
         assert!(rt; answers(rt.alloc(), Form::Made(Kind::Domain, true), body, answer)?);
     }
@@ -73,6 +66,22 @@ fn changes_domains(rt: HostRuntime) -> Result<(), Fail> {
         (r#"{"domain":{"id":null,"name":""}}"#, "Range domain.name"),
         (r#"{"domain":null}"#, "Kind domain"),
         ("3", "Kind "),
+        (r#"{"domains":{"name":3}}"#, "domain"),
+        (r#"{"domain":{"name":3,"id":3}}"#, "Kind domain.name"),
+        (
+            r#"{"domain":{"description":3,"enabled":3}}"#,
+            "Kind domain.description",
+        ),
+        (r#"{"domain":{"id":3}}"#, "Kind domain.id"),
+        (r#"{"domain":{"id":3,"id":"e"}}"#, "domain id=#e"),
+        (
+            r#"{"domain":{"description":null,"enabled":null,"id":null}}"#,
+            "domain",
+        ),
+        (
+            r#"{"domain":{"name":"e","description":"x","enabled":false,"more":[]}}"#,
+            "domain name=e description=x enabled=false",
+        ),
     ] {
         assert!(rt; answers(rt.alloc(), Form::Made(Kind::Domain, false), body, answer)?);
     }
@@ -119,6 +128,32 @@ fn creates_projects(rt: HostRuntime) -> Result<(), Fail> {
             r#"{"project":{"name":"p","is_domain":null,"id":3}}"#,
             "project name=p",
         ),
+        ("{}", "Missing project.name"),
+        (r#"{"project":"p"}"#, "Kind project"),
+        (
+            r#"{"project":{"name":null,"domain_id":3}}"#,
+            "Kind project.name",
+        ),
+        (
+            r#"{"project":{"name":"","domain_id":3}}"#,
+            "Range project.name",
+        ),
+        (
+            r#"{"project":{"name":"p","parent_id":3,"enabled":3}}"#,
+            "Kind project.parent_id",
+        ),
+        (
+            r#"{"project":{"name":"p","domain_id":null,"parent_id":null,"description":null,"enabled":null}}"#,
+            "project name=p",
+        ),
+        (
+            r#"{"project":{"name":"p","name":"q","description":"x","more":3}}"#,
+            "project name=q description=x",
+        ),
+        (
+            r#"{"project":{"name":"p","is_domain":true,"is_domain":false}}"#,
+            "project name=p",
+        ),
     ] {
         assert!(rt; answers(rt.alloc(), Form::Made(Kind::Project, true), body, answer)?);
     }
@@ -138,6 +173,43 @@ fn changes_projects(rt: HostRuntime) -> Result<(), Fail> {
             "Range project.is_domain",
         ),
         (r#"{"project":{"id":3}}"#, "Kind project.id"),
+        ("{}", "project"),
+        ("[]", "Kind "),
+        (r#"{"project":[]}"#, "Kind project"),
+        (
+            r#"{"project":{"name":"q","domain_id":"d","parent_id":"r","description":"x","enabled":false,"more":3}}"#,
+            "project name=q domain=#d parent=#r description=x enabled=false",
+        ),
+        (
+            r#"{"project":{"name":3,"domain_id":3}}"#,
+            "Kind project.name",
+        ),
+        (
+            r#"{"project":{"name":"","domain_id":3}}"#,
+            "Range project.name",
+        ),
+        (
+            r#"{"project":{"domain_id":"d d","parent_id":3}}"#,
+            "Range project.domain_id",
+        ),
+        (
+            r#"{"project":{"parent_id":3,"description":3}}"#,
+            "Kind project.parent_id",
+        ),
+        (
+            r#"{"project":{"description":3,"enabled":3}}"#,
+            "Kind project.description",
+        ),
+        (
+            r#"{"project":{"enabled":"true","is_domain":true}}"#,
+            "Kind project.enabled",
+        ),
+        (
+            r#"{"project":{"is_domain":0,"id":""}}"#,
+            "Kind project.is_domain",
+        ),
+        (r#"{"project":{"id":"p/q"}}"#, "Range project.id"),
+        (r#"{"project":{"id":3,"id":null,"name":null}}"#, "project"),
     ] {
         assert!(rt; answers(rt.alloc(), Form::Made(Kind::Project, false), body, answer)?);
     }
@@ -170,6 +242,22 @@ fn creates_users(rt: HostRuntime) -> Result<(), Fail> {
             "Kind user.enabled",
         ),
         (r#"{"user":true}"#, "Kind user"),
+        ("{}", "Missing user.name"),
+        (r#"{"user":{"name":null,"domain_id":3}}"#, "Kind user.name"),
+        (r#"{"user":{"name":"","domain_id":3}}"#, "Range user.name"),
+        (
+            r#"{"user":{"name":"u","domain_id":3,"password":3}}"#,
+            "Kind user.domain_id",
+        ),
+        (
+            r#"{"user":{"name":"u","domain_id":null,"enabled":null,"email":3}}"#,
+            "user name=u",
+        ),
+        (
+            r#"{"user":{"name":"u","password":"","password":"s"}}"#,
+            "user name=u password=s",
+        ),
+        (r#"{"user":{"name":"u"},"user":null}"#, "Kind user"),
     ] {
         assert!(rt; answers(rt.alloc(), Form::Made(Kind::User, true), body, answer)?);
     }
@@ -188,6 +276,33 @@ fn changes_users(rt: HostRuntime) -> Result<(), Fail> {
         (
             r#"{"user":{"domain_id":3,"name":"v"}}"#,
             "Kind user.domain_id",
+        ),
+        ("{}", "user"),
+        ("true", "Kind "),
+        (r#"{"user":3}"#, "Kind user"),
+        (
+            r#"{"user":{"name":null,"domain_id":null,"password":null,"enabled":null,"id":null}}"#,
+            "user",
+        ),
+        (r#"{"user":{"name":"","domain_id":3}}"#, "Range user.name"),
+        (
+            r#"{"user":{"domain_id":"","password":3}}"#,
+            "Range user.domain_id",
+        ),
+        (
+            r#"{"user":{"password":3,"enabled":3}}"#,
+            "Kind user.password",
+        ),
+        (r#"{"user":{"enabled":1,"id":3}}"#, "Kind user.enabled"),
+        (r#"{"user":{"id":3}}"#, "Kind user.id"),
+        (r#"{"user":{"id":"u u"}}"#, "Range user.id"),
+        (
+            r#"{"user":{"name":"v","name":"w","email":3}}"#,
+            "user name=w",
+        ),
+        (
+            r#"{"user":{"domain_id":"d","enabled":false}}"#,
+            "user domain=#d enabled=false",
         ),
     ] {
         assert!(rt; answers(rt.alloc(), Form::Made(Kind::User, false), body, answer)?);
@@ -219,6 +334,22 @@ fn creates_groups(rt: HostRuntime) -> Result<(), Fail> {
             r#"{"group":{"name":"g","description":{}}}"#,
             "Kind group.description",
         ),
+        ("{}", "Missing group.name"),
+        (r#"{"group":null}"#, "Kind group"),
+        (r#"{"group":{"domain_id":3}}"#, "Missing group.name"),
+        (
+            r#"{"group":{"name":"","description":3}}"#,
+            "Range group.name",
+        ),
+        (
+            r#"{"group":{"name":"g","domain_id":"","description":3}}"#,
+            "Range group.domain_id",
+        ),
+        (
+            r#"{"group":{"name":"g","domain_id":null,"description":null}}"#,
+            "group name=g",
+        ),
+        (r#"{"group":{"name":3,"name":"g"}}"#, "group name=g"),
     ] {
         assert!(rt; answers(rt.alloc(), Form::Made(Kind::Group, true), body, answer)?);
     }
@@ -237,6 +368,27 @@ fn changes_groups(rt: HostRuntime) -> Result<(), Fail> {
         (r#"{"group":"g"}"#, "Kind group"),
         ("[{}]", "Kind "),
         (r#"{"group":{"id":"g"}}"#, "group id=#g"),
+        ("{}", "group"),
+        (
+            r#"{"group":{"name":"h","domain_id":"d","id":"g"}}"#,
+            "group id=#g name=h domain=#d",
+        ),
+        (r#"{"group":{"name":3,"domain_id":3}}"#, "Kind group.name"),
+        (r#"{"group":{"name":"","domain_id":3}}"#, "Range group.name"),
+        (
+            r#"{"group":{"domain_id":3,"description":3}}"#,
+            "Kind group.domain_id",
+        ),
+        (
+            r#"{"group":{"domain_id":"d/d","id":3}}"#,
+            "Range group.domain_id",
+        ),
+        (r#"{"group":{"id":3}}"#, "Kind group.id"),
+        (r#"{"group":{"id":3,"id":"h"}}"#, "group id=#h"),
+        (
+            r#"{"group":{"name":null,"domain_id":null,"description":null,"id":null,"enabled":3}}"#,
+            "group",
+        ),
     ] {
         assert!(rt; answers(rt.alloc(), Form::Made(Kind::Group, false), body, answer)?);
     }
@@ -244,51 +396,65 @@ fn changes_groups(rt: HostRuntime) -> Result<(), Fail> {
 }
 
 #[test]
-fn creates_and_changes_roles(rt: HostRuntime) -> Result<(), Fail> {
-    for (new, body, answer) in [
+fn creates_roles(rt: HostRuntime) -> Result<(), Fail> {
+    for (body, answer) in [
         (
-            true,
             r#"{"role":{"name":"r","description":"x","id":3}}"#,
             "role name=r description=x",
         ),
-        (true, r#"{"role":{"description":3}}"#, "Missing role.name"),
+        ("{}", "Missing role.name"),
+        (r#""role""#, "Kind "),
+        (r#"{"role":"r"}"#, "Kind role"),
+        (r#"{"role":{"description":3}}"#, "Missing role.name"),
+        (r#"{"role":{"name":{},"description":3}}"#, "Kind role.name"),
+        (r#"{"role":{"name":null}}"#, "Kind role.name"),
+        (r#"{"role":{"name":"","description":3}}"#, "Range role.name"),
+        (r#"{"role":{"name":"r"},"role":{}}"#, "Missing role.name"),
         (
-            true,
-            r#"{"role":{"name":{},"description":3}}"#,
-            "Kind role.name",
-        ),
-        (
-            true,
-            r#"{"role":{"name":"r"},"role":{}}"#,
-            "Missing role.name",
-        ),
-        (
-            true,
             r#"{"role":{"name":"r","description":false}}"#,
             "Kind role.description",
         ),
         (
-            false,
-            r#"{"role":{"description":3}}"#,
-            "Kind role.description",
+            r#"{"role":{"name":"r","description":null,"domain_id":3}}"#,
+            "role name=r",
         ),
-        (false, r#"{"role":{"id":3}}"#, "Kind role.id"),
-        (false, r#"{"role":{"id":"r"}}"#, "role id=#r"),
+        (r#"{"role":{"name":"r","name":"s"}}"#, "role name=s"),
+        (
+            r#"{"role":{"name":"r","description":3,"description":""}}"#,
+            "role name=r description=",
+        ),
     ] {
-        assert!(rt; answers(rt.alloc(), Form::Made(Kind::Role, new), body, answer)?);
+        assert!(rt; answers(rt.alloc(), Form::Made(Kind::Role, true), body, answer)?);
     }
     Ok(())
 }
 
 #[test]
-fn limits_texts(rt: HostRuntime) -> Result<(), Fail> {
-    for (member, length, answer) in [
-        ("name", 255, "role name=nn"),
-        ("name", 256, "Range role.name"),
-        ("description", 4096, "role name=r description=nn"),
-        ("description", 4097, "Range role.description"),
+fn changes_roles(rt: HostRuntime) -> Result<(), Fail> {
+    for (body, answer) in [
+        ("{}", "role"),
+        (r#"{"role":[]}"#, "Kind role"),
+        (r#"{"role":{"id":"r"}}"#, "role id=#r"),
+        (
+            r#"{"role":{"name":"s","description":"x","id":"r"}}"#,
+            "role id=#r name=s description=x",
+        ),
+        (r#"{"role":{"name":3,"description":3}}"#, "Kind role.name"),
+        (r#"{"role":{"name":"","id":3}}"#, "Range role.name"),
+        (
+            r#"{"role":{"description":3,"id":3}}"#,
+            "Kind role.description",
+        ),
+        (r#"{"role":{"id":3}}"#, "Kind role.id"),
+        (r#"{"role":{"id":""}}"#, "Range role.id"),
+        (
+            r#"{"role":{"name":null,"description":null,"id":null}}"#,
+            "role",
+        ),
+        (r#"{"role":{"id":3,"id":"r","domain_id":3}}"#, "role id=#r"),
+        (r#"{"role":{"id":"r"},"role":{"id":"s"}}"#, "role id=#s"),
     ] {
-        assert!(rt; role_with(rt.alloc(), member, length, answer)?);
+        assert!(rt; answers(rt.alloc(), Form::Made(Kind::Role, false), body, answer)?);
     }
     Ok(())
 }
@@ -333,6 +499,14 @@ fn reads_passwords(rt: HostRuntime) -> Result<(), Fail> {
             r#"{"user":{"original_password":"a","password":"b","password":"c"}}"#,
             "a to c",
         ),
+        (
+            r#"{"user":{"original_password":"a","password":3}}"#,
+            "Kind user.password",
+        ),
+        (
+            r#"{"user":{"original_password":"","original_password":"b","password":"c"}}"#,
+            "b to c",
+        ),
     ] {
         assert!(rt; answers(rt.alloc(), Form::Password, body, answer)?);
     }
@@ -345,6 +519,12 @@ fn walks_to_passwords(rt: HostRuntime) -> Result<(), Fail> {
         (r#"{"user":null}"#, "Kind user"),
         (r#"{"user":"ann"}"#, "Kind user"),
         (r#""user""#, "Kind "),
+        (r#"{"user":[]}"#, "Kind user"),
+        (r#"{"user":{}}"#, "Missing user.original_password"),
+        (
+            r#"{"user":{"original_password":"a","password":"b"},"user":{}}"#,
+            "Missing user.original_password",
+        ),
     ] {
         assert!(rt; answers(rt.alloc(), Form::Password, body, answer)?);
     }

@@ -8,17 +8,20 @@ use crate::types::{Falsehood, IdText, TextOf, Truth};
 use ks_base::{Id, Kind, ShapeRefusal, Text};
 use ks_machine::Made;
 
-pub(crate) const NAME: TextOf = TextOf {
+/// A name: 1 to 255 bytes.
+pub const NAME: TextOf = TextOf {
     least: 1,
     most: 255,
 };
 
-const DESCRIPTION: TextOf = TextOf {
+/// A description: at most 4,096 bytes.
+pub const DESCRIPTION: TextOf = TextOf {
     least: 0,
     most: 4096,
 };
 
-pub(crate) const PASSWORD: TextOf = TextOf {
+/// A password: 1 to 4,096 bytes.
+pub const PASSWORD: TextOf = TextOf {
     least: 1,
     most: 4096,
 };

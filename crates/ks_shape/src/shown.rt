@@ -225,14 +225,20 @@ fn fault_shown(alloc: Global, fault: &ShapeFault) -> Result<String, Fail> {
     }
 }
 
+pub fn refusal_shown(alloc: Global, refusal: &ShapeRefusal) -> Result<String, Fail> {
+    match refusal {
+        ShapeRefusal::Shape(fault) => fault_shown(alloc, fault),
+        ShapeRefusal::Memory => Ok(String::from_str(alloc, "Memory")?),
+    }
+}
+
 /// What is answered to a body.
 pub fn shown(alloc: Global, form: Form, body: &[u8]) -> Result<String, Fail>
     requires { IsTrue (is_form form) }
 {
     match read_body(alloc, form, body) {
         Ok(read) => body_shown(alloc, &read),
-        Err(ShapeRefusal::Shape(fault)) => fault_shown(alloc, &fault),
-        Err(ShapeRefusal::Memory) => Ok(String::from_str(alloc, "Memory")?),
+        Err(refusal) => refusal_shown(alloc, &refusal),
     }
 }
 

@@ -51,6 +51,23 @@ fn needs_parties(rt: HostRuntime) -> Result<(), Fail> {
 }
 
 #[test]
+fn walks_to_trusts(rt: HostRuntime) -> Result<(), Fail> {
+    for (body, answer) in [
+        ("{}", "Missing trust.trustor_user_id"),
+        ("[]", "Kind "),
+        (r#"{"trust":null}"#, "Kind trust"),
+        (r#"{"trust":[]}"#, "Kind trust"),
+        (
+            r#"{"trust":{"trustor_user_id":"a"},"trust":{}}"#,
+            "Missing trust.trustor_user_id",
+        ),
+    ] {
+        assert!(rt; answers(rt.alloc(), Form::Trust, body, answer)?);
+    }
+    Ok(())
+}
+
+#[test]
 fn tests_parties_in_their_order(rt: HostRuntime) -> Result<(), Fail> {
     for (members, answer) in [
         (r#""more":1"#, "#a to #b on #p as true"),
@@ -69,6 +86,20 @@ fn tests_parties_in_their_order(rt: HostRuntime) -> Result<(), Fail> {
         (r#""impersonation":null"#, "Kind trust.impersonation"),
         (r#""roles":null,"expires_at":3"#, "Kind trust.roles"),
         (r#""roles":{}"#, "Kind trust.roles"),
+        (
+            r#""trustor_user_id":3,"trustee_user_id":"""#,
+            "Kind trust.trustor_user_id",
+        ),
+        (
+            r#""trustee_user_id":"b b","project_id":3"#,
+            "Range trust.trustee_user_id",
+        ),
+        (r#""trustee_user_id":null"#, "Kind trust.trustee_user_id"),
+        (r#""project_id":null"#, "Kind trust.project_id"),
+        (
+            r#""project_id":3,"project_id":"q""#,
+            "#a to #b on #q as true",
+        ),
     ] {
         assert!(rt; trust(rt.alloc(), members, answer)?);
     }
