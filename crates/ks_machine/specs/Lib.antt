@@ -1,4 +1,5 @@
 pub mod Derivations
 pub mod Moment
 pub mod Names
+pub mod Openings
 pub mod TokenLines
