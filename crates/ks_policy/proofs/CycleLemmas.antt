@@ -1,7 +1,8 @@
 -- Walks from rule to rule.
 use Rattle.std.proofs.Common.{◌≡◌, ◌⊎◌, inl, inr, ℕ, zero, suc, ◌<◌, Bool, false, List, [], ◌∷◌, length, replicate, sym, subst, arith}
 use Rattle.ks_rule.specs.Trees.{Tree}
-use Rattle.ks_policy.specs.Rules.{NamedRule, tree_at}
+use Rattle.ks_machine.specs.Openings.{NamedRule}
+use Rattle.ks_policy.specs.Rules.{tree_at}
 use Rattle.ks_policy.specs.Cycles.{Names, Means, Leads, Reaches, last, before}
 use Rattle.ks_policy.specs.Marks.{IsMarked, AllMarked}
 use Rattle.ks_policy.proofs.MarkLemmas.{none_marked}
@@ -16,6 +17,10 @@ pub names_within : (rules : List NamedRule) (i : ℕ) (name : List ℕ) → Name
 names_within [] i name names = absurd names
 names_within (rule ∷ rules) zero name names = omega arith
 names_within (rule ∷ rules) (suc i) name names = omega (arith, names_within rules i name names)
+
+pub reaches_within : (rules : List NamedRule) (i j : ℕ) → Reaches rules i j → i < length rules
+reaches_within rules i j (last step) = names_within rules i step.0 step.1
+reaches_within rules i j (before step walk) = names_within rules i step.0 step.1
 
 -- where each step from a marked place leads to one, each walk does
 all_reached_by : {rules : List NamedRule} {i j : ℕ} (marks : List Bool) → ((k : ℕ) → IsMarked marks k → AllMarked rules marks k) →

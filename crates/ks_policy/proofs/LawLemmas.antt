@@ -5,7 +5,8 @@ use Rattle.std.proofs.lemmas.List.{length-replicate}
 use Rattle.ks_rule.specs.declared.credentials.Credentials.{Credentials}
 use Rattle.ks_rule.specs.Kinds.{Fields}
 use Rattle.ks_rule.specs.Truth.{truth}
-use Rattle.ks_policy.specs.Rules.{NamedRule, place_named, tree_at, tree_placed, tree_named}
+use Rattle.ks_machine.specs.Openings.{NamedRule}
+use Rattle.ks_policy.specs.Rules.{place_named, tree_at, tree_placed, tree_named}
 use Rattle.ks_policy.specs.Cycles.{Names, Leads, Reaches, last, before, HasNoCycle}
 use Rattle.ks_policy.specs.Allowed.{holds_in, allowed}
 use Rattle.ks_policy.specs.Marks.{unmarked}
@@ -14,11 +15,11 @@ use Rattle.ks_policy.proofs.PlaceLemmas.{named_within}
 use Rattle.ks_policy.proofs.HoldLemmas.{truth_alike, truth_never, holds_none, holds_more}
 
 -- no walk from here comes to a place that was seen
-abbrev IsAhead : List NamedRule → List Bool → ℕ → Type 0
+abbrev pub IsAhead : List NamedRule → List Bool → ℕ → Type 0
 IsAhead rules seen i = (get_or seen i false ≡ false) × ((j : ℕ) → Reaches rules i j → get_or seen j false ≡ false)
 
 -- a step leads ahead, past the place that it leaves
-ahead_on : (rules : List NamedRule) (seen : List Bool) (i j : ℕ) → HasNoCycle rules → IsAhead rules seen i → Leads rules i j →
+pub ahead_on : (rules : List NamedRule) (seen : List Bool) (i j : ℕ) → HasNoCycle rules → IsAhead rules seen i → Leads rules i j →
     IsAhead rules (set seen i true) j
 ahead_on rules seen i j free ahead step = (
   other j (λ e. free i (subst (Reaches rules i) e (last step))) (ahead.1 j (last step)),
@@ -29,15 +30,15 @@ ahead_on rules seen i j free ahead step = (
     other k ne none = rw get_or-set_other none
 
 -- a step leaves fewer places ahead
-fewer_ahead : (rules : List NamedRule) (seen : List Bool) (i k : ℕ) → length seen ≡ length rules → unmarked seen ≤ suc k → i < length rules →
+pub fewer_ahead : (rules : List NamedRule) (seen : List Bool) (i k : ℕ) → length seen ≡ length rules → unmarked seen ≤ suc k → i < length rules →
     IsAhead rules seen i → unmarked (set seen i true) ≤ k
 fewer_ahead rules seen i k long few within ahead = let less = unmarked_set seen i (omega arith) ahead.0 in omega arith
 
-length_seen : (rules : List NamedRule) (seen : List Bool) (i : ℕ) → length seen ≡ length rules → length (set seen i true) ≡ length rules
+pub length_seen : (rules : List NamedRule) (seen : List Bool) (i : ℕ) → length seen ≡ length rules → length (set seen i true) ≡ length rules
 length_seen rules seen i long = length-set seen i true ∙ long
 
 -- nothing is ahead where all was seen
-none_ahead : (rules : List NamedRule) (seen : List Bool) (i : ℕ) → length seen ≡ length rules → unmarked seen ≤ 0 → i < length rules →
+pub none_ahead : (rules : List NamedRule) (seen : List Bool) (i : ℕ) → length seen ≡ length rules → unmarked seen ≤ 0 → i < length rules →
     IsAhead rules seen i → ⊥
 none_ahead rules seen i long none within ahead = let less = unmarked_set seen i (omega arith) ahead.0 in omega arith
 

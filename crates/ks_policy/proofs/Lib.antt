@@ -4,3 +4,6 @@ mod MarkLemmas
 mod PlaceLemmas
 mod TextLemmas
 mod LawLemmas
+mod OrderLemmas
+mod NeedLemmas
+mod DecideLemmas

@@ -4,7 +4,8 @@ use mathlib.Core.Bool.{beq}
 use Rattle.std.specs.Bool.{Decides}
 use Rattle.std.proofs.Math.ListN.{set}
 use Rattle.ks_rule.specs.Trees.{Tree}
-use Rattle.ks_policy.specs.Rules.{NamedRule, place_named}
+use Rattle.ks_machine.specs.Openings.{NamedRule}
+use Rattle.ks_policy.specs.Rules.{place_named}
 use Rattle.ks_policy.specs.Cycles.{Names, Means}
 use Rattle.ks_policy.specs.Marks.{mark_at, IsMarked, unmarked, Grows, AllMarked}
 
@@ -119,13 +120,6 @@ only_meant rules a b old mid j first (inl is) = into (first is)
     into (inl was) = inl was
     into (inr means) = inr (means.0, inl means.1, means.2)
 only_meant rules a b old mid j first (inr means) = inr (means.0, inr means.1, means.2)
-
--- a test of two marks decides whether they are the same
-pub beq_decides : (a b : Bool) → Decides (beq a b) (a ≡ b)
-beq_decides true true = (λ e. refl, λ e. refl)
-beq_decides true false = (λ e. cc, λ e. cc)
-beq_decides false true = (λ e. cc, λ e. cc)
-beq_decides false false = (λ e. refl, λ e. refl)
 
 -- a choice of two
 pub or_then : (a b both : Bool) → a ≡ true → both ≡ true → both ≡ a || b

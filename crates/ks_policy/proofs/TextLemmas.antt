@@ -14,7 +14,7 @@ use Rattle.ks_rule.specs.Grammar.{IsRule}
 use Rattle.ks_policy.specs.declared.fault.PolicyFault.{PolicyFault}
 use Rattle.ks_policy.specs.declared.fault.PolicyFault.TheVariants.{NotObject, NotText, Cycle, TooMany, Memory}
 use Rattle.ks_policy.specs.declared.texts.RuleText.{RuleText}
-use Rattle.ks_policy.specs.Rules.{NamedRule}
+use Rattle.ks_machine.specs.Openings.{NamedRule}
 use Rattle.ks_policy.specs.Loading.{AreRules, over, put_text, within_limit, texts_of, Merges, Loads}
 use Rattle.ks_policy.specs.Defaults.{defaults}
 

@@ -4,7 +4,7 @@ use Rattle.std.specs.Prelude.{◌≡◌, ℕ, zero, suc, List, [], ◌∷◌, �
 use Rattle.std.specs.Coded.{Coded, code_by, coded×, coded_ℕ, coded_list}
 use Rattle.std.proofs.Common.{append_assoc, append-nil, sym, ap, ◌∙◌}
 use Rattle.ks_rule.specs.Trees.{Tree, always, never, named, role, compare, negated, both, either}
-use Rattle.ks_policy.specs.Rules.{NamedRule}
+use Rattle.ks_machine.specs.Openings.{NamedRule}
 
 -- its kind, and its texts
 abbrev pub Stored : Type 0

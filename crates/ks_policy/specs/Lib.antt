@@ -4,4 +4,6 @@ pub mod Cycles
 pub mod Defaults
 pub mod Loading
 pub mod Marks
+pub mod Needs
+pub mod Openings
 pub mod Rules

@@ -10,7 +10,7 @@ use Rattle.ks_policy.specs.declared.fault.PolicyFault.{PolicyFault}
 use Rattle.ks_policy.specs.declared.fault.PolicyFault.TheVariants.{NotObject, NotText, Cycle, TooMany, Memory}
 use Rattle.ks_policy.specs.declared.texts.RuleText.{RuleText}
 use Rattle.ks_policy.specs.Defaults.{defaults}
-use Rattle.ks_policy.specs.Rules.{NamedRule}
+use Rattle.ks_machine.specs.Openings.{NamedRule}
 use Rattle.ks_policy.specs.Cycles.{HasNoCycle, IsFirstCycleNamed}
 
 -- the text in the place of its name, over the one that has it

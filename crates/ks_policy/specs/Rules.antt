@@ -3,10 +3,7 @@ use Rattle.std.specs.Prelude.{ℕ, suc, if◌then◌else◌, List, [], ◌∷◌
 use Rattle.std.specs.Option.{option_or, option_map_or}
 use Rattle.std.specs.Str.{bytes_eq}
 use Rattle.ks_rule.specs.Trees.{Tree, never}
-
-pub record NamedRule : Type 0 where
-  pub name : List ℕ
-  pub tree : Tree
+use Rattle.ks_machine.specs.Openings.{NamedRule}
 
 -- where the rule of this name stands
 abbrev pub place_of : List NamedRule → List ℕ → Option ℕ

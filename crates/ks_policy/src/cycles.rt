@@ -4,14 +4,14 @@ ghost use Rattle.ks_policy.specs.Rules.{tree_at};
 ghost use Rattle.ks_policy.specs.Cycles.{Means, Leads, Reaches, HasNoCycle, IsFirstCycle};
 ghost use Rattle.ks_policy.specs.Marks.{IsMarked, Grows, AllMarked};
 
-use crate::rules::{MOST, Rules};
+use crate::table::{MOST, RuleTable};
 use ks_rule::Rule;
 
 /// A mark for the place of each rule.
 pub type Marks = [bool; MOST];
 
 /// Marks a place and says whether it had no mark.
-fn mark(marks: &mut Marks, at: usize) -> bool
+pub fn mark(marks: &mut Marks, at: usize) -> bool
     requires { at < 1024 }
     ensures grows { Grows result marks.old marks.new }
     ensures marked { IsMarked marks.new at }
@@ -22,9 +22,9 @@ fn mark(marks: &mut Marks, at: usize) -> bool
     grown
 }
 
-impl Rules {
+impl RuleTable {
     /// Marks the places of the rules that the names in a rule mean, and says whether a mark is new.
-    fn mark_meant(&self, rule: &Rule, marks: &mut Marks) -> bool
+    pub fn mark_meant(&self, rule: &Rule, marks: &mut Marks) -> bool
         ensures grows { Grows result marks.old marks.new }
         ensures all { (j : ℕ) → Means self.now (tree_of rule.now) j → IsMarked marks.new j }
         ensures only { (j : ℕ) → IsMarked marks.new j → IsMarked marks.old j ⊎ Means self.now (tree_of rule.now) j }

@@ -4,7 +4,8 @@ ghost use Rattle.std.specs.Prelude.{◌≡◌, ℕ, List};
 ghost use Rattle.ks_rule.specs.declared.credentials.Credentials.{Credentials};
 ghost use Rattle.ks_rule.specs.Kinds.{Fields};
 ghost use Rattle.ks_rule.specs.Truth.{truth};
-ghost use Rattle.ks_policy.specs.Rules.{NamedRule, tree_named};
+ghost use Rattle.ks_machine.specs.Openings.{NamedRule};
+ghost use Rattle.ks_policy.specs.Rules.{tree_named};
 ghost use Rattle.ks_policy.specs.Cycles.{HasNoCycle};
 ghost use Rattle.ks_policy.specs.Allowed.{allowed};
 

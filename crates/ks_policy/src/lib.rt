@@ -3,17 +3,22 @@
 #![tactic(auto)]
 
 mod cycles;
-mod decide;
 mod defaults;
 mod fault;
+mod holding;
 mod laws;
 mod load;
 mod named;
+mod needs;
+mod opening;
+mod order;
 mod place;
 mod rules;
+mod table;
 #[cfg(test)]
 mod tests;
 mod texts;
 
 pub use fault::PolicyFault;
+pub use opening::Opening;
 pub use rules::Rules;

@@ -7,7 +7,8 @@ ghost use Rattle.ks_policy.specs.Loading.{over, texts_of, AreRules, Merges, Load
 use crate::defaults::default_rules;
 use crate::fault::PolicyFault;
 use crate::named::NamedRule;
-use crate::rules::{MOST, Rules};
+use crate::rules::Rules;
+use crate::table::{MOST, RuleTable};
 use crate::texts::{RuleText, owned, put};
 use ks_base::Memory;
 use ks_rule::Rule;
@@ -76,10 +77,13 @@ impl Rules {
     {
         let texts = read_texts(alloc, file)?;
         let read = read_rules(alloc, texts.as_slice())?;
-        let rules = Rules::of(read);
-        match rules.first_cycle() {
-            Some(at) => Err(PolicyFault::Cycle(rules.name_at(at).copy()?)),
-            None => Ok(rules),
+        let table = RuleTable::of(read);
+        if let Some(order) = table.order(alloc)? {
+            return Ok(Rules::of(alloc, table, order.as_slice())?);
+        }
+        match table.first_cycle() {
+            Some(at) => Err(PolicyFault::Cycle(table.name_at(at).copy()?)),
+            None => unreachable!(),
         }
     }
 }

@@ -15,7 +15,7 @@ pub struct NamedRule {
 
 impl Model for NamedRule {
     ghost use Rattle.ks_rule.specs.Trees.{tree_of};
-    ghost use Rattle.ks_policy.specs.Rules.{NamedRule};
+    ghost use Rattle.ks_machine.specs.Openings.{NamedRule};
     ghost use Rattle.ks_policy.specs.Codes.{rule_code};
 
     ghost Value = { NamedRule };

@@ -1,96 +1,68 @@
-ghost use Rattle.std.specs.Prelude.{◌≡◌, ◌<◌, ◌≤◌, length, IfSome, Some, option_map, slice_get};
-ghost use Rattle.ks_base.specs.Tables.{id_cmp, IsAscending};
-ghost use Rattle.ks_rule.specs.Trees.{tree_of};
-ghost use Rattle.ks_policy.specs.Rules.{place_of, place_named, tree_at};
+ghost use Rattle.std.specs.Prelude.{◌≡◌, IfOk, IsOk};
+ghost use Rattle.ks_policy.specs.Allowed.{allowed};
+ghost use Rattle.ks_policy.specs.Cycles.{HasNoCycle};
+ghost use Rattle.ks_policy.specs.Needs.{IsWholeOrder};
 
-use crate::named::NamedRule;
-use crate::place::{Named, place};
-use ks_base::Text;
-use ks_rule::Rule;
+use crate::table::RuleTable;
+use ks_base::{ListOf, Memory, Text};
+use ks_rule::{Attributes, Credentials};
+use std::alloc::Global;
 use std::marker::Model;
 
-/// How many rules a policy may have, the default ones among them.
-pub const MOST: usize = 1024;
-
-/// The name of the rule that stands for those that are not there.
-const DEFAULT: &[u8] = b"default";
-
-/// The rules of a policy. Contracts see them as a list of named trees, in the order of their names.
+/// The rules of a policy, none of which reaches itself. Contracts see them as a list of named trees, in the order
+/// of their names.
 #[derive(Drop)]
 pub struct Rules {
-    rules: Vec<NamedRule>,
+    table: RuleTable,
+    /// For each rule the places that it reaches, each behind those that its rule names.
+    needs: Vec<ListOf<u16>>,
 }
 
 impl Model for Rules {
-    ghost use Rattle.std.specs.Prelude.{◌≤◌, List, length};
+    ghost use Rattle.std.specs.Prelude.{List};
     ghost use Rattle.std.specs.Coded.{coded_list};
-    ghost use Rattle.ks_policy.specs.Rules.{NamedRule};
+    ghost use Rattle.ks_machine.specs.Openings.{NamedRule};
     ghost use Rattle.ks_policy.specs.Codes.{rule_code};
-    ghost use Rattle.ks_base.specs.Tables.{id_cmp, IsAscending};
+    ghost use Rattle.ks_policy.specs.Cycles.{HasNoCycle};
+    ghost use Rattle.ks_policy.specs.Needs.{AreAllNeeds};
 
     ghost Value = { List NamedRule };
 
     ghost coded = { coded_list rule_code };
 
-    ghost view = { λ r. r.rules.items };
+    ghost view = { λ r. r.table };
 
-    ghost invariant = { λ r. IsAscending id_cmp (λ rule. rule.name) r.rules.items × (length r.rules.items ≤ 1024) };
+    ghost invariant = { λ r. HasNoCycle r.table × AreAllNeeds r.table r.needs.items };
 }
 
 impl Rules {
-    pub fn of(rules: Vec<NamedRule>) -> Rules
-        requires ascending { IsAscending id_cmp (λ rule. rule.name) rules.items }
-        requires few { length rules.items ≤ 1024 }
-        ensures { result ≡ rules.items }
+    /// The rules of a table, whose places stand in this order.
+    pub fn of(alloc: Global, table: RuleTable, order: &[u16]) -> Result<Rules, Memory>
+        requires { IsWholeOrder table order.now }
+        ensures { IfOk result (λ rules. (rules ≡ table) × HasNoCycle table) }
     {
-        Rules { rules }
+        let needs = table.needs(alloc, order)?;
+        Ok(Rules { table, needs })
     }
 
-    /// How many rules there are.
-    pub fn len(&self) -> usize
-        ensures rules { result ≡ length self.now }
-        ensures few { result ≤ 1024 }
+    /// Whether the rule of an action allows it to this caller at this target. The rule is the one of the
+    /// action's name, or `default` where there is none; where that is not there either, nothing is
+    /// allowed. Only the rules that this one reaches are worked out, each once. It takes no memory.
+    pub fn decide(
+        &self,
+        action: &Text,
+        creds: &Credentials,
+        target: &Attributes,
+    ) -> Result<bool, Memory>
+        ensures allowed { IfOk result (λ held. held ≡ allowed self.now action.now creds.now target.now) }
+        ensures taken { IsOk result }
     {
-        self.rules.len()
-    }
-
-    /// The rule at a place.
-    pub fn rule_at(&self, at: usize) -> &Rule
-        requires { at < length self.now }
-        ensures tree { tree_of result.now ≡ tree_at self.now at }
-        ensures few { at < 1024 }
-    {
-        self.rules[at].rule()
-    }
-
-    /// The name of the rule at a place.
-    pub fn name_at(&self, at: usize) -> &Text
-        requires { at < length self.now }
-        ensures { option_map (λ rule. rule.name) (slice_get self.now at) ≡ Some result.now }
-    {
-        self.rules[at].name()
-    }
-
-    /// The place of the rule with this name.
-    pub fn place_of(&self, name: &[u8]) -> Option<usize>
-        ensures place { result ≡ place_of self.now name.now }
-        ensures within { IfSome result (λ at. (at < length self.now) × (at < 1024)) }
-    {
-        match place(self.rules.as_slice(), name) {
-            Ok(at) => Some(at),
-            Err(_) => None,
-        }
-    }
-
-    /// The place of the rule that a name means: its own, or that of `default`.
-    #[tactic(auto, unfolding(crate::specs::Rules::place_named))]
-    pub fn place_named(&self, name: &Text) -> Option<usize>
-        ensures place { result ≡ place_named self.now name.now }
-        ensures within { IfSome result (λ at. (at < length self.now) × (at < 1024)) }
-    {
-        match self.place_of(name.as_slice()) {
-            Some(at) => Some(at),
-            None => self.place_of(DEFAULT),
+        match self.table.place_named(action) {
+            Some(at) => Ok(
+                self.table
+                    .holds_at(at, self.needs[at].as_slice(), creds, target),
+            ),
+            None => Ok(false),
         }
     }
 }

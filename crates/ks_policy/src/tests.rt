@@ -96,17 +96,43 @@ fn allowed(alloc: Global, json: &str, actions: &[&str]) -> Result<String, Fail> 
     Ok(said)
 }
 
-/// A policy of this many rules, each of which is the next one; the last is always true.
-fn chain(alloc: Global, rules: usize) -> Result<String, Fail> {
+/// A policy of this many rules, each of which is the next one by name; the last is the role `admin`.
+fn chain(alloc: Global, rules: u16) -> Result<String, Fail> {
     let mut json = String::from_str(alloc, "{")?;
     for at in 1..rules {
-        let next = at + 1;
-        let entry = format!(in alloc; "\"r{at}\":\"rule:r{next}\",")?;
+        let name = 1000 + u32::from(at);
+        let next = name + 1;
+        let entry = format!(in alloc; "\"r{name}\":\"rule:r{next}\",")?;
         json.push_str(entry.as_str())?;
     }
-    let last = format!(in alloc; "\"r{rules}\":\"@\"}}")?;
+    let end = 1000 + u32::from(rules);
+    let last = format!(in alloc; "\"r{end}\":\"role:admin\"}}")?;
     json.push_str(last.as_str())?;
     Ok(json)
+}
+
+/// A policy of this many rules, each of which is the one before by name; the first is the role `admin`.
+fn chain_back(alloc: Global, rules: u16) -> Result<String, Fail> {
+    let mut json = String::from_str(alloc, "{\"r1001\":\"role:admin\"")?;
+    for at in 1..rules {
+        let before = 1000 + u32::from(at);
+        let name = before + 1;
+        let entry = format!(in alloc; ",\"r{name}\":\"rule:r{before}\"")?;
+        json.push_str(entry.as_str())?;
+    }
+    json.push_str("}")?;
+    Ok(json)
+}
+
+/// Whether the rule `a` holds at a target with these truths under `a`, `b` and `c`.
+fn holds(alloc: Global, rules: &Rules, truths: [&str; 3]) -> Result<bool, Fail> {
+    let [a, b, c] = truths;
+    let mut target = ListOf::new(alloc);
+    target.push((text(alloc, "a")?, text(alloc, a)?))?;
+    target.push((text(alloc, "b")?, text(alloc, b)?))?;
+    target.push((text(alloc, "c")?, text(alloc, c)?))?;
+    let caller = caller(alloc, "member", ["u", "d", "p"])?;
+    Ok(rules.decide(&text(alloc, "a")?, &caller, &target)?)
 }
 
 #[test]
@@ -232,10 +258,80 @@ fn missing_names_lead_to_default(rt: HostRuntime) -> Result<(), Fail> {
 }
 
 #[test]
+fn chains_in_both_orders_of_names(rt: HostRuntime) -> Result<(), Fail> {
+    let actions = ["r1001", "r1003", "r1005"];
+    let json = chain(rt.alloc(), 5)?;
+    let said = allowed(rt.alloc(), json.as_str(), &actions)?;
+    assert_eq!(rt; said.as_str(), "10000 10000 10000 ");
+    let json = chain_back(rt.alloc(), 5)?;
+    let said = allowed(rt.alloc(), json.as_str(), &actions)?;
+    assert_eq!(rt; said.as_str(), "10000 10000 10000 ");
+    Ok(())
+}
+
+#[test]
 fn a_chain_of_1_024_rules(rt: HostRuntime) -> Result<(), Fail> {
     let json = chain(rt.alloc(), 1003)?;
-    let said = allowed(rt.alloc(), json.as_str(), &["r1"])?;
-    assert_eq!(rt; said.as_str(), "11111 ");
+    let said = allowed(rt.alloc(), json.as_str(), &["r1001", "r2003"])?;
+    assert_eq!(rt; said.as_str(), "10000 10000 ");
+    Ok(())
+}
+
+#[test]
+fn a_chain_back_of_1_024_rules(rt: HostRuntime) -> Result<(), Fail> {
+    let json = chain_back(rt.alloc(), 1003)?;
+    let said = allowed(rt.alloc(), json.as_str(), &["r2003", "r1001"])?;
+    assert_eq!(rt; said.as_str(), "10000 10000 ");
+    Ok(())
+}
+
+#[test]
+fn a_diamond_of_rules(rt: HostRuntime) -> Result<(), Fail> {
+    let said = allowed(
+        rt.alloc(),
+        "{\"a\":\"rule:b and not rule:c\",\"b\":\"rule:d or user_id:u\",\"c\":\"rule:d and user_id:a\",\"d\":\"role:admin or role:service\"}",
+        &["a", "b", "c", "d"],
+    )?;
+    assert_eq!(rt; said.as_str(), "01100 11100 10000 11000 ");
+    Ok(())
+}
+
+#[test]
+fn a_rule_that_names_another_twice(rt: HostRuntime) -> Result<(), Fail> {
+    let said = allowed(
+        rt.alloc(),
+        "{\"x\":\"rule:z or not rule:z\",\"y\":\"rule:z and rule:z\",\"z\":\"user_id:v\"}",
+        &["x", "y", "z"],
+    )?;
+    assert_eq!(rt; said.as_str(), "11111 00010 00010 ");
+    Ok(())
+}
+
+#[test]
+fn an_action_falls_to_a_default_that_names_rules(rt: HostRuntime) -> Result<(), Fail> {
+    let said = allowed(
+        rt.alloc(),
+        "{\"default\":\"rule:z or rule:owner\",\"z\":\"rule:service_role\",\"a\":\"not rule:missing\"}",
+        &["identity:list_users", "a"],
+    )?;
+    assert_eq!(rt; said.as_str(), "01100 10011 ");
+    Ok(())
+}
+
+#[test]
+fn a_rule_of_three_truths(rt: HostRuntime) -> Result<(), Fail> {
+    let json = "{\"a\":\"True:%(a)s or True:%(b)s and not True:%(c)s\"}";
+    let rules = Rules::load(rt.alloc(), &file(rt.alloc(), json)?)
+        .ok()
+        .ok_or("rules")?;
+    assert!(rt; holds(rt.alloc(), &rules, ["True", "True", "True"])?);
+    assert!(rt; holds(rt.alloc(), &rules, ["True", "True", "False"])?);
+    assert!(rt; holds(rt.alloc(), &rules, ["True", "False", "True"])?);
+    assert!(rt; holds(rt.alloc(), &rules, ["True", "False", "False"])?);
+    assert!(rt; !holds(rt.alloc(), &rules, ["False", "True", "True"])?);
+    assert!(rt; holds(rt.alloc(), &rules, ["False", "True", "False"])?);
+    assert!(rt; !holds(rt.alloc(), &rules, ["False", "False", "True"])?);
+    assert!(rt; !holds(rt.alloc(), &rules, ["False", "False", "False"])?);
     Ok(())
 }
 

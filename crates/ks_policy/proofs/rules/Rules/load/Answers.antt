@@ -8,12 +8,12 @@ returns-in_err-texts c =
     let fact = fault_loads (view c.args.file.now) c.in_err-texts.field-0.0 c.in_err-texts.ensures.texts in
     search rules
 
-pub of-rules-requires-clause-ascending : goal.of-rules-requires-clause-ascending
-of-rules-requires-clause-ascending c =
+pub of-table-requires-clause-ascending : goal.of-table-requires-clause-ascending
+of-table-requires-clause-ascending c =
     let are = rw c.as_slice.ensures.value at c.in_ok-read.ensures in
     rules_ascend c.in_ok-texts.texts.items c.in_ok-read.read.items are c.in_ok-texts.ensures.ascending
 
-pub of-rules-requires-clause-few : goal.of-rules-requires-clause-few
-of-rules-requires-clause-few c =
+pub of-table-requires-clause-few : goal.of-table-requires-clause-few
+of-table-requires-clause-few c =
     let are = rw c.as_slice.ensures.value at c.in_ok-read.ensures in
     omega (arith, rules_long c.in_ok-texts.texts.items c.in_ok-read.read.items are, c.in_ok-texts.ensures.few)

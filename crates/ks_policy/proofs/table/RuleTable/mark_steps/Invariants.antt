@@ -1,7 +1,7 @@
 use Rattle.std.proofs.Common.{◌≡◌, ℕ, ◌<◌, false}
 use Rattle.ks_policy.specs.Cycles.{Reaches}
 use Rattle.ks_policy.specs.Marks.{IsMarked, Grows, AllMarked}
-use Rattle.ks_policy.proofs.rules.Rules.mark_steps.Given as goal
+use Rattle.ks_policy.proofs.table.RuleTable.mark_steps.Given as goal
 
 abbrev pub invariant-loop-at : goal.invariant-loop-at
 invariant-loop-at l = record {

@@ -1,7 +1,7 @@
 use Rattle.std.proofs.Common.{sym, ap, ◌∙◌}
 use Rattle.ks_policy.specs.Rules.{place_of}
 use Rattle.ks_policy.proofs.PlaceLemmas.{place_found, place_gap}
-use Rattle.ks_policy.proofs.rules.Rules.place_of.Goals as goal
+use Rattle.ks_policy.proofs.table.RuleTable.place_of.Goals as goal
 
 pub returns-in-Ok-clause-place : goal.returns-in-Ok-clause-place
 returns-in-Ok-clause-place c =

@@ -1,7 +1,7 @@
 use Rattle.std.proofs.Common.{◌≡◌, ℕ, length}
 use Rattle.ks_policy.specs.Cycles.{Reaches}
 use Rattle.ks_policy.specs.Marks.{IsMarked, AllMarked, unmarked}
-use Rattle.ks_policy.proofs.rules.Rules.reaches_itself.Given as goal
+use Rattle.ks_policy.proofs.table.RuleTable.reaches_itself.Given as goal
 
 abbrev pub invariant-walks : goal.invariant-walks
 invariant-walks l = record {

@@ -1,6 +1,6 @@
 use Rattle.std.proofs.Common.{refl}
 use Rattle.ks_policy.proofs.CycleLemmas.{first_reached, first_all, none_walked, all_reached}
-use Rattle.ks_policy.proofs.rules.Rules.reaches_itself.Goals as goal
+use Rattle.ks_policy.proofs.table.RuleTable.reaches_itself.Goals as goal
 
 pub walks-init : goal.walks-init
 walks-init c = record {

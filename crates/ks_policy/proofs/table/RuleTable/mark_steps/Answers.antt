@@ -1,8 +1,8 @@
 use Rattle.std.proofs.Common.{◌≡◌, ◌||◌, sym, ◌∙◌}
 use Rattle.ks_policy.proofs.MarkLemmas.{or_then, or_else, grows_both, walked_more, closed_more}
 use Rattle.ks_policy.proofs.CycleLemmas.{reached_more}
-use Rattle.ks_policy.proofs.rules.Rules.mark_steps.Goals as goal
-use Rattle.ks_policy.proofs.rules.Rules.mark_steps.Goals.{then-grown, else-grown}
+use Rattle.ks_policy.proofs.table.RuleTable.mark_steps.Goals as goal
+use Rattle.ks_policy.proofs.table.RuleTable.mark_steps.Goals.{then-grown, else-grown}
 
 pub loop-at-preserved : goal.loop-at-preserved
 loop-at-preserved c =

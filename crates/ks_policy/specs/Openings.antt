@@ -1,0 +1,18 @@
+-- An opening, as plain data.
+use Rattle.ks_machine.specs.Openings.{PlainOpening}
+use Rattle.ks_policy.specs.declared.opening.Opening.{Opening}
+
+abbrev pub plain : Opening → PlainOpening
+plain opening = record {
+  settings = opening.settings;
+  rules = opening.rules;
+  ring = opening.ring;
+  domains = opening.domains;
+  projects = opening.projects;
+  users = opening.users;
+  groups = opening.groups;
+  members = opening.members;
+  roles = opening.roles;
+  implications = opening.implications;
+  assignments = opening.assignments;
+}
