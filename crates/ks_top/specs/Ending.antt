@@ -1,5 +1,5 @@
 -- How `check` and the program end.
-use Rattle.std.specs.Prelude.{◌≡◌, ℕ, List, [], ◌∷◌, ◌++◌, Option, Some, None, Result, Ok, Err, codes}
+use Rattle.std.specs.Prelude.{◌≡◌, ℕ, List, [], ◌++◌, Option, Some, None, Result, Ok, Err}
 use Rattle.ks_outside.specs.Streams.{Begins}
 use Rattle.ks_top.specs.declared.fault.Fault.{Fault}
 use Rattle.ks_top.specs.declared.fault.Fault.TheVariants as fault
@@ -25,12 +25,9 @@ EndsCheck input before left written (Err (fault.BadLine n)) =
 EndsCheck input before left written (Err fault.Usage) = ⊥
 EndsCheck input before left written (Err other) = IsCutShort input before left written
 
--- the words of a command
-abbrev pub check_words : List (List ℕ)
-check_words = codes "check" ∷ []
-
-abbrev pub AreTalkWords : List (List ℕ) → Type 0
-AreTalkWords words = (file folder : List ℕ) × (words ≡ codes "talk" ∷ file ∷ folder ∷ [])
+-- there was no memory to read the words of the command line: nothing was read, and nothing written
+abbrev pub HasNotBegun : List ℕ → List ℕ → Option (List ℕ) → Option (List ℕ) → Result (Unit {0}) Fault → Type 0
+HasNotBegun input before left written ended = (ended ≡ Err fault.Memory) × (left ≡ Some input) × (written ≡ Some before)
 
 -- each fault has its status
 abbrev pub status_of : Option Fault → ℕ

@@ -1,6 +1,9 @@
-ghost use Rattle.std.specs.Prelude.{◌≡◌, ◌≤◌, ◌↔◌, ◌≢◌, ℕ, List, Some, IsTrue};
+ghost use Rattle.std.specs.Prelude.{◌≡◌, ◌⊎◌, ◌≤◌, ℕ, List, Some};
 ghost use Rattle.ks_outside.specs.Counts.{Rose};
-ghost use Rattle.ks_top.specs.Ending.{EndsCheck, status_of, fault_of, result_of, check_words, AreTalkWords};
+ghost use Rattle.ks_setup.specs.Words.{words_of};
+ghost use Rattle.ks_setup.specs.declared.words.Places.{Places};
+ghost use Rattle.ks_setup.specs.declared.words.Words.TheVariants as asked;
+ghost use Rattle.ks_top.specs.Ending.{EndsCheck, HasNotBegun, status_of, fault_of, result_of};
 ghost use Rattle.ks_top.specs.Talk.{EndsTalk};
 
 use crate::check::check;
@@ -8,6 +11,7 @@ use crate::fault::Fault;
 use crate::talk::talk;
 use ks_base::Text;
 use ks_outside::{Sink, Source};
+use ks_setup::{Words, read_words};
 
 /// How the program ended: the status of its process, and the fault where it is not 0.
 #[derive(Clone, Copy, Debug, PartialEq, Eq)]
@@ -74,42 +78,24 @@ pub fn run<R: AllocGlobal, S: Source, K: Sink>(
     output: &mut K,
 ) -> Ended
     ensures status { result.status ≡ status_of result.fault }
-    ensures usage { (result.fault ≡ Some Fault.Usage) ↔ ((words.now ≢ check_words) × ¬ (AreTalkWords words.now)) }
-    ensures unread { result.fault ≡ Some Fault.Usage → (S.left input.new ≡ S.left input.old) × (K.written output.new ≡ K.written output.old) }
-    ensures told { (text before : List ℕ) → words.now ≡ check_words → S.left input.old ≡ Some text → K.written output.old ≡ Some before →
+    ensures usage { result.fault ≡ Some Fault.Usage → words_of words.now ≡ asked.Usage }
+    ensures refused { words_of words.now ≡ asked.Usage → (result.fault ≡ Some Fault.Usage) ⊎ (result.fault ≡ Some Fault.Memory) }
+    ensures unread { words_of words.now ≡ asked.Usage → (S.left input.new ≡ S.left input.old) × (K.written output.new ≡ K.written output.old) }
+    ensures told { (text before : List ℕ) → words_of words.now ≡ asked.Check → S.left input.old ≡ Some text → K.written output.old ≡ Some before →
         EndsCheck text before (S.left input.new) (K.written output.new) (result_of result.fault) }
-    ensures talked { (text before : List ℕ) → AreTalkWords words.now → S.left input.old ≡ Some text → K.written output.old ≡ Some before →
-        EndsTalk text before (S.left input.new) (K.written output.new) (result_of result.fault) }
+    ensures talked { (places : Places) (text before : List ℕ) → words_of words.now ≡ asked.Talk places → S.left input.old ≡ Some text →
+        K.written output.old ≡ Some before →
+        EndsTalk text before (S.left input.new) (K.written output.new) (result_of result.fault)
+        ⊎ HasNotBegun text before (S.left input.new) (K.written output.new) (result_of result.fault) }
     ensures reads { S.read_faults input.old ≤ S.read_faults input.new }
     ensures read { result.fault ≡ Some Fault.Read → Rose (S.read_faults input.old) (S.read_faults input.new) }
     ensures writes { K.write_faults output.old ≤ K.write_faults output.new }
     ensures write { result.fault ≡ Some Fault.Write → Rose (K.write_faults output.old) (K.write_faults output.new) }
 {
-    if is_check(words) {
-        return Ended::of(check(rt.alloc(), input, output));
-    }
-    if is_talk(words) {
-        return Ended::of(talk(rt.alloc(), input, output));
-    }
-    Fault::Usage.ended()
-}
-
-/// Whether the words are the one word `check`.
-fn is_check(words: &[Text]) -> bool
-    ensures { IsTrue result ↔ (words.now ≡ check_words) }
-{
-    match words {
-        [word] => word.as_str() == "check",
-        _ => false,
-    }
-}
-
-/// Whether the words are the word `talk` and two more.
-fn is_talk(words: &[Text]) -> bool
-    ensures { IsTrue result ↔ AreTalkWords words.now }
-{
-    match words {
-        [word, _file, _folder] => word.as_str() == "talk",
-        _ => false,
+    match read_words(rt.alloc(), words) {
+        Ok(Words::Check) => Ended::of(check(rt.alloc(), input, output)),
+        Ok(Words::Talk(_places)) => Ended::of(talk(rt.alloc(), input, output)),
+        Ok(Words::Usage) => Fault::Usage.ended(),
+        Err(_) => Fault::Memory.ended(),
     }
 }

@@ -181,6 +181,10 @@ fn refuses_other_words(rt: HostRuntime) -> Result<(), Fail> {
         &["talk", "o1.json"],
         &["talk", "o1.json", "keys", "now"],
         &["Talk", "o1.json", "keys"],
+        &["check", "--help"],
+        &["talk", "--help"],
+        &["talk", "--", "o1.json", "keys"],
+        &["talk", "o1.json", "-keys"],
     ] {
         let mut source = MemorySource::new(rt.alloc(), KEY.as_bytes(), &[], 100)
             .ok()
