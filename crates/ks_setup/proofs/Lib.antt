@@ -1,5 +1,12 @@
+pub mod BoundLemmas
+pub mod ChoiceLemmas
+pub mod CountLemmas
+pub mod DrawLemmas
+pub mod EntryLemmas
 pub mod FrontLemmas
+pub mod KeyLemmas
 pub mod LentLemmas
+pub mod OpeningLemmas
 pub mod ReadLemmas
 pub mod TalkLemmas
 pub mod WalkLemmas

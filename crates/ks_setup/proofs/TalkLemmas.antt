@@ -1,12 +1,12 @@
 -- The words that give each command.
-use Rattle.std.proofs.Common.{◌≡◌, ℕ, Bool, true, false, not, ◌&&◌, ◌||◌, List, [], ◌∷◌, Option, Some, None, refl, ap, ap₂, sym, ◌∙◌, inl, inr, codes}
+use Rattle.std.proofs.Common.{◌≡◌, ℕ, Bool, true, false, not, ◌||◌, List, [], ◌∷◌, Option, Some, None, refl, ap, ap₂, sym, ◌∙◌, inl, inr, codes}
 use Rattle.std.specs.Prelude.{slice_get}
 use Rattle.std.specs.List.{list_all}
 use Rattle.std.specs.Option.{option_map_or}
 use Rattle.std.specs.Str.{bytes_eq}
 use Rattle.std.proofs.lemmas.Bool.{cases_Bool}
 use Rattle.std.proofs.lemmas.Slice.Eq.{bytes_eq-Decides}
-use Rattle.clap.specs.Words.{Row, Rule, first_of, matches_of}
+use Rattle.clap.specs.Words.{Row, first_of, matches_of}
 use Rattle.ks_setup.specs.declared.words.Places.{Places}
 use Rattle.ks_setup.specs.declared.words.Words.{Words}
 use Rattle.ks_setup.specs.declared.words.Words.TheVariants.{Check, Talk, Usage}

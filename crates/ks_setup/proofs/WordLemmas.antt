@@ -1,9 +1,8 @@
 -- What clap makes of the words of each command.
-use Rattle.std.proofs.Common.{◌≡◌, ℕ, Bool, true, false, List, [], ◌∷◌, Option, Some, None, refl, ap, ap₂, ◌∙◌, codes}
+use Rattle.std.proofs.Common.{◌≡◌, ℕ, true, false, List, [], ◌∷◌, Some, refl, ap, ◌∙◌, codes}
 use Rattle.clap.specs.Walk.{Held, Rule, Walk, finished, nothing_held, walk, walk_from, walked}
-use Rattle.clap.specs.Words.{App, Row, Shape, built, fault_of, first_of, is_simple_and_free, matches_of}
+use Rattle.clap.specs.Words.{App, built, fault_of, first_of, is_simple_and_free, matches_of}
 use Rattle.clap.specs.Faults.{walk_fault}
-use Rattle.clap.specs.Kinds.{Kinds}
 use Rattle.clap.specs.declared.error.kind.ErrorKind.TheVariants.{UnknownArgument}
 use Rattle.clap.proofs.OnLiterals.{clap_on_literals}
 use Rattle.ks_setup.specs.Words.{check_app, has_none, is_dashed, talk_app}

@@ -1,1 +1,5 @@
 pub mod Words
+pub mod Entries
+pub mod Written
+pub mod Openings
+pub mod Steps

@@ -1,12 +1,30 @@
-//! What the program is told: the words of its command line.
+//! What the program is told: the words of its command line, and the file that it opens with.
 #![tactic(auto)]
 
 mod commands;
+mod derive;
+mod entries;
+mod file;
+mod folder;
+#[cfg(test)]
+mod form_shown;
+#[cfg(test)]
+mod form_tests;
+mod grants;
+mod key_texts;
+mod keys;
 mod laws;
+mod opening;
+mod policy;
 mod reader;
+mod rows;
+mod settings;
 #[cfg(test)]
 mod tests;
 mod words;
+mod written;
 
+pub use folder::wants_folder;
 pub use laws::{check_is_one_word, talk_is_three_words};
+pub use opening::{OpeningFault, read_opening};
 pub use words::{Places, Words, read_words};

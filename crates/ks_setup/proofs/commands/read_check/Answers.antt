@@ -1,11 +1,10 @@
-use Rattle.std.proofs.Common.{◌≡◌, ℕ, List, sym, ◌∙◌, ap}
+use Rattle.std.proofs.Common.{ℕ, List}
 use Rattle.std.specs.Borrow.{Bor}
 use Rattle.std.specs.Prelude.{map}
-use Rattle.clap.specs.Words.{app_of, found_of, is_simple_and_free, rows_of}
+use Rattle.clap.specs.Words.{app_of, found_of, rows_of}
 use Rattle.clap.specs.declared.parser.matches.ArgMatches.{ArgMatches}
 use Rattle.ks_setup.specs.Words.{check}
 use Rattle.ks_setup.proofs.ReadLemmas.{found_none, found_some, read_by_none, read_by_some}
-use Rattle.ks_setup.proofs.WordLemmas.{check_is_free}
 use Rattle.ks_setup.proofs.commands.read_check.Goals as goal
 use Rattle.ks_setup.proofs.commands.read_check.Goals.{in-Some, in-None}
 

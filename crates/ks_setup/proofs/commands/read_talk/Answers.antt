@@ -1,4 +1,4 @@
-use Rattle.std.proofs.Common.{◌≡◌, ℕ, List, sym, ◌∙◌, ap, codes}
+use Rattle.std.proofs.Common.{ℕ, List, ◌∙◌, codes}
 use Rattle.std.specs.Borrow.{Bor}
 use Rattle.std.specs.Prelude.{map}
 use Rattle.clap.specs.Words.{Row, app_of, found_of, rows_of}

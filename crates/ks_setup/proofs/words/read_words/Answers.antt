@@ -1,6 +1,6 @@
-use Rattle.std.proofs.Common.{◌≡◌, ℕ, List, Option, Some, None, ap, sym, ◌∙◌}
+use Rattle.std.proofs.Common.{ℕ, List, ap, ◌∙◌}
 use Rattle.std.specs.Borrow.{Bor}
-use Rattle.std.specs.Prelude.{map, slice_get}
+use Rattle.std.specs.Prelude.{map}
 use Rattle.ks_setup.specs.Words.{check, read_by, talk, words_of}
 use Rattle.ks_setup.proofs.LentLemmas.{check_lent, else_lent, none_lent, result_is, talk_lent}
 use Rattle.ks_setup.proofs.words.read_words.Goals as goal

@@ -1,0 +1,142 @@
+-- What each step of opening a file answers.
+use Rattle.std.specs.Prelude.{◌≡◌, ◌≤◌, ◌<◌, ℕ, ◌*◌, List, [], length, Option, Some, None, Result, Ok, Err}
+use Rattle.serde_json.specs.Data.{Data}
+use Rattle.ks_base.specs.declared.key.Key.{Key}
+use Rattle.ks_base.specs.declared.shapes.ShapeRefusal.{ShapeRefusal}
+use Rattle.ks_base.specs.declared.shapes.ShapeRefusal.TheVariants as refusal
+use Rattle.ks_base.specs.declared.users.PasswordRow.{PasswordRow}
+use Rattle.ks_base.specs.declared.users.UserRow.{UserRow}
+use Rattle.ks_hmac.specs.Pbkdf2.{pbkdf2_of}
+use Rattle.ks_outside.specs.Counts.{Rose}
+use Rattle.ks_outside.specs.Desks.{DeskState}
+use Rattle.ks_machine.specs.Openings.{NamedRule}
+use Rattle.ks_policy.specs.declared.fault.PolicyFault.{PolicyFault}
+use Rattle.ks_policy.specs.declared.fault.PolicyFault.TheVariants as policy
+use Rattle.ks_policy.specs.declared.opening.Opening.{Opening}
+use Rattle.ks_policy.specs.Loading.{Loads}
+use Rattle.ks_shape.specs.Bodies.{whole_document}
+use Rattle.ks_setup.specs.declared.derive.DeriveFault.{DeriveFault}
+use Rattle.ks_setup.specs.declared.derive.DeriveFault.TheVariants as derive
+use Rattle.ks_setup.specs.declared.keys.RingFault.{RingFault}
+use Rattle.ks_setup.specs.declared.keys.RingFault.TheVariants as keys
+use Rattle.ks_setup.specs.declared.opening.Checked.{Checked}
+use Rattle.ks_setup.specs.declared.opening.OpeningFault.{OpeningFault}
+use Rattle.ks_setup.specs.declared.opening.OpeningFault.TheVariants.{Shape, Policy, BadKey, Random, Memory}
+use Rattle.ks_setup.specs.declared.written.KeysFrom.{KeysFrom}
+use Rattle.ks_setup.specs.declared.written.KeysFrom.TheVariants.{Folder, File}
+use Rattle.ks_setup.specs.declared.written.Written.{Written}
+use Rattle.ks_setup.specs.declared.written.WrittenUser.{WrittenUser}
+use Rattle.ks_setup.specs.Openings.{AreKeys, Drew, HasBadKey, HasPolicy, IsBadKey, IsFirstBad, IsFormed, IsRing, LoadsPolicy, bad_key_path, passwords, policy_in, users_from}
+use Rattle.ks_setup.specs.Written.{file_of, written_in}
+
+-- the faults of the steps, as those of the opening
+
+abbrev pub of_shape : ShapeRefusal → OpeningFault
+of_shape (refusal.Shape fault) = Shape fault
+of_shape refusal.Memory = Memory
+
+abbrev pub of_policy : PolicyFault → OpeningFault
+of_policy policy.Memory = Memory
+of_policy fault = Policy fault
+
+abbrev pub of_keys : RingFault → OpeningFault
+of_keys (keys.BadKey path) = BadKey path
+of_keys keys.Memory = Memory
+
+abbrev pub of_derive : DeriveFault → OpeningFault
+of_derive derive.Random = Random
+of_derive derive.Memory = Memory
+
+-- keys
+
+-- the list of a file has 32 texts at most
+abbrev pub AreFew : KeysFrom → Type 0
+AreFew Folder = Unit {0}
+AreFew (File texts) = length texts ≤ 32
+
+-- the keys of these texts, of which the first has this number, or the place of the first that is no key
+abbrev pub ReadsKeys : List (List ℕ) → Result (List (ℕ × Key)) RingFault → Type 0
+ReadsKeys texts (Ok ring) = AreKeys 0 texts ring
+ReadsKeys texts (Err (keys.BadKey path)) = (at : ℕ) × IsFirstBad 0 texts at × (path ≡ bad_key_path at)
+ReadsKeys texts (Err keys.Memory) = Unit {0}
+
+abbrev pub ReadsRing : KeysFrom → List (ℕ × Key) → Result (List (ℕ × Key)) RingFault → Type 0
+ReadsRing from held (Ok ring) = IsRing from held ring
+ReadsRing from held (Err (keys.BadKey path)) = IsBadKey from path
+ReadsRing from held (Err keys.Memory) = Unit {0}
+
+-- the form, the policy and the keys of a document
+
+abbrev pub ChecksDocument : Data → List (ℕ × Key) → Result Checked OpeningFault → Type 0
+ChecksDocument file held (Ok checked) =
+    (written_in (whole_document file) ≡ Ok checked.written) × Loads (policy_in file) (Ok checked.rules)
+    × IsRing checked.written.keys held checked.ring
+ChecksDocument file held (Err (Shape fault)) = written_in (whole_document file) ≡ Err fault
+ChecksDocument file held (Err (Policy policy.Memory)) = ⊥
+ChecksDocument file held (Err (Policy fault)) =
+    ((written : Written) × (written_in (whole_document file) ≡ Ok written)) × Loads (policy_in file) (Err fault)
+ChecksDocument file held (Err (BadKey path)) =
+    (written : Written) × (written_in (whole_document file) ≡ Ok written)
+    × ((rules : List NamedRule) × Loads (policy_in file) (Ok rules)) × IsBadKey written.keys path
+ChecksDocument file held (Err Random) = ⊥
+ChecksDocument file held (Err Memory) = Unit {0}
+
+-- the same of a file
+abbrev pub Checks : List ℕ → List (ℕ × Key) → Result Checked OpeningFault → Type 0
+Checks text held (Ok checked) =
+    (file_of text ≡ Ok checked.written) × LoadsPolicy text (Ok checked.rules) × IsRing checked.written.keys held checked.ring
+Checks text held (Err (Shape fault)) = file_of text ≡ Err fault
+Checks text held (Err (Policy policy.Memory)) = ⊥
+Checks text held (Err (Policy fault)) = IsFormed text × LoadsPolicy text (Err fault)
+Checks text held (Err (BadKey path)) = HasPolicy text × HasBadKey text path
+Checks text held (Err Random) = ⊥
+Checks text held (Err Memory) = Unit {0}
+
+-- passwords
+
+-- how many bytes are drawn for a password
+abbrev pub bytes_for : Option (List ℕ) → ℕ
+bytes_for None = 0
+bytes_for (Some password) = 16
+
+abbrev pub derived_row : ℕ → List ℕ → List ℕ → PasswordRow
+derived_row rounds password salt = record { salt = salt; rounds = rounds; digest = pbkdf2_of password salt rounds }
+
+-- so many bytes were drawn, and this was made of them; or a fill failed, and none were drawn
+abbrev pub Draws : {Link A F : Type 0} → ℕ → (List ℕ → A) → DeskState Link → DeskState Link → Result A F → Type 0
+Draws count made old new (Ok a) = (drawn : List ℕ) × (length drawn ≡ count) × (a ≡ made drawn) × Drew old new drawn
+Draws count made old new (Err fault) = (0 < count) × Drew old new [] × Rose old.fill_faults new.fill_faults
+
+abbrev pub Derives : {Link : Type 0} → ℕ → List WrittenUser → DeskState Link → DeskState Link → Result (List UserRow) DeriveFault → Type 0
+Derives rounds users old new (Ok rows) =
+    (drawn : List ℕ) × (length drawn ≡ 16 * passwords users) × (rows ≡ users_from rounds users drawn) × Drew old new drawn
+Derives rounds users old new (Err derive.Random) =
+    (drawn : List ℕ) × (length drawn < 16 * passwords users) × Drew old new drawn × Rose old.fill_faults new.fill_faults
+Derives rounds users old new (Err derive.Memory) = (drawn : List ℕ) × Drew old new drawn
+
+-- the opening, once the file is checked
+
+-- the opening of a checked file with these users
+abbrev pub opened : Checked → List UserRow → Opening
+opened checked users = record {
+  settings = checked.written.settings;
+  rules = checked.rules;
+  ring = checked.ring;
+  domains = checked.written.domains;
+  projects = checked.written.projects;
+  users = users;
+  groups = checked.written.groups;
+  members = checked.written.members;
+  roles = checked.written.roles;
+  implications = checked.written.implications;
+  assignments = checked.written.assignments;
+}
+
+abbrev pub Assembles : {Link : Type 0} → Checked → DeskState Link → DeskState Link → Result Opening DeriveFault → Type 0
+Assembles checked old new (Ok opening) =
+    (drawn : List ℕ) × (length drawn ≡ 16 * passwords checked.written.users)
+    × (opening ≡ opened checked (users_from checked.written.settings.rounds checked.written.users drawn)) × Drew old new drawn
+Assembles checked old new (Err derive.Random) =
+    (drawn : List ℕ) × (length drawn < 16 * passwords checked.written.users) × Drew old new drawn
+    × Rose old.fill_faults new.fill_faults
+Assembles checked old new (Err derive.Memory) = (drawn : List ℕ) × Drew old new drawn

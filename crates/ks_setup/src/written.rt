@@ -1,0 +1,39 @@
+use ks_base::{
+    DomainList, GrantList, GroupList, Id, ImplyList, ListOf, MemberList, ProjectList, RoleList,
+    Text, TextList,
+};
+use ks_machine::Settings;
+
+/// Where the keys come from.
+#[derive(Drop)]
+pub enum KeysFrom {
+    /// The folder of the keys.
+    Folder,
+    /// The file itself, by 1 to 32 texts; each key's index is the place of its text.
+    File(TextList),
+}
+
+/// A user as an opening file has it: with the plain password.
+#[derive(Drop)]
+pub struct WrittenUser {
+    pub id: Id,
+    pub domain: Id,
+    pub name: Text,
+    pub enabled: bool,
+    pub password: Option<Text>,
+}
+
+/// What an opening file says, apart from its policy.
+#[derive(Drop)]
+pub struct Written {
+    pub settings: Settings,
+    pub keys: KeysFrom,
+    pub domains: DomainList,
+    pub projects: ProjectList,
+    pub users: ListOf<WrittenUser>,
+    pub groups: GroupList,
+    pub members: MemberList,
+    pub roles: RoleList,
+    pub implications: ImplyList,
+    pub assignments: GrantList,
+}
