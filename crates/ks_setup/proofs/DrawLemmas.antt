@@ -1,5 +1,5 @@
 -- How the draws of one desk follow one another, and how rows are derived with what they draw.
-use Rattle.std.proofs.Common.{◌≡◌, ℕ, suc, ◌+◌, ◌*◌, ◌<◌, ◌≤◌, List, [], ◌∷◌, ◌++◌, length, take, drop, Some, None, Ok, Err, refl, sym, ap, ap₂, subst, ◌∙◌, arith, append_assoc, append-nil, length-append}
+use Rattle.std.proofs.Common.{◌≡◌, ℕ, suc, ◌+◌, ◌-◌, ◌*◌, ◌<◌, ◌≤◌, List, [], ◌∷◌, ◌++◌, length, take, drop, Some, None, Ok, Err, refl, sym, ap, ap₂, subst, ◌∙◌, arith, append_assoc, append-nil, length-append}
 use Rattle.std.specs.Prelude.{Option, is_some, if◌then◌else◌}
 use Rattle.std.proofs.lemmas.List.{take-append-drop}
 use Rattle.std.proofs.lemmas.Grind.{common_steps}
@@ -133,7 +133,11 @@ deriving_failed rounds users rest others user rows old mid new is h failed =
     let P : List WrittenUser → Type 0 = λ l. length h.drawn + 16 * passwords l ≡ 16 * passwords users in
     let counted : length h.drawn + 16 * passwords (user ∷ others) ≡ 16 * passwords users = subst P is h.counted in (
       h.drawn ++ [],
-      rw (length-append h.drawn []) (omega (arith, counted, failed.0, passwords_more user others)),
+      rw (append-nil h.drawn) (
+        passwords users - passwords (user ∷ others),
+        omega (arith, counted, failed.0, passwords_more user others),
+        omega (arith, counted),
+      ),
       drew_more old mid new h.drawn [] h.drew failed.1,
       rose_later old.fill_faults mid.fill_faults new.fill_faults h.drew.count failed.2,
     )

@@ -121,11 +121,15 @@ HasPolicy text = IsFormed text × ((rules : List NamedRule) × LoadsPolicy text 
 abbrev pub HasBadKey : List ℕ → List ℕ → Type 0
 HasBadKey text path = (written : Written) × (file_of text ≡ Ok written) × IsBadKey written.keys path
 
--- the keys are right, and fewer bytes were drawn than the users' passwords take
+-- the salts of some passwords were drawn, but not of all
+abbrev pub FallsShort : List WrittenUser → List ℕ → Type 0
+FallsShort users drawn = (given : ℕ) × (given < passwords users) × (length drawn ≡ 16 * given)
+
+-- the keys are right, and the salts of the first passwords alone were drawn
 abbrev pub LacksBytes : List ℕ → List (ℕ × Key) → List ℕ → Type 0
 LacksBytes text held drawn =
     (written : Written) × (file_of text ≡ Ok written) × ((ring : List (ℕ × Key)) × IsRing written.keys held ring)
-    × (length drawn < 16 * passwords written.users)
+    × FallsShort written.users drawn
 
 -- what a reading of the file answers, and what it leaves of the desk; of want of memory the desk alone is said
 abbrev pub AnswersOpening : {Link : Type 0} → List ℕ → List (ℕ × Key) → DeskState Link → DeskState Link → Result Opening OpeningFault → Type 0

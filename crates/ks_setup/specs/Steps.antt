@@ -26,7 +26,7 @@ use Rattle.ks_setup.specs.declared.written.KeysFrom.{KeysFrom}
 use Rattle.ks_setup.specs.declared.written.KeysFrom.TheVariants.{Folder, File}
 use Rattle.ks_setup.specs.declared.written.Written.{Written}
 use Rattle.ks_setup.specs.declared.written.WrittenUser.{WrittenUser}
-use Rattle.ks_setup.specs.Openings.{AreKeys, Drew, HasBadKey, HasPolicy, IsBadKey, IsFirstBad, IsFormed, IsRing, LoadsPolicy, bad_key_path, passwords, policy_in, users_from}
+use Rattle.ks_setup.specs.Openings.{AreKeys, Drew, FallsShort, HasBadKey, HasPolicy, IsBadKey, IsFirstBad, IsFormed, IsRing, LoadsPolicy, bad_key_path, passwords, policy_in, users_from}
 use Rattle.ks_setup.specs.Written.{file_of, written_in}
 
 -- the faults of the steps, as those of the opening
@@ -111,7 +111,7 @@ abbrev pub Derives : {Link : Type 0} → ℕ → List WrittenUser → DeskState 
 Derives rounds users old new (Ok rows) =
     (drawn : List ℕ) × (length drawn ≡ 16 * passwords users) × (rows ≡ users_from rounds users drawn) × Drew old new drawn
 Derives rounds users old new (Err derive.Random) =
-    (drawn : List ℕ) × (length drawn < 16 * passwords users) × Drew old new drawn × Rose old.fill_faults new.fill_faults
+    (drawn : List ℕ) × FallsShort users drawn × Drew old new drawn × Rose old.fill_faults new.fill_faults
 Derives rounds users old new (Err derive.Memory) = (drawn : List ℕ) × Drew old new drawn
 
 -- the opening, once the file is checked
@@ -137,6 +137,6 @@ Assembles checked old new (Ok opening) =
     (drawn : List ℕ) × (length drawn ≡ 16 * passwords checked.written.users)
     × (opening ≡ opened checked (users_from checked.written.settings.rounds checked.written.users drawn)) × Drew old new drawn
 Assembles checked old new (Err derive.Random) =
-    (drawn : List ℕ) × (length drawn < 16 * passwords checked.written.users) × Drew old new drawn
+    (drawn : List ℕ) × FallsShort checked.written.users drawn × Drew old new drawn
     × Rose old.fill_faults new.fill_faults
 Assembles checked old new (Err derive.Memory) = (drawn : List ℕ) × Drew old new drawn

@@ -10,7 +10,7 @@ use serde_json::Value;
 use std::alloc::Global;
 use std::test::Fail;
 
-fn fault_shown(alloc: Global, fault: &ShapeFault) -> Result<String, Fail> {
+pub fn fault_shown(alloc: Global, fault: &ShapeFault) -> Result<String, Fail> {
     match fault {
         ShapeFault::NotJson => Ok(String::from_str(alloc, "NotJson")?),
         ShapeFault::Missing(path) => Ok(format!(in alloc; "Missing {}", path.as_str())?),
@@ -26,11 +26,11 @@ fn refusal_shown(alloc: Global, refusal: &ShapeRefusal) -> Result<String, Fail> 
     }
 }
 
-fn id_text(id: &Id) -> &str {
+pub fn id_text(id: &Id) -> &str {
     std::str::from_utf8(id.as_slice()).unwrap_or("?")
 }
 
-fn settings_shown(alloc: Global, settings: &Settings) -> Result<String, Fail> {
+pub fn settings_shown(alloc: Global, settings: &Settings) -> Result<String, Fail> {
     Ok(format!(in alloc;
         "{} {} {} {} {}",
         settings.url.as_str(),
@@ -55,11 +55,11 @@ fn keys_shown(alloc: Global, keys: &KeysFrom) -> Result<String, Fail> {
     }
 }
 
-fn enabled_word(enabled: bool) -> &'static str {
+pub fn enabled_word(enabled: bool) -> &'static str {
     if enabled { "on" } else { "off" }
 }
 
-fn domain_shown(alloc: Global, row: &DomainRow) -> Result<String, Fail> {
+pub fn domain_shown(alloc: Global, row: &DomainRow) -> Result<String, Fail> {
     Ok(format!(in alloc;
         ", domain {} {} '{}' {}",
         id_text(&row.id),
@@ -69,7 +69,7 @@ fn domain_shown(alloc: Global, row: &DomainRow) -> Result<String, Fail> {
     )?)
 }
 
-fn project_shown(alloc: Global, row: &ProjectRow) -> Result<String, Fail> {
+pub fn project_shown(alloc: Global, row: &ProjectRow) -> Result<String, Fail> {
     Ok(format!(in alloc;
         ", project {} {} {} {} '{}' {}",
         id_text(&row.id),
@@ -113,7 +113,7 @@ fn member_shown(alloc: Global, row: &MemberRow) -> Result<String, Fail> {
     Ok(format!(in alloc; ", member {} {}", id_text(&row.group), id_text(&row.user))?)
 }
 
-fn role_shown(alloc: Global, row: &RoleRow) -> Result<String, Fail> {
+pub fn role_shown(alloc: Global, row: &RoleRow) -> Result<String, Fail> {
     Ok(format!(in alloc;
         ", role {} {} '{}'",
         id_text(&row.id),
@@ -144,7 +144,7 @@ fn target_words(target: &Target) -> (&'static str, &Id) {
     }
 }
 
-fn grant_shown(alloc: Global, row: &GrantRow) -> Result<String, Fail> {
+pub fn grant_shown(alloc: Global, row: &GrantRow) -> Result<String, Fail> {
     let (actor, actor_id) = actor_words(&row.actor);
     let (target, target_id) = target_words(&row.target);
     let reach = if row.inherited { "below" } else { "at" };

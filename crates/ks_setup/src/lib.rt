@@ -15,6 +15,8 @@ mod key_texts;
 mod keys;
 mod laws;
 mod opening;
+#[cfg(test)]
+mod opening_tests;
 mod policy;
 mod reader;
 mod rows;

@@ -1,7 +1,7 @@
 use Rattle.std.proofs.Common.{◌∙◌, sym}
 use Rattle.std.specs.Vec.Iter.{into_iter_items}
 use Rattle.std.proofs.lemmas.Result.{err_from_is_err_and}
-use Rattle.ks_setup.proofs.DrawLemmas.{deriving_none, deriving_more, deriving_end, drew_row}
+use Rattle.ks_setup.proofs.DrawLemmas.{deriving_none, deriving_more, deriving_end, deriving_failed, drew_row}
 use Rattle.ks_setup.proofs.derive.derive_users.Goals as goal
 
 pub loop-user-init : goal.loop-user-init
@@ -21,6 +21,13 @@ returns-in_err-push g c =
     let p = err_from_is_err_and c.from_residual-in_err-push.result c.from_residual-in_err-push.ensures.1 in
     rw (p.1, p.2) (drew_row c.args.rounds c.args.users (into_iter_items c.loop-user.user-iterator) c.loop-user.rows.items
     (g.P.Desk.desk c.args.desk.now) (g.P.Desk.desk c.loop-user.desk) (g.P.Desk.desk c.derive_user.new.desk) c.in_ok-row.ensures.0 c.loop-user.invariant c.in_ok-row.ensures.3)
+
+pub returns-in_err-row : goal.returns-in_err-row
+returns-in_err-row g c =
+    let p = err_from_is_err_and c.from_residual-in_err-row.result c.from_residual-in_err-row.ensures.1 in
+    rw (p.1, p.2) (deriving_failed c.args.rounds c.args.users (into_iter_items c.loop-user.user-iterator) (into_iter_items c.next.new.self) c.in-Some.user
+    c.loop-user.rows.items (g.P.Desk.desk c.args.desk.now) (g.P.Desk.desk c.loop-user.desk) (g.P.Desk.desk c.derive_user.new.desk)
+    c.in-Some.ensures.steps.0 c.loop-user.invariant c.in_err-row.ensures)
 
 pub returns : goal.returns
 returns g c =
