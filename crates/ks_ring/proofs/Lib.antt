@@ -1,0 +1,5 @@
+pub mod LawLemmas
+pub mod NumberLemmas
+pub mod RingLemmas
+pub mod RotationLemmas
+pub mod SortLemmas
