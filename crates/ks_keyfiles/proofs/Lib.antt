@@ -1,0 +1,4 @@
+pub mod FileLemmas
+pub mod KeyFileLemmas
+pub mod LineLemmas
+pub mod ReadingLemmas

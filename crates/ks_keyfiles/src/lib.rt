@@ -1,0 +1,12 @@
+//! The keys of a folder of key files, as the administration guide of Keystone lays out a key repository:
+//! a file for each key, whose name is the key's index.
+#![tactic(auto)]
+
+mod laws;
+mod reading;
+
+pub use laws::file_is_key;
+pub use reading::read_dir;
+
+#[cfg(test)]
+mod tests;
