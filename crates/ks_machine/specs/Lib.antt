@@ -3,3 +3,5 @@ pub mod Moment
 pub mod Names
 pub mod Openings
 pub mod TokenLines
+pub mod Rules
+pub mod Allowed

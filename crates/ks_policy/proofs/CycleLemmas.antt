@@ -2,7 +2,7 @@
 use Rattle.std.proofs.Common.{◌≡◌, ◌⊎◌, inl, inr, ℕ, zero, suc, ◌<◌, Bool, false, List, [], ◌∷◌, length, replicate, sym, subst, arith}
 use Rattle.ks_rule.specs.Trees.{Tree}
 use Rattle.ks_machine.specs.Openings.{NamedRule}
-use Rattle.ks_policy.specs.Rules.{tree_at}
+use Rattle.ks_machine.specs.Rules.{tree_at}
 use Rattle.ks_policy.specs.Cycles.{Names, Means, Leads, Reaches, last, before}
 use Rattle.ks_policy.specs.Marks.{IsMarked, AllMarked}
 use Rattle.ks_policy.proofs.MarkLemmas.{none_marked}

@@ -5,9 +5,10 @@ use Rattle.ks_rule.specs.declared.credentials.Credentials.{Credentials}
 use Rattle.ks_rule.specs.Kinds.{Fields}
 use Rattle.ks_rule.specs.Truth.{truth}
 use Rattle.ks_machine.specs.Openings.{NamedRule}
-use Rattle.ks_policy.specs.Rules.{place_named, tree_at, tree_placed}
+use Rattle.ks_machine.specs.Rules.{place_named, tree_at, tree_placed}
 use Rattle.ks_policy.specs.Cycles.{Leads, HasNoCycle}
-use Rattle.ks_policy.specs.Allowed.{allowed, holds_at}
+use Rattle.ks_machine.specs.Allowed.{allowed}
+use Rattle.ks_policy.specs.Allowed.{holds_at}
 use Rattle.ks_policy.specs.Marks.{mark_at, mark_of}
 use Rattle.ks_policy.specs.Needs.{IsAmong, IsOrdered, AreNeeds}
 use Rattle.ks_policy.proofs.HoldLemmas.{truth_alike, truth_never}

@@ -6,9 +6,9 @@ use Rattle.ks_rule.specs.Kinds.{Fields}
 use Rattle.ks_rule.specs.Trees.{Tree, always, never, named, role, compare, negated, both, either}
 use Rattle.ks_rule.specs.Truth.{truth}
 use Rattle.ks_machine.specs.Openings.{NamedRule}
-use Rattle.ks_policy.specs.Rules.{place_named, tree_at, tree_placed, tree_named}
+use Rattle.ks_machine.specs.Rules.{place_named, tree_at, tree_placed, tree_named}
 use Rattle.ks_policy.specs.Cycles.{Names}
-use Rattle.ks_policy.specs.Allowed.{holds_in, allowed}
+use Rattle.ks_machine.specs.Allowed.{holds_in, allowed}
 use Rattle.ks_policy.specs.Marks.{mark_at, mark_of, unmarked}
 use Rattle.ks_policy.proofs.MarkLemmas.{unmarked_set, unmarked_none, none_marked}
 use Rattle.ks_policy.proofs.PlaceLemmas.{named_within}

@@ -6,9 +6,9 @@ use Rattle.ks_rule.specs.declared.credentials.Credentials.{Credentials}
 use Rattle.ks_rule.specs.Kinds.{Fields}
 use Rattle.ks_rule.specs.Truth.{truth}
 use Rattle.ks_machine.specs.Openings.{NamedRule}
-use Rattle.ks_policy.specs.Rules.{place_named, tree_at, tree_placed, tree_named}
+use Rattle.ks_machine.specs.Rules.{place_named, tree_at, tree_placed, tree_named}
 use Rattle.ks_policy.specs.Cycles.{Names, Leads, Reaches, last, before, HasNoCycle}
-use Rattle.ks_policy.specs.Allowed.{holds_in, allowed}
+use Rattle.ks_machine.specs.Allowed.{holds_in, allowed}
 use Rattle.ks_policy.specs.Marks.{unmarked}
 use Rattle.ks_policy.proofs.MarkLemmas.{unmarked_set, unmarked_none, none_marked}
 use Rattle.ks_policy.proofs.PlaceLemmas.{named_within}

@@ -5,7 +5,7 @@ use Rattle.std.specs.Bool.{Decides}
 use Rattle.std.proofs.Math.ListN.{set}
 use Rattle.ks_rule.specs.Trees.{Tree}
 use Rattle.ks_machine.specs.Openings.{NamedRule}
-use Rattle.ks_policy.specs.Rules.{place_named}
+use Rattle.ks_machine.specs.Rules.{place_named}
 use Rattle.ks_policy.specs.Cycles.{Names, Means}
 use Rattle.ks_policy.specs.Marks.{mark_at, IsMarked, unmarked, Grows, AllMarked}
 

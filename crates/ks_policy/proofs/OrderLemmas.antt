@@ -4,7 +4,7 @@ use Rattle.std.proofs.Math.ListN.{set}
 use Rattle.std.proofs.Math.Seq.{get_or-append_seam}
 use Rattle.std.proofs.lemmas.List.{get_or_append_left, length-replicate}
 use Rattle.ks_machine.specs.Openings.{NamedRule}
-use Rattle.ks_policy.specs.Rules.{tree_at}
+use Rattle.ks_machine.specs.Rules.{tree_at}
 use Rattle.ks_policy.specs.Cycles.{Leads, Reaches, last, before, HasNoCycle}
 use Rattle.ks_policy.specs.Marks.{mark_at, IsMarked, unmarked, AllMarked, Grows, IsStuck, IsPlacing}
 use Rattle.ks_policy.specs.Needs.{IsAmong, IsOrdered, IsWholeOrder}

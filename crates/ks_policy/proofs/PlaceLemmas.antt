@@ -8,7 +8,7 @@ use Rattle.ks_base.specs.Tables.{id_cmp}
 use Rattle.ks_base.specs.Places.{IsFoundAt, IsGapAt}
 use Rattle.ks_base.proofs.RowLemmas.{id_same}
 use Rattle.ks_machine.specs.Openings.{NamedRule}
-use Rattle.ks_policy.specs.Rules.{place_of, place_named, tree_at}
+use Rattle.ks_machine.specs.Rules.{place_of, place_named, tree_at}
 
 pub place_found : (rules : List NamedRule) (name : List ℕ) (i : ℕ) → IsFoundAt id_cmp (λ rule. rule.name) name rules i → place_of rules name ≡ Some i
 place_found [] name i is = absurd is

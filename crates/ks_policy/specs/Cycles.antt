@@ -2,7 +2,7 @@
 use Rattle.std.specs.Prelude.{◌≡◌, ◌⊎◌, ℕ, ◌<◌, List, Some, option_map, slice_get}
 use Rattle.ks_rule.specs.Trees.{Tree, always, never, named, role, compare, negated, both, either}
 use Rattle.ks_machine.specs.Openings.{NamedRule}
-use Rattle.ks_policy.specs.Rules.{place_named, tree_at}
+use Rattle.ks_machine.specs.Rules.{place_named, tree_at}
 
 -- the tree has a `rule:` of this name in it
 abbrev pub Names : Tree → List ℕ → Type 0

@@ -6,4 +6,3 @@ pub mod Loading
 pub mod Marks
 pub mod Needs
 pub mod Openings
-pub mod Rules

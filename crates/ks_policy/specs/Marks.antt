@@ -2,7 +2,7 @@
 use Rattle.std.specs.Prelude.{◌≡◌, ◌⊎◌, ℕ, zero, suc, ◌<◌, Bool, true, false, List, [], ◌∷◌, length, Option, Some, None, slice_index, slice_index_or}
 use Rattle.ks_machine.specs.Openings.{NamedRule}
 use Rattle.ks_rule.specs.Trees.{Tree}
-use Rattle.ks_policy.specs.Rules.{tree_at}
+use Rattle.ks_machine.specs.Rules.{tree_at}
 use Rattle.ks_policy.specs.Cycles.{Means, Leads}
 use Rattle.ks_policy.specs.Needs.{IsAmong, IsOrdered}
 

@@ -1,6 +1,6 @@
 ghost use Rattle.std.specs.Prelude.{◌≡◌, ◌<◌, ◌⊎◌, ◌↔◌, ℕ, true, false, length, MatchOption, IsTrue};
 ghost use Rattle.ks_rule.specs.Trees.{tree_of};
-ghost use Rattle.ks_policy.specs.Rules.{tree_at};
+ghost use Rattle.ks_machine.specs.Rules.{tree_at};
 ghost use Rattle.ks_policy.specs.Cycles.{Means, Leads, Reaches, HasNoCycle, IsFirstCycle};
 ghost use Rattle.ks_policy.specs.Marks.{IsMarked, Grows, AllMarked};
 

@@ -16,7 +16,7 @@ struct Holding<'a> {
 }
 
 impl NamedRules for Holding<'_> {
-    ghost use Rattle.ks_policy.specs.Rules.{place_named};
+    ghost use Rattle.ks_machine.specs.Rules.{place_named};
     ghost use Rattle.ks_policy.specs.Marks.{mark_of};
 
     ghost holding = { λ known name. mark_of known.marks (place_named known.rules.now name) };

@@ -5,9 +5,9 @@ ghost use Rattle.ks_rule.specs.declared.credentials.Credentials.{Credentials};
 ghost use Rattle.ks_rule.specs.Kinds.{Fields};
 ghost use Rattle.ks_rule.specs.Truth.{truth};
 ghost use Rattle.ks_machine.specs.Openings.{NamedRule};
-ghost use Rattle.ks_policy.specs.Rules.{tree_named};
+ghost use Rattle.ks_machine.specs.Rules.{tree_named};
 ghost use Rattle.ks_policy.specs.Cycles.{HasNoCycle};
-ghost use Rattle.ks_policy.specs.Allowed.{allowed};
+ghost use Rattle.ks_machine.specs.Allowed.{allowed};
 
 /// Where no rule reaches itself, a name is allowed what its tree is, with the names in it allowed by the
 /// same measure.

@@ -1,5 +1,5 @@
 ghost use Rattle.std.specs.Prelude.{◌≡◌, IfOk, IsOk};
-ghost use Rattle.ks_policy.specs.Allowed.{allowed};
+ghost use Rattle.ks_machine.specs.Allowed.{allowed};
 ghost use Rattle.ks_policy.specs.Cycles.{HasNoCycle};
 ghost use Rattle.ks_policy.specs.Needs.{IsWholeOrder};
 

@@ -1,7 +1,7 @@
 ghost use Rattle.std.specs.Prelude.{◌≡◌, ◌<◌, ◌≤◌, length, IfSome, Some, option_map, slice_get};
 ghost use Rattle.ks_base.specs.Tables.{id_cmp, IsAscending};
 ghost use Rattle.ks_rule.specs.Trees.{tree_of};
-ghost use Rattle.ks_policy.specs.Rules.{place_of, place_named, tree_at};
+ghost use Rattle.ks_machine.specs.Rules.{place_of, place_named, tree_at};
 
 use crate::named::NamedRule;
 use crate::place::{Named, place};
@@ -83,7 +83,7 @@ impl RuleTable {
     }
 
     /// The place of the rule that a name means: its own, or that of `default`.
-    #[tactic(auto, unfolding(crate::specs::Rules::place_named))]
+    #[tactic(auto, unfolding(ks_machine::specs::Rules::place_named))]
     pub fn place_named(&self, name: &Text) -> Option<usize>
         ensures place { result ≡ place_named self.now name.now }
         ensures within { IfSome result (λ at. (at < length self.now) × (at < 1024)) }

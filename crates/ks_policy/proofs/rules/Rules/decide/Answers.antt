@@ -1,7 +1,7 @@
 use Rattle.std.proofs.Common.{◌≡◌, ◌<◌, ℕ, Bool, List, Some, None, length, sym, ◌∙◌, ap, subst, arith}
 use Rattle.ks_machine.specs.Openings.{NamedRule}
-use Rattle.ks_policy.specs.Rules.{place_named}
-use Rattle.ks_policy.specs.Allowed.{allowed}
+use Rattle.ks_machine.specs.Rules.{place_named}
+use Rattle.ks_machine.specs.Allowed.{allowed}
 use Rattle.ks_policy.specs.Needs.{AreNeeds}
 use Rattle.ks_policy.proofs.DecideLemmas.{allowed_placed, allowed_none}
 use Rattle.ks_policy.proofs.NeedLemmas.{needs_of_row}

@@ -2,7 +2,7 @@ use Rattle.std.proofs.Common.{◌≡◌, ◌<◌, ℕ, length, sym, subst, ap, �
 use Rattle.std.proofs.Math.ListN.{length-set}
 use Rattle.ks_rule.specs.Trees.{Tree}
 use Rattle.ks_rule.specs.Truth.{truth}
-use Rattle.ks_policy.specs.Rules.{place_named}
+use Rattle.ks_machine.specs.Rules.{place_named}
 use Rattle.ks_policy.specs.Marks.{mark_of}
 use Rattle.ks_policy.proofs.DecideLemmas.{truth_marked, marked_among, marks_next}
 use Rattle.ks_policy.proofs.table.RuleTable.holds_at.Goals as goal

@@ -1,5 +1,5 @@
 use Rattle.std.proofs.Common.{sym, ap, ◌∙◌}
-use Rattle.ks_policy.specs.Rules.{place_of}
+use Rattle.ks_machine.specs.Rules.{place_of}
 use Rattle.ks_policy.proofs.PlaceLemmas.{place_found, place_gap}
 use Rattle.ks_policy.proofs.table.RuleTable.place_of.Goals as goal
 
