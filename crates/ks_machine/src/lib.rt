@@ -1,6 +1,6 @@
-//! The identity machine: what every answer is by the state, the moment and the request alone. So far it has the
-//! commands, answers, causes and changes, the facts of derived passwords, and the lines of a token's validity
-//! that its keys, its payload and the time decide.
+//! The identity machine: what every answer is by the state, the moment and the request alone. Its definitions say
+//! this of every command; the code so far has the commands, answers, causes and changes, the facts of derived
+//! passwords, and the lines of a token's validity that its keys, its payload and the time decide.
 #![tactic(auto)]
 
 mod bodies;
@@ -11,6 +11,7 @@ mod change;
 mod clock;
 mod command;
 mod derived;
+mod laws;
 mod lines;
 mod reply;
 mod settings;
@@ -28,7 +29,10 @@ pub use change::{Change, Entry};
 pub use clock::moment;
 pub use command::Command;
 pub use derived::Derived;
-pub use lines::{Held, first_answer, token_lines};
+pub use laws::{
+    calls_go_on, changes_are_replayed, fronts_are_ordered, roles_are_effective, roles_are_implied,
+};
+pub use lines::{Held, first_answer, read_payload, token_lines};
 pub use reply::Reply;
 pub use settings::{OpenFault, Settings};
 pub use why::Why;

@@ -1,4 +1,4 @@
-ghost use Rattle.std.specs.Prelude.{◌≡◌, [], IfOk};
+ghost use Rattle.std.specs.Prelude.{◌≡◌, [], IfOk, IfErr, Ok, Err};
 ghost use Rattle.ks_machine.specs.TokenLines.{first_opened, payload_lines, token_lines as lines_of};
 
 use crate::Why;
@@ -55,11 +55,25 @@ pub fn token_lines(life: u64, moment: u64, answer: OpenAnswer) -> Result<Held, W
     }
 }
 
-#[tactic(auto, unfolding(crate::specs::TokenLines::payload_lines))]
 fn hold_payload(life: u64, moment: u64, issued: u64, plain: Bytes) -> Result<Held, Why>
     ensures { result ≡ payload_lines life moment issued plain }
 {
-    let Ok(Some(payload)) = Payload::read(plain.as_slice()) else {
+    let payload = read_payload(life, moment, issued, plain.as_slice())?;
+    Ok(Held {
+        payload,
+        issued,
+        plain,
+    })
+}
+
+/// The payload of an opened token that was issued at this second, or the first line from `Payload` to `Span` that
+/// does not hold. It takes no memory.
+#[tactic(auto, unfolding(crate::specs::TokenLines::payload_lines))]
+pub fn read_payload(life: u64, moment: u64, issued: u64, plain: &[u8]) -> Result<Payload, Why>
+    ensures held { IfOk result (λ payload. payload_lines life moment issued plain.now ≡ Ok (record { payload = payload; issued = issued; plain = plain.now })) }
+    ensures refused { IfErr result (λ why. payload_lines life moment issued plain.now ≡ Err why) }
+{
+    let Ok(Some(payload)) = Payload::read(plain) else {
         return Err(Why::Payload);
     };
     if issued > moment {
@@ -71,9 +85,5 @@ fn hold_payload(life: u64, moment: u64, issued: u64, plain: Bytes) -> Result<Hel
     if payload.expires.saturating_sub(issued) > life {
         return Err(Why::Span);
     }
-    Ok(Held {
-        payload,
-        issued,
-        plain,
-    })
+    Ok(payload)
 }

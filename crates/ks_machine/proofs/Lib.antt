@@ -1,0 +1,4 @@
+pub mod TheMachine
+mod Examples
+pub mod FrontLemmas
+pub mod RoleLemmas

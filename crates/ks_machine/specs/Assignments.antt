@@ -1,0 +1,77 @@
+-- Who has which role where (Identity API v3, role assignments): the grants, or what they give one user.
+use Rattle.std.specs.Prelude.{Bool, true, false, not, ◌&&◌, ◌||◌, if◌then◌else◌, List, [], ◌∷◌, ◌++◌, Option, Some, None, codes, filter, map}
+use Rattle.std.specs.Option.{option_map_or}
+use Rattle.std.specs.Str.{bytes_eq}
+use Rattle.ks_base.specs.declared.grants.Actor.{Actor}
+use Rattle.ks_base.specs.declared.grants.Actor.TheVariants as actor
+use Rattle.ks_base.specs.declared.grants.GrantRow.{GrantRow}
+use Rattle.ks_base.specs.declared.grants.Target.{Target}
+use Rattle.ks_base.specs.declared.grants.Target.TheVariants as target
+use Rattle.ks_base.specs.declared.shapes.Filter.{Filter}
+use Rattle.ks_base.specs.declared.shapes.ShapeFault.TheVariants as shape
+use Rattle.ks_base.specs.Rows.{Id, Text, Rows, same}
+use Rattle.ks_machine.specs.declared.body_out.BodyOut.TheVariants as body
+use Rattle.ks_machine.specs.declared.cause.Cause.{Cause}
+use Rattle.ks_machine.specs.declared.cause.Cause.TheVariants as cause
+use Rattle.ks_rule.specs.Kinds.{Fields, value_in}
+use Rattle.ks_machine.specs.Attempts.{Attempt, Go, ◌>>=◌, found}
+use Rattle.ks_machine.specs.Effective.{roles_at}
+use Rattle.ks_machine.specs.Outcomes.{Outcome, tells}
+
+-- a filter is not given, or is this id
+abbrev pub agrees : Fields → Text → Option Id → Bool
+agrees filters name id = option_map_or (λ wanted. option_map_or (same wanted) id false) (value_in filters name) true
+
+abbrev pub user_in : Actor → Option Id
+user_in (actor.User id) = Some id
+user_in (actor.Group id) = None
+
+abbrev pub group_in : Actor → Option Id
+group_in (actor.User id) = None
+group_in (actor.Group id) = Some id
+
+abbrev pub project_in : Target → Option Id
+project_in (target.Project id) = Some id
+project_in (target.Domain id) = None
+
+abbrev pub domain_in : Target → Option Id
+domain_in (target.Project id) = None
+domain_in (target.Domain id) = Some id
+
+abbrev pub is_listed : Fields → GrantRow → Bool
+is_listed filters row =
+    agrees filters (codes "user.id") (user_in row.actor)
+    && (agrees filters (codes "group.id") (group_in row.actor)
+    && (agrees filters (codes "role.id") (Some row.role)
+    && (agrees filters (codes "scope.project.id") (project_in row.target)
+    && agrees filters (codes "scope.domain.id") (domain_in row.target))))
+
+abbrev pub is_yes : Text → Bool
+is_yes text = not (bytes_eq text (codes "0") || bytes_eq text (codes "false"))
+
+abbrev pub asks_for_effective : Fields → Bool
+asks_for_effective filters = option_map_or is_yes (value_in filters (codes "effective")) false
+
+-- all targets: domains, then projects, each by id
+abbrev pub targets : Rows → List Target
+targets rows = map (λ row. target.Domain row.id) rows.domains ++ map (λ row. target.Project row.id) rows.projects
+
+abbrev pub given_at : Rows → Id → Target → List GrantRow
+given_at rows user at = map (λ role. record { actor = actor.User user; target = at; inherited = false; role = role }) (roles_at rows user at)
+
+unfoldable pub given_to : Rows → Id → List Target → List GrantRow
+given_to rows user [] = []
+given_to rows user (at ∷ more) = given_at rows user at ++ given_to rows user more
+
+unfoldable pub effective_of : Rows → Fields → Attempt Cause (List GrantRow)
+effective_of rows filters = do
+  user ← found (value_in filters (codes "user.id")) (cause.Shape (shape.Missing (codes "user.id")))
+  Go (given_to rows user (targets rows))
+
+abbrev pub rows_asked : Rows → Fields → Attempt Cause (List GrantRow)
+rows_asked rows filters = if asks_for_effective filters then effective_of rows filters else Go rows.grants
+
+unfoldable pub assignments : Rows → Filter → Attempt Cause Outcome
+assignments rows filters = do
+  grants ← rows_asked rows filters.fields
+  Go (tells (body.Assignments (filter (is_listed filters.fields) grants) (codes "/v3/role_assignments")))

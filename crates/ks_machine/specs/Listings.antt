@@ -1,0 +1,106 @@
+-- One row, listings and deletions of the five kinds (Identity API v3).
+use Rattle.std.specs.Prelude.{Bool, true, false, not, ◌&&◌, ◌||◌, List, [], ◌++◌, codes, filter, map}
+use Rattle.std.specs.Option.{option_map_or}
+use Rattle.std.specs.Str.{bytes_eq}
+use Rattle.ks_base.specs.declared.kinds.Kind.{Kind}
+use Rattle.ks_base.specs.declared.kinds.Kind.TheVariants as kind
+use Rattle.ks_base.specs.declared.rows.DomainRow.{DomainRow}
+use Rattle.ks_base.specs.declared.rows.GroupRow.{GroupRow}
+use Rattle.ks_base.specs.declared.rows.ProjectRow.{ProjectRow}
+use Rattle.ks_base.specs.declared.rows.RoleRow.{RoleRow}
+use Rattle.ks_base.specs.declared.shapes.Filter.{Filter}
+use Rattle.ks_base.specs.declared.users.UserRow.{UserRow}
+use Rattle.ks_base.specs.Rows.{Id, Text, Rows}
+use Rattle.ks_machine.specs.declared.body_out.BodyOut.TheVariants as body
+use Rattle.ks_machine.specs.declared.body_out.Row.{Row}
+use Rattle.ks_machine.specs.declared.body_out.Row.TheVariants as row
+use Rattle.ks_machine.specs.declared.cause.Cause.{Cause}
+use Rattle.ks_machine.specs.declared.cause.Cause.TheVariants as cause
+use Rattle.ks_machine.specs.declared.change.Change.TheVariants as change
+use Rattle.ks_rule.specs.Kinds.{Fields, value_in}
+use Rattle.ks_tree.specs.Faults.{drop_domain_fault, drop_project_fault}
+use Rattle.ks_machine.specs.Actions.{kind_words}
+use Rattle.ks_machine.specs.Attempts.{Attempt, Go, Stop, ◌>>=◌}
+use Rattle.ks_machine.specs.Outcomes.{Outcome, changes, tells}
+use Rattle.ks_machine.specs.Tables.{standing_domain, standing_group, standing_project, standing_role, standing_user, trees, unless_tree}
+
+-- a row of a kind
+
+unfoldable pub row_at : Rows → Kind → Id → Attempt Cause Row
+row_at rows kind.Domain id = standing_domain rows id >>= (λ found. Go (row.Domain found))
+row_at rows kind.Project id = standing_project rows id >>= (λ found. Go (row.Project found))
+row_at rows kind.User id = standing_user rows id >>= (λ found. Go (row.User found))
+row_at rows kind.Group id = standing_group rows id >>= (λ found. Go (row.Group found))
+row_at rows kind.Role id = standing_role rows id >>= (λ found. Go (row.Role found))
+row_at rows other id = Stop (cause.Absent other id)
+
+unfoldable pub get : Rows → Kind → Id → Attempt Cause Outcome
+get rows kind id = row_at rows kind id >>= (λ found. Go (tells (body.One found false)))
+
+-- listings: a row is listed where all filters that are given agree
+
+abbrev pub has_text : Fields → Text → Text → Bool
+has_text filters name value = option_map_or (bytes_eq value) (value_in filters name) true
+
+-- what a text says of a truth
+abbrev pub says_no : Text → Bool
+says_no text = bytes_eq text (codes "false") || (bytes_eq text (codes "False") || bytes_eq text (codes "0"))
+
+abbrev pub same_truth : Bool → Bool → Bool
+same_truth true b = b
+same_truth false b = not b
+
+abbrev pub has_truth : Fields → Text → Bool → Bool
+has_truth filters name value = option_map_or (λ text. same_truth value (not (says_no text))) (value_in filters name) true
+
+abbrev pub has_name : Fields → Text → Bool
+has_name filters name = has_text filters (codes "name") name
+
+abbrev pub has_domain : Fields → Id → Bool
+has_domain filters domain = has_text filters (codes "domain_id") domain
+
+abbrev pub has_enabled : Fields → Bool → Bool
+has_enabled filters enabled = has_truth filters (codes "enabled") enabled
+
+abbrev pub is_domain_listed : Fields → DomainRow → Bool
+is_domain_listed filters row = has_name filters row.name && has_enabled filters row.enabled
+
+abbrev pub is_project_listed : Fields → ProjectRow → Bool
+is_project_listed filters row =
+    has_name filters row.name
+    && (has_domain filters row.domain && (has_text filters (codes "parent_id") row.parent && has_enabled filters row.enabled))
+
+abbrev pub is_user_listed : Fields → UserRow → Bool
+is_user_listed filters row = has_name filters row.name && (has_domain filters row.domain && has_enabled filters row.enabled)
+
+abbrev pub is_group_listed : Fields → GroupRow → Bool
+is_group_listed filters row = has_name filters row.name && has_domain filters row.domain
+
+abbrev pub is_role_listed : Fields → RoleRow → Bool
+is_role_listed filters row = has_name filters row.name
+
+unfoldable pub rows_listed : Rows → Kind → Fields → List Row
+rows_listed rows kind.Domain filters = map (λ found. row.Domain found) (filter (is_domain_listed filters) rows.domains)
+rows_listed rows kind.Project filters = map (λ found. row.Project found) (filter (is_project_listed filters) rows.projects)
+rows_listed rows kind.User filters = map (λ found. row.User found) (filter (is_user_listed filters) rows.users)
+rows_listed rows kind.Group filters = map (λ found. row.Group found) (filter (is_group_listed filters) rows.groups)
+rows_listed rows kind.Role filters = map (λ found. row.Role found) (filter (is_role_listed filters) rows.roles)
+rows_listed rows other filters = []
+
+abbrev pub path_of_kind : Kind → Text
+path_of_kind kind = codes "/v3/" ++ kind_words kind
+
+unfoldable pub list : Rows → Kind → Filter → Outcome
+list rows kind filters = tells (body.Many kind (rows_listed rows kind filters.fields) (path_of_kind kind))
+
+-- deletions
+
+unfoldable pub delete : Rows → Kind → Id → Attempt Cause Outcome
+delete rows kind.Domain id =
+    unless_tree (drop_domain_fault (trees rows) id) >>= (λ _. Go (changes (change.DropDomain id) body.Nothing))
+delete rows kind.Project id =
+    unless_tree (drop_project_fault (trees rows) id) >>= (λ _. Go (changes (change.DropProject id) body.Nothing))
+delete rows kind.User id = standing_user rows id >>= (λ _. Go (changes (change.DropUser id) body.Nothing))
+delete rows kind.Group id = standing_group rows id >>= (λ _. Go (changes (change.DropGroup id) body.Nothing))
+delete rows kind.Role id = standing_role rows id >>= (λ _. Go (changes (change.DropRole id) body.Nothing))
+delete rows other id = Stop (cause.Absent other id)

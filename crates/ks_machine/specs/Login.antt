@@ -1,0 +1,219 @@
+-- Logins (Identity API v3, authentication): who the caller shows to be, the scope that is asked for, and the token that is given.
+use Rattle.std.specs.Prelude.{ℕ, ◌+◌, ◌/◌, ◌%◌, ◌==◌, Bool, true, not, if◌then◌else◌, nat_lt, List, [], ◌∷◌, length, Option, Some, None, is_some, option_map}
+use Rattle.std.specs.Option.{option_and_then, option_map_or}
+use Rattle.std.specs.Str.{bytes_eq}
+use Rattle.ks_base.specs.declared.faults.TrustFault.TheVariants as trust_fault
+use Rattle.ks_base.specs.declared.grants.Target.{Target}
+use Rattle.ks_base.specs.declared.grants.Target.TheVariants as target
+use Rattle.ks_base.specs.declared.receipt.Drawn.{Drawn}
+use Rattle.ks_base.specs.declared.rows.ProjectRow.{ProjectRow}
+use Rattle.ks_base.specs.declared.trusts.TrustRow.{TrustRow}
+use Rattle.ks_base.specs.declared.users.PasswordRow.{PasswordRow}
+use Rattle.ks_base.specs.declared.users.UserRow.{UserRow}
+use Rattle.ks_base.specs.Rows.{Id, Text, Rows, project_of, trust_of, user_of}
+use Rattle.ks_base.specs.Trusts.{use_fault}
+use Rattle.ks_fernet.specs.Opening.{token_text}
+use Rattle.ks_machine.specs.declared.bodies.LoginBody.{LoginBody}
+use Rattle.ks_machine.specs.declared.bodies.Proof.{Proof}
+use Rattle.ks_machine.specs.declared.bodies.Proof.TheVariants as proof
+use Rattle.ks_machine.specs.declared.bodies.ScopeIn.{ScopeIn}
+use Rattle.ks_machine.specs.declared.bodies.ScopeIn.TheVariants as scope_in
+use Rattle.ks_machine.specs.declared.body_out.BodyOut.TheVariants as body
+use Rattle.ks_machine.specs.declared.body_out.TokenOut.{TokenOut}
+use Rattle.ks_machine.specs.declared.body_out.TrustUse.{TrustUse}
+use Rattle.ks_machine.specs.declared.cause.Cause.{Cause}
+use Rattle.ks_machine.specs.declared.cause.Cause.TheVariants as cause
+use Rattle.ks_machine.specs.declared.cause.ScopeWhy.{ScopeWhy}
+use Rattle.ks_machine.specs.declared.cause.ScopeWhy.TheVariants as scope_why
+use Rattle.ks_machine.specs.declared.change.Change.{Change}
+use Rattle.ks_machine.specs.declared.change.Change.TheVariants as change
+use Rattle.ks_payload.specs.declared.payload.Payload.{Payload}
+use Rattle.ks_payload.specs.Payloads.{spelling}
+use Rattle.ks_machine.specs.Attempts.{Attempt, Go, Stop, Stored, ◌>>=◌, Known, asked, blame, each, found, need, unless}
+use Rattle.ks_machine.specs.Effective.{closure, roles_at}
+use Rattle.ks_machine.specs.Outcomes.{Outcome, id_bytes, iv}
+use Rattle.ks_ring.specs.declared.held_key.HeldKey.{HeldKey}
+use Rattle.ks_machine.specs.Scopes.{domain_in, homed_project, homed_user, project_in, titled_domain, titled_roles, user_in}
+use Rattle.ks_machine.specs.States.{State, is_domain_on, is_project_on, is_user_on}
+use Rattle.ks_machine.specs.Validity.{Valid, first_of_chain, is_kept, user_by, validity}
+
+-- who it is
+
+-- the password of a user is this one
+unfoldable pub is_password : {E : Type 0} → Known → PasswordRow → Text → Attempt E Bool
+is_password known row password = do
+  digest ← asked (Stored row.salt row.rounds) (known.derive password row.salt row.rounds)
+  Go (bytes_eq digest row.digest)
+
+-- a user that stands, has this password, and is enabled in an enabled domain
+unfoldable pub by_password : Known → Rows → Option UserRow → Text → Attempt Cause UserRow
+by_password known rows named password = do
+  user ← found named cause.Credentials
+  row ← found user.password cause.Credentials
+  is ← is_password known row password
+  _ ← need is cause.Credentials
+  _ ← need (is_user_on rows user.id) cause.Credentials
+  Go user
+
+-- who shows to be whom, and what a token of theirs takes over: its methods, its expiry and the audit id of its chain
+pub record Shown : Type 0 where
+  pub user : Id
+  pub methods : ℕ
+  pub expires : ℕ
+  pub chain : Option (List ℕ)
+
+-- the bit of a method
+abbrev pub password_method : ℕ
+password_method = 1
+
+abbrev pub token_method : ℕ
+token_method = 2
+
+abbrev pub with_token : ℕ → ℕ
+with_token methods = if (methods / token_method) % 2 == 1 then methods else methods + token_method
+
+abbrev pub shown_by_token : Valid → Shown
+shown_by_token token = record {
+  user = token.payload.user;
+  methods = with_token token.payload.methods;
+  expires = token.payload.expires;
+  chain = Some (option_map_or (λ chain. chain) token.payload.chain token.payload.audit);
+}
+
+unfoldable pub shown : Known → State → ℕ → Proof → Attempt Cause Shown
+shown known S moment (proof.Password user password) = do
+  row ← by_password known S.rows (user_in S.rows user) password
+  Go (record { user = row.id; methods = password_method; expires = moment + S.settings.life; chain = None })
+shown known S moment (proof.Token text) = do
+  token ← blame (λ _. cause.Credentials) (validity known S moment text)
+  _ ← need (not (is_some token.payload.trust)) cause.TrustToken
+  Go (shown_by_token token)
+
+-- its scope
+
+-- whose token it is, where, and with which roles
+pub record Scoped : Type 0 where
+  pub user : Id
+  pub kind : ℕ
+  pub domain : Option Id
+  pub project : Option Id
+  pub trust : Option TrustRow
+  pub roles : List Id
+
+abbrev pub refused : {A : Type 0} → ScopeWhy → Attempt Cause A
+refused why = Stop (cause.ScopeRefused why)
+
+-- the roles that a user has at a target that stands
+unfoldable pub with_roles : Rows → Id → Target → Attempt Cause (List Id)
+with_roles rows user at = do
+  _ ← need (nat_lt 0 (length (roles_at rows user at))) (cause.ScopeRefused scope_why.NoRoles)
+  Go (roles_at rows user at)
+
+unfoldable pub to_domain : Rows → Id → Option Id → Attempt Cause Scoped
+to_domain rows user named = do
+  domain ← found named (cause.ScopeRefused scope_why.Absent)
+  _ ← need (is_domain_on rows domain) (cause.ScopeRefused scope_why.Off)
+  roles ← with_roles rows user (target.Domain domain)
+  Go (record { user = user; kind = 1; domain = Some domain; project = None; trust = None; roles = roles })
+
+-- a project that stands and is enabled
+unfoldable pub project_on : Rows → Option ProjectRow → Attempt Cause Id
+project_on rows named = do
+  project ← found named (cause.ScopeRefused scope_why.Absent)
+  _ ← need (is_project_on rows project.id) (cause.ScopeRefused scope_why.Off)
+  Go project.id
+
+unfoldable pub to_project : Rows → Id → Option ProjectRow → Attempt Cause Scoped
+to_project rows user named = do
+  project ← project_on rows named
+  roles ← with_roles rows user (target.Project project)
+  Go (record { user = user; kind = 2; domain = None; project = Some project; trust = None; roles = roles })
+
+abbrev pub user_on : Rows → Id → Attempt Cause (Unit {0})
+user_on rows id = need (is_user_on rows id) (cause.Trust (trust_fault.UserOff id))
+
+abbrev pub role_kept : Rows → TrustRow → Id → Attempt Cause (Unit {0})
+role_kept rows trust role = need (is_kept rows trust role) (cause.Trust (trust_fault.RoleLost role))
+
+unfoldable pub to_trust : Rows → ℕ → Id → Id → Attempt Cause Scoped
+to_trust rows moment user id = do
+  _ ← blame (λ fault. cause.Trust fault) (unless (use_fault rows.trusts id user moment))
+  trust ← found (trust_of id rows.trusts) (cause.Trust (trust_fault.Absent id))
+  _ ← user_on rows trust.trustor
+  _ ← user_on rows trust.trustee
+  _ ← user_on rows (first_of_chain rows trust)
+  project ← project_on rows (project_of trust.project rows.projects)
+  _ ← each (role_kept rows trust) trust.roles
+  Go (record { user = user_by trust; kind = 3; domain = None; project = Some project; trust = Some trust; roles = closure rows trust.roles })
+
+unfoldable pub scoped : Rows → ℕ → Id → ScopeIn → Attempt Cause Scoped
+scoped rows moment user scope_in.Nothing = Go (record { user = user; kind = 0; domain = None; project = None; trust = None; roles = [] })
+scoped rows moment user scope_in.Unscoped = Go (record { user = user; kind = 0; domain = None; project = None; trust = None; roles = [] })
+scoped rows moment user (scope_in.Domain domain) = to_domain rows user (option_map (λ row. row.id) (domain_in rows domain))
+scoped rows moment user (scope_in.Project project) = to_project rows user (project_in rows project)
+scoped rows moment user (scope_in.Trust id) = to_trust rows moment user id
+
+-- what is told of a token
+
+abbrev pub trust_use : TrustRow → TrustUse
+trust_use trust = record { id = trust.id; impersonation = trust.impersonation; trustee = trust.trustee; trustor = trust.trustor }
+
+abbrev pub told_user : Rows → Id → TokenOut → TokenOut
+told_user rows id told = option_map_or (λ row. record told { user = homed_user rows row }) (user_of id rows.users) told
+
+unfoldable pub told_token : Rows → Text → Bool → Payload → ℕ → List Id → TokenOut
+told_token rows text made payload issued roles = told_user rows payload.user (record {
+  text = text;
+  made = made;
+  audit = payload.audit;
+  chain = payload.chain;
+  methods = payload.methods;
+  issued = issued;
+  expires = payload.expires;
+  user = record { id = payload.user; name = []; domain = record { id = []; name = [] } };
+  project = option_map (homed_project rows) (option_and_then (λ id. project_of id rows.projects) payload.project);
+  domain = option_map (titled_domain rows) payload.domain;
+  trust = option_map trust_use (option_and_then (λ id. trust_of id rows.trusts) payload.trust);
+  roles = if payload.kind == 0 then None else Some (titled_roles rows roles);
+})
+
+-- the token
+
+-- the key that seals: that of the highest index
+abbrev pub seal : List HeldKey → ℕ → List ℕ → List ℕ → Text
+seal [] moment iv plain = []
+seal (held ∷ more) moment iv plain = token_text held.key moment iv plain
+
+abbrev pub new_payload : Shown → Scoped → List ℕ → Payload
+new_payload shown scope audit = record {
+  kind = scope.kind;
+  methods = shown.methods;
+  user = scope.user;
+  domain = scope.domain;
+  project = scope.project;
+  trust = option_map (λ trust. trust.id) scope.trust;
+  expires = shown.expires;
+  audit = audit;
+  chain = shown.chain;
+}
+
+-- a login by a trust whose uses are numbered takes one
+abbrev pub use_of : Option TrustRow → Option Change
+use_of None = None
+use_of (Some trust) = option_map (λ left. change.UseTrust trust.id) trust.remaining
+
+unfoldable pub token_given : State → ℕ → Drawn → Shown → Scoped → Outcome
+token_given S moment drawn shown scope =
+    let payload = new_payload shown scope (id_bytes drawn) in
+    let text = seal S.ring.held moment (iv drawn) (spelling payload) in
+    record {
+      told = body.Token (told_token S.rows text true payload moment scope.roles);
+      change = use_of scope.trust;
+      drawn = None;
+    }
+
+unfoldable pub login : Known → State → ℕ → Drawn → LoginBody → Attempt Cause Outcome
+login known S moment drawn asked = do
+  who ← shown known S moment asked.proof
+  scope ← scoped S.rows moment who.user asked.scope
+  Go (token_given S moment drawn who scope)

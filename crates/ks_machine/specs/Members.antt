@@ -1,0 +1,180 @@
+-- Memberships, implications and grants (Identity API v3; OS-INHERIT). A row that stands is no change and no refusal.
+use Rattle.std.specs.Prelude.{Bool, true, false, not, ◌&&◌, if◌then◌else◌, ◌++◌, codes, filter, map, is_some}
+use Rattle.ks_assign.specs.Grants.{stands, ungrant_fault}
+use Rattle.ks_base.specs.declared.grants.Actor.{Actor}
+use Rattle.ks_base.specs.declared.grants.Actor.TheVariants as actor
+use Rattle.ks_base.specs.declared.grants.GrantRow.{GrantRow}
+use Rattle.ks_base.specs.declared.grants.ImplyRow.{ImplyRow}
+use Rattle.ks_base.specs.declared.grants.Target.{Target}
+use Rattle.ks_base.specs.declared.grants.Target.TheVariants as target
+use Rattle.ks_base.specs.declared.kinds.Kind.TheVariants as kind
+use Rattle.ks_base.specs.declared.users.MemberRow.{MemberRow}
+use Rattle.ks_base.specs.Rows.{Id, Text, Rows, same}
+use Rattle.ks_machine.specs.declared.body_out.BodyOut.{BodyOut}
+use Rattle.ks_machine.specs.declared.body_out.BodyOut.TheVariants as body
+use Rattle.ks_machine.specs.declared.body_out.Row.TheVariants as row
+use Rattle.ks_machine.specs.declared.cause.Cause.{Cause}
+use Rattle.ks_machine.specs.declared.change.Change.{Change}
+use Rattle.ks_machine.specs.declared.change.Change.TheVariants as change
+use Rattle.ks_people.specs.Faults.{member_absent}
+use Rattle.ks_people.specs.State.{member_of}
+use Rattle.ks_roles.specs.Faults.{admin_implied, implication_absent}
+use Rattle.ks_roles.specs.State.{implied_ids, is_implication}
+use Rattle.ks_machine.specs.Attempts.{Attempt, Go, ◌>>=◌}
+use Rattle.ks_machine.specs.Effective.{is_member, same_target}
+use Rattle.ks_machine.specs.Outcomes.{Outcome, changes, tells}
+use Rattle.ks_machine.specs.Scopes.{titled_role, titled_roles}
+use Rattle.ks_machine.specs.Tables.{people, roles, standing_domain, standing_group, standing_project, standing_role, standing_user, unless_row}
+
+-- the change is made where the row is new
+abbrev pub if_new : Bool → Change → BodyOut → Outcome
+if_new true new told = tells told
+if_new false new told = changes new told
+
+-- memberships
+
+unfoldable pub groups_of : Rows → Id → Attempt Cause Outcome
+groups_of rows user = do
+  _ ← standing_user rows user
+  Go (tells (body.Many kind.Group
+      (map (λ found. row.Group found) (filter (λ group. is_member rows.members group.id user) rows.groups))
+      (codes "/v3/users/" ++ (user ++ codes "/groups"))))
+
+unfoldable pub members_of : Rows → Id → Attempt Cause Outcome
+members_of rows group = do
+  _ ← standing_group rows group
+  Go (tells (body.Many kind.User
+      (map (λ found. row.User found) (filter (λ user. is_member rows.members group user.id) rows.users))
+      (codes "/v3/groups/" ++ (group ++ codes "/users"))))
+
+-- the group and the user stand
+unfoldable pub both_stand : Rows → MemberRow → Attempt Cause (Unit {0})
+both_stand rows member = do
+  _ ← standing_group rows member.group
+  _ ← standing_user rows member.user
+  Go tt
+
+unfoldable pub join : Rows → MemberRow → Attempt Cause Outcome
+join rows member = do
+  _ ← both_stand rows member
+  Go (if_new (is_some (member_of member rows.members)) (change.Join member) body.Nothing)
+
+unfoldable pub is_in : Rows → MemberRow → Attempt Cause Outcome
+is_in rows member = do
+  _ ← both_stand rows member
+  _ ← unless_row (member_absent (people rows) member)
+  Go (tells body.Nothing)
+
+unfoldable pub leave : Rows → MemberRow → Attempt Cause Outcome
+leave rows member = do
+  _ ← is_in rows member
+  Go (changes (change.Leave member) body.Nothing)
+
+-- implications
+
+unfoldable pub implied : Rows → Id → Attempt Cause Outcome
+implied rows prior = do
+  _ ← standing_role rows prior
+  Go (tells (body.Inferences (titled_role rows prior) (titled_roles rows (implied_ids prior rows.implications))))
+
+-- both roles stand
+unfoldable pub roles_stand : Rows → ImplyRow → Attempt Cause (Unit {0})
+roles_stand rows inference = do
+  _ ← standing_role rows inference.prior
+  _ ← standing_role rows inference.implied
+  Go tt
+
+abbrev pub told_inference : Rows → ImplyRow → Bool → BodyOut
+told_inference rows inference made = body.Inference (titled_role rows inference.prior) (titled_role rows inference.implied) made
+
+unfoldable pub imply : Rows → ImplyRow → Attempt Cause Outcome
+imply rows inference = do
+  _ ← roles_stand rows inference
+  _ ← unless_row (admin_implied (roles rows) inference.implied)
+  Go (if_new (is_implication inference rows.implications) (change.Imply inference) (told_inference rows inference true))
+
+-- the implication stands
+unfoldable pub implies : Rows → ImplyRow → Attempt Cause (Unit {0})
+implies rows inference = do
+  _ ← roles_stand rows inference
+  unless_row (implication_absent (roles rows) inference)
+
+unfoldable pub implication : Rows → ImplyRow → Attempt Cause Outcome
+implication rows inference = do
+  _ ← implies rows inference
+  Go (tells (told_inference rows inference false))
+
+unfoldable pub is_implied : Rows → ImplyRow → Attempt Cause Outcome
+is_implied rows inference = do
+  _ ← implies rows inference
+  Go (tells body.Nothing)
+
+unfoldable pub unimply : Rows → ImplyRow → Attempt Cause Outcome
+unimply rows inference = do
+  _ ← implies rows inference
+  Go (changes (change.Unimply inference) body.Nothing)
+
+-- grants
+
+unfoldable pub target_stands : Rows → Target → Attempt Cause (Unit {0})
+target_stands rows (target.Project id) = standing_project rows id >>= (λ _. Go tt)
+target_stands rows (target.Domain id) = standing_domain rows id >>= (λ _. Go tt)
+
+unfoldable pub actor_stands : Rows → Actor → Attempt Cause (Unit {0})
+actor_stands rows (actor.User id) = standing_user rows id >>= (λ _. Go tt)
+actor_stands rows (actor.Group id) = standing_group rows id >>= (λ _. Go tt)
+
+abbrev pub same_actor : Actor → Actor → Bool
+same_actor (actor.User a) (actor.User b) = same a b
+same_actor (actor.Group a) (actor.Group b) = same a b
+same_actor a b = false
+
+abbrev pub is_granted_as : Actor → Target → Bool → GrantRow → Bool
+is_granted_as who at inherited grant =
+    same_actor grant.actor who && (same_target grant.target at && (if inherited then grant.inherited else not grant.inherited))
+
+-- a role that is granted to the actor at the target
+abbrev pub has_grant : Rows → Actor → Target → Bool → Id → Bool
+has_grant rows who at inherited role = stands rows.grants (record { actor = who; target = at; inherited = inherited; role = role })
+
+abbrev pub target_path : Target → Text
+target_path (target.Project id) = codes "/projects/" ++ id
+target_path (target.Domain id) = codes "/domains/" ++ id
+
+abbrev pub actor_path : Actor → Text
+actor_path (actor.User id) = codes "/users/" ++ id
+actor_path (actor.Group id) = codes "/groups/" ++ id
+
+abbrev pub grants_path : Actor → Target → Bool → Text
+grants_path who at false = codes "/v3" ++ (target_path at ++ (actor_path who ++ codes "/roles"))
+grants_path who at true = codes "/v3/OS-INHERIT" ++ (target_path at ++ (actor_path who ++ codes "/roles/inherited_to_projects"))
+
+unfoldable pub grants_of : Rows → Actor → Target → Bool → Attempt Cause Outcome
+grants_of rows who at inherited = do
+  _ ← target_stands rows at
+  _ ← actor_stands rows who
+  Go (tells (body.Grants (filter (λ role. has_grant rows who at inherited role.id) rows.roles) (grants_path who at inherited)))
+
+-- what a grant names stands
+unfoldable pub all_stand : Rows → GrantRow → Attempt Cause (Unit {0})
+all_stand rows grant = do
+  _ ← target_stands rows grant.target
+  _ ← actor_stands rows grant.actor
+  _ ← standing_role rows grant.role
+  Go tt
+
+unfoldable pub grant : Rows → GrantRow → Attempt Cause Outcome
+grant rows granted = do
+  _ ← all_stand rows granted
+  Go (if_new (stands rows.grants granted) (change.Grant granted) body.Nothing)
+
+unfoldable pub is_granted : Rows → GrantRow → Attempt Cause Outcome
+is_granted rows granted = do
+  _ ← all_stand rows granted
+  _ ← unless_row (ungrant_fault rows.grants granted)
+  Go (tells body.Nothing)
+
+unfoldable pub ungrant : Rows → GrantRow → Attempt Cause Outcome
+ungrant rows granted = do
+  _ ← is_granted rows granted
+  Go (changes (change.Ungrant granted) body.Nothing)

@@ -1,0 +1,214 @@
+-- What rules see of a caller and of what is asked for (oslo.policy; the names are those of Keystone's policies).
+use Rattle.std.specs.Prelude.{Bool, true, false, List, [], ◌∷◌, ◌++◌, Option, Some, None, codes, option_map, map}
+use Rattle.ks_base.specs.declared.grants.Actor.{Actor}
+use Rattle.ks_base.specs.declared.grants.Actor.TheVariants as actor
+use Rattle.ks_base.specs.declared.grants.GrantRow.{GrantRow}
+use Rattle.ks_base.specs.declared.grants.Target.{Target}
+use Rattle.ks_base.specs.declared.grants.Target.TheVariants as target
+use Rattle.ks_base.specs.declared.kinds.Kind.{Kind}
+use Rattle.ks_base.specs.declared.kinds.Kind.TheVariants as kind
+use Rattle.ks_base.specs.declared.users.MemberRow.{MemberRow}
+use Rattle.ks_base.specs.declared.grants.ImplyRow.{ImplyRow}
+use Rattle.ks_base.specs.Rows.{Id, Text, Rows, domain_of, group_of, project_of, role_of, trust_of, user_of}
+use Rattle.ks_machine.specs.declared.bodies.Made.{Made}
+use Rattle.ks_machine.specs.declared.bodies.Made.TheVariants as made
+use Rattle.ks_machine.specs.declared.command.Command.{Command}
+use Rattle.ks_machine.specs.declared.command.Command.TheVariants as command
+use Rattle.ks_rule.specs.declared.credentials.Credentials.{Credentials}
+use Rattle.ks_rule.specs.Kinds.{Fields, value_in}
+use Rattle.ks_machine.specs.Scopes.{titled_role}
+use Rattle.ks_machine.specs.Validity.{Valid, project_domain}
+
+-- fields
+
+-- a field under this name
+abbrev pub field : Text → Text → Fields
+field name value = (name, value) ∷ []
+
+-- a field under this name, where there is a value
+abbrev pub given : Text → Option Text → Fields
+given name None = []
+given name (Some value) = field name value
+
+abbrev pub truth_text : Bool → Text
+truth_text true = codes "True"
+truth_text false = codes "False"
+
+abbrev pub given_truth : Text → Option Bool → Fields
+given_truth name value = given name (option_map truth_text value)
+
+-- the caller
+
+unfoldable pub credentials : Rows → Valid → Credentials
+credentials rows caller = record {
+  roles = map (λ id. (titled_role rows id).name) caller.roles;
+  named =
+      field (codes "user_id") caller.payload.user
+      ++ given (codes "user_domain_id") (option_map (λ user. user.domain) (user_of caller.payload.user rows.users))
+      ++ given (codes "project_id") caller.payload.project
+      ++ given (codes "project_domain_id") (project_domain rows caller.payload.project)
+      ++ given (codes "domain_id") caller.payload.domain
+      ++ given (codes "trust_id") caller.payload.trust;
+}
+
+-- the object that a path names
+
+-- what rules see of a row of a kind
+pub record Seen : Type 0 where
+  pub id : Option Text
+  pub name : Option Text
+  pub domain : Option Text
+  pub enabled : Option Bool
+
+abbrev pub domain_fields : Seen → Fields
+domain_fields seen =
+    given (codes "target.domain.id") seen.id ++ given (codes "target.domain.name") seen.name
+    ++ given_truth (codes "target.domain.enabled") seen.enabled
+
+abbrev pub project_fields : Seen → Fields
+project_fields seen =
+    given (codes "target.project.id") seen.id ++ given (codes "target.project.name") seen.name
+    ++ given (codes "target.project.domain_id") seen.domain ++ given_truth (codes "target.project.enabled") seen.enabled
+
+abbrev pub user_fields : Seen → Fields
+user_fields seen =
+    given (codes "target.user.id") seen.id ++ given (codes "target.user.name") seen.name
+    ++ given (codes "target.user.domain_id") seen.domain ++ given_truth (codes "target.user.enabled") seen.enabled
+
+abbrev pub group_fields : Seen → Fields
+group_fields seen =
+    given (codes "target.group.id") seen.id ++ given (codes "target.group.name") seen.name
+    ++ given (codes "target.group.domain_id") seen.domain
+
+abbrev pub role_fields : Seen → Fields
+role_fields seen = given (codes "target.role.id") seen.id ++ given (codes "target.role.name") seen.name
+
+-- a standing row that a path names
+abbrev pub of_row : {R : Type 0} → (R → Seen) → (Seen → Fields) → Option R → Fields
+of_row see fields None = []
+of_row see fields (Some row) = fields (see row)
+
+unfoldable pub object : Rows → Kind → Id → Fields
+object rows kind.Domain id =
+    of_row (λ row. record { id = Some row.id; name = Some row.name; domain = None; enabled = Some row.enabled })
+    domain_fields (domain_of id rows.domains)
+object rows kind.Project id =
+    of_row (λ row. record { id = Some row.id; name = Some row.name; domain = Some row.domain; enabled = Some row.enabled })
+    project_fields (project_of id rows.projects)
+object rows kind.User id =
+    of_row (λ row. record { id = Some row.id; name = Some row.name; domain = Some row.domain; enabled = Some row.enabled })
+    user_fields (user_of id rows.users)
+object rows kind.Group id =
+    of_row (λ row. record { id = Some row.id; name = Some row.name; domain = Some row.domain; enabled = None })
+    group_fields (group_of id rows.groups)
+object rows kind.Role id =
+    of_row (λ row. record { id = Some row.id; name = Some row.name; domain = None; enabled = None })
+    role_fields (role_of id rows.roles)
+object rows other id = []
+
+-- the user of a path
+abbrev pub path_user : Id → Fields
+path_user id = field (codes "user_id") id
+
+abbrev pub object_of_path : Rows → Kind → Id → Fields
+object_of_path rows kind.User id = path_user id ++ object rows kind.User id
+object_of_path rows other id = object rows other id
+
+-- what a creation gives, without the id
+unfoldable pub of_body : Made → Fields
+of_body (made.Domain id name description enabled) =
+    domain_fields (record { id = None; name = name; domain = None; enabled = enabled })
+of_body (made.Project id name domain parent description enabled) =
+    project_fields (record { id = None; name = name; domain = domain; enabled = enabled })
+of_body (made.User id name domain password enabled) =
+    user_fields (record { id = None; name = name; domain = domain; enabled = enabled })
+of_body (made.Group id name domain description) =
+    group_fields (record { id = None; name = name; domain = domain; enabled = None })
+of_body (made.Role id name description) =
+    role_fields (record { id = None; name = name; domain = None; enabled = None })
+
+-- the kind of what a body makes
+abbrev pub kind_of : Made → Kind
+kind_of (made.Domain id name description enabled) = kind.Domain
+kind_of (made.Project id name domain parent description enabled) = kind.Project
+kind_of (made.User id name domain password enabled) = kind.User
+kind_of (made.Group id name domain description) = kind.Group
+kind_of (made.Role id name description) = kind.Role
+
+-- rows that two ids or three make
+
+abbrev pub of_member : MemberRow → Fields
+of_member row = path_user row.user ++ field (codes "target.group.id") row.group ++ field (codes "target.user.id") row.user
+
+abbrev pub of_actor : Actor → Fields
+of_actor (actor.User id) = path_user id ++ field (codes "target.user.id") id
+of_actor (actor.Group id) = field (codes "target.group.id") id
+
+abbrev pub of_target : Target → Fields
+of_target (target.Project id) = field (codes "target.project.id") id
+of_target (target.Domain id) = field (codes "target.domain.id") id
+
+abbrev pub of_grant : GrantRow → Fields
+of_grant row = of_actor row.actor ++ of_target row.target ++ field (codes "target.role.id") row.role
+
+-- an implication is seen by its prior role
+abbrev pub of_implication : ImplyRow → Fields
+of_implication row = field (codes "target.role.id") row.prior
+
+abbrev pub parties : Option Text → Option Text → Fields
+parties trustor trustee =
+    given (codes "target.trust.trustor_user_id") trustor ++ given (codes "target.trust.trustee_user_id") trustee
+
+abbrev pub of_trust : Rows → Id → Fields
+of_trust rows id =
+    parties (option_map (λ row. row.trustor) (trust_of id rows.trusts)) (option_map (λ row. row.trustee) (trust_of id rows.trusts))
+
+abbrev pub of_subject : Option Valid → Fields
+of_subject None = []
+of_subject (Some token) = field (codes "target.token.user_id") token.payload.user
+
+-- the filters of a listing under their own names
+abbrev pub of_filter : List Text → Fields → Fields
+of_filter [] filters = []
+of_filter (name ∷ names) filters = given name (value_in filters name) ++ of_filter names filters
+
+abbrev pub filter_names : Kind → List Text
+filter_names kind.Domain = codes "name" ∷ codes "enabled" ∷ []
+filter_names kind.Project = codes "name" ∷ codes "domain_id" ∷ codes "parent_id" ∷ codes "enabled" ∷ []
+filter_names kind.User = codes "name" ∷ codes "domain_id" ∷ codes "enabled" ∷ []
+filter_names kind.Group = codes "name" ∷ codes "domain_id" ∷ []
+filter_names kind.Role = codes "name" ∷ []
+filter_names other = []
+
+-- the target of a command
+
+unfoldable pub target_of : Rows → Option Valid → Command → Fields
+target_of rows subject command.Validate = of_subject subject
+target_of rows subject command.Check = of_subject subject
+target_of rows subject command.RevokeToken = of_subject subject
+target_of rows subject (command.Create made) = of_body made
+target_of rows subject (command.List kind filter) = of_filter (filter_names kind) filter.fields
+target_of rows subject (command.Get kind id) = object_of_path rows kind id
+target_of rows subject (command.Update id made) = object_of_path rows (kind_of made) id
+target_of rows subject (command.Delete kind id) = object_of_path rows kind id
+target_of rows subject (command.GroupsOf id) = object_of_path rows kind.User id
+target_of rows subject (command.MembersOf id) = object rows kind.Group id
+target_of rows subject (command.Join row) = of_member row
+target_of rows subject (command.IsIn row) = of_member row
+target_of rows subject (command.Leave row) = of_member row
+target_of rows subject (command.Implied id) = object rows kind.Role id
+target_of rows subject (command.Imply row) = of_implication row
+target_of rows subject (command.Implication row) = of_implication row
+target_of rows subject (command.IsImplied row) = of_implication row
+target_of rows subject (command.Unimply row) = of_implication row
+target_of rows subject (command.GrantsOf who at inherited) = of_actor who ++ of_target at
+target_of rows subject (command.Grant row) = of_grant row
+target_of rows subject (command.IsGranted row) = of_grant row
+target_of rows subject (command.Ungrant row) = of_grant row
+target_of rows subject (command.CreateTrust body) = parties (Some body.trustor) (Some body.trustee)
+target_of rows subject (command.Trusts filter) =
+    parties (value_in filter.fields (codes "trustor_user_id")) (value_in filter.fields (codes "trustee_user_id"))
+target_of rows subject (command.Trust id) = of_trust rows id
+target_of rows subject (command.DeleteTrust id) = of_trust rows id
+target_of rows subject (command.TrustRoles id) = of_trust rows id
+target_of rows subject other = []

@@ -1,0 +1,147 @@
+-- When the text of a token is valid: the lines of its validity, in their order.
+use Rattle.std.specs.Prelude.{ℕ, Bool, true, false, not, ◌&&◌, ◌||◌, if◌then◌else◌, nat_lt, List, [], ◌∷◌, length, Option, Some, None, is_some, option_map}
+use Rattle.std.specs.List.{list_all}
+use Rattle.std.specs.Option.{option_and_then, option_map_or, option_or}
+use Rattle.ks_base.specs.declared.events.Holder.{Holder}
+use Rattle.ks_base.specs.declared.grants.Target.TheVariants as target
+use Rattle.ks_base.specs.declared.trusts.TrustRow.{TrustRow}
+use Rattle.ks_base.specs.Revocation.{is_revoked}
+use Rattle.ks_base.specs.Rows.{Id, Text, Rows, same, project_of, trust_of, user_of}
+use Rattle.ks_base.specs.Trusts.{first_within, is_expired}
+use Rattle.ks_fernet.specs.declared.opening.OpenAnswer.{OpenAnswer}
+use Rattle.ks_fernet.specs.declared.opening.OpenAnswer.TheVariants.{NotText, No, Yes}
+use Rattle.ks_machine.specs.TokenLines.{token_lines}
+use Rattle.ks_machine.specs.declared.why.Why.{Why}
+use Rattle.ks_machine.specs.declared.why.Why.TheVariants as why
+use Rattle.ks_payload.specs.declared.payload.Payload.{Payload}
+use Rattle.ks_machine.specs.Attempts.{Attempt, Go, Lacks, Keys, ◌>>=◌, Known, decided, need}
+use Rattle.ks_machine.specs.Effective.{closure, is_effective, roles_at}
+use Rattle.ks_ring.specs.declared.held_key.HeldKey.{HeldKey}
+use Rattle.ks_machine.specs.States.{State, is_domain_on, is_project_on, is_user_on}
+
+-- opening
+
+-- what the first key that opens the text finds: the keys are tried in the order of the ring
+abbrev pub opened_by : Option OpenAnswer → OpenAnswer → OpenAnswer
+opened_by (Some (Yes time plain)) below = Yes time plain
+opened_by (Some NotText) below = NotText
+opened_by (Some No) below = below
+opened_by None below = below
+
+unfoldable pub opened : Known → Text → List HeldKey → OpenAnswer
+opened known text [] = No
+opened known text (key ∷ keys) = opened_by (known.answer key text) (opened known text keys)
+
+-- the keys whose fact is lacking, above which none is known to open the text
+abbrev pub lacking_by : Option OpenAnswer → HeldKey → List HeldKey → List HeldKey
+lacking_by None key below = key ∷ below
+lacking_by (Some (Yes time plain)) key below = []
+lacking_by (Some No) key below = below
+lacking_by (Some NotText) key below = below
+
+unfoldable pub lacking : Known → Text → List HeldKey → List HeldKey
+lacking known text [] = []
+lacking known text (key ∷ keys) = lacking_by (known.answer key text) key (lacking known text keys)
+
+abbrev pub unless_lacking : {E : Type 0} → List HeldKey → OpenAnswer → Attempt E OpenAnswer
+unless_lacking [] answer = Go answer
+unless_lacking (key ∷ keys) answer = Lacks (Keys (key ∷ keys))
+
+unfoldable pub opens : {E : Type 0} → Known → List HeldKey → Text → Attempt E OpenAnswer
+opens known keys text = unless_lacking (lacking known text keys) (opened known text keys)
+
+-- the rows that a payload names
+
+abbrev pub trust_named : Rows → Payload → Option TrustRow
+trust_named rows payload = option_and_then (λ id. trust_of id rows.trusts) payload.trust
+
+abbrev pub project_domain : Rows → Option Id → Option Id
+project_domain rows project = option_and_then (λ id. option_map (λ row. row.domain) (project_of id rows.projects)) project
+
+-- the domain of the scope, or that of the project of the scope
+abbrev pub scope_domain : Rows → Payload → Option Id
+scope_domain rows payload = option_or payload.domain (project_domain rows payload.project)
+
+-- what revocations look at in a token
+unfoldable pub holder : Rows → Payload → Holder
+holder rows payload = record {
+  audit = payload.audit;
+  user = payload.user;
+  trustor = option_map (λ trust. trust.trustor) (trust_named rows payload);
+  trustee = option_map (λ trust. trust.trustee) (trust_named rows payload);
+  project = payload.project;
+  trust = payload.trust;
+  user_domain = option_map (λ user. user.domain) (user_of payload.user rows.users);
+  scope_domain = scope_domain rows payload;
+}
+
+-- lines
+
+abbrev pub is_scope_on : Rows → Payload → Bool
+is_scope_on rows payload =
+    option_map_or (is_domain_on rows) payload.domain true && option_map_or (is_project_on rows) payload.project true
+
+-- the trustor at the end of the chain of a trust
+abbrev pub first_of_chain : Rows → TrustRow → Id
+first_of_chain rows trust = first_within (length rows.trusts) rows.trusts trust
+
+-- with impersonation a token of the trust is the trustor's, else the trustee's
+abbrev pub user_by : TrustRow → Id
+user_by trust = if trust.impersonation then trust.trustor else trust.trustee
+
+unfoldable pub is_trust_on : Rows → ℕ → Payload → TrustRow → Bool
+is_trust_on rows moment payload trust =
+    not (is_expired trust.expires moment)
+    && (option_map_or (same trust.project) payload.project false
+    && (is_user_on rows trust.trustor && (is_user_on rows trust.trustee
+    && (is_user_on rows (first_of_chain rows trust) && same (user_by trust) payload.user))))
+
+abbrev pub is_trust_line : Rows → ℕ → Payload → Bool
+is_trust_line rows moment payload =
+    option_map_or (λ id. option_map_or (is_trust_on rows moment payload) (trust_of id rows.trusts) false) payload.trust true
+
+-- the roles of a token: those of its trust and what these imply, those that the user has at its scope, or none
+abbrev pub trust_roles : Rows → Option TrustRow → List Id
+trust_roles rows None = []
+trust_roles rows (Some trust) = closure rows trust.roles
+
+unfoldable pub roles_of : Rows → Payload → List Id
+roles_of rows payload = by_scope payload.trust payload.project payload.domain
+  where
+    by_scope : Option Id → Option Id → Option Id → List Id
+    by_scope (Some trust) project domain = trust_roles rows (trust_of trust rows.trusts)
+    by_scope None (Some project) domain = roles_at rows payload.user (target.Project project)
+    by_scope None None (Some domain) = roles_at rows payload.user (target.Domain domain)
+    by_scope None None None = []
+
+abbrev pub is_scoped : Payload → Bool
+is_scoped payload = is_some payload.domain || is_some payload.project
+
+-- the first trustor has this role at the project of the trust
+abbrev pub is_kept : Rows → TrustRow → Id → Bool
+is_kept rows trust role = is_effective rows (first_of_chain rows trust) (target.Project trust.project) role
+
+abbrev pub are_kept : Rows → Payload → Bool
+are_kept rows payload = option_map_or (λ trust. list_all (is_kept rows trust) trust.roles) (trust_named rows payload) true
+
+abbrev pub has_roles : Rows → Payload → Bool
+has_roles rows payload = (not (is_scoped payload) || nat_lt 0 (length (roles_of rows payload))) && are_kept rows payload
+
+-- a valid token
+
+pub record Valid : Type 0 where
+  pub payload : Payload
+  pub issued : ℕ
+  pub roles : List Id
+
+-- the first line that does not hold, or what the token holds
+unfoldable pub validity : Known → State → ℕ → Text → Attempt Why Valid
+validity known S moment text = do
+  answer ← opens known S.ring.held text
+  held ← decided (token_lines S.settings.life moment answer)
+  _ ← need (not (is_revoked S.events (holder S.rows held.payload) held.issued)) why.Revoked
+  _ ← need (is_user_on S.rows held.payload.user) why.User
+  _ ← need (is_scope_on S.rows held.payload) why.Scope
+  _ ← need (is_trust_line S.rows moment held.payload) why.Trust
+  _ ← need (has_roles S.rows held.payload) why.Roles
+  Go (record { payload = held.payload; issued = held.issued; roles = roles_of S.rows held.payload })
