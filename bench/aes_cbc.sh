@@ -8,7 +8,7 @@ set -e
 ${CC:-cc} -O2 -o "$work/aes_cbc" "$top/bench/aes_cbc.c"
 "$work/aes_cbc"
 
-begin aes_cbc_bench 'ks_aes_cbc anyhow' ks_aes_cbc
+begin aes_cbc_bench 'ks_aes_cbc anyhow'
 cat > src/main.rt <<'END'
 //! Times sealing and opening 200 times 1 MiB.
 #![tactic(auto)]

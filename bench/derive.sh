@@ -18,7 +18,7 @@ end = time.process_time_ns()
 print(end - start, total % 2**64)
 END
 
-begin derive_bench 'ks_hmac anyhow' ks_hmac
+begin derive_bench 'ks_hmac anyhow'
 cat > src/main.rt <<'END'
 //! Times 10 keys of 10,000 rounds.
 #![tactic(auto)]

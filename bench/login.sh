@@ -5,7 +5,7 @@
 set -e
 . "$(dirname "$0")/program.sh"
 
-begin login_bench 'ks_base ks_shape anyhow' ks_base ks_aes_cbc ks_hmac ks_fernet ks_payload ks_rule ks_machine ks_time ks_shape
+begin login_bench 'ks_base ks_shape anyhow'
 cat > src/main.rt <<'END'
 //! Reads the body of a login as often as the first word says.
 #![tactic(auto)]

@@ -40,7 +40,7 @@ for token in TOKENS:
 print("];")
 ') > "$work/consts"
 
-begin open_bench 'ks_base ks_fernet anyhow' ks_base ks_aes_cbc ks_hmac ks_fernet
+begin open_bench 'ks_base ks_fernet anyhow'
 cat > src/main.rt <<'END'
 //! Times opening 16 tokens 12,500 times.
 #![tactic(auto)]

@@ -7,18 +7,33 @@ trap 'rm -rf "$work"' EXIT
 one=
 if command -v taskset > /dev/null; then one='taskset -c 0'; fi
 
-# begin NAME NEEDS CRATE...: begins a program that needs some of these crates, and goes to its folder, where
-# src/main.rt is to be written.
+# below NEEDS: the crates of the workspace among these, and all below them.
+below() {
+    awk -v needs="$1" '
+        function visit(name,    words, count, i) {
+            if (!(name in below) || seen[name]++) return
+            count = split(below[name], words, " ")
+            for (i = 1; i <= count; i++) visit(words[i])
+            print name
+        }
+        !/^#/ { name = $1; sub(":", "", name); below[name] = substr($0, index($0, ":") + 1) }
+        END { count = split(needs, words, " "); for (i = 1; i <= count; i++) visit(words[i]) }
+    ' "$top/crates.txt"
+}
+
+# begin NAME NEEDS: begins a program that needs these crates and libraries, and goes to its folder, where src/main.rt
+# is to be written.
 begin() {
     name=$1
     needs=$2
-    shift 2
     mkdir "$work/crates"
-    for crate; do cp -r "$top/crates/$crate" "$work/crates/"; done
     : > "$work/crates.txt"
     cd "$work"
     rt new "crates/$name" start_io > /dev/null
-    for crate; do grep "^$crate:" "$top/crates.txt"; done > crates.txt
+    for crate in $(below "$needs"); do
+        cp -r "$top/crates/$crate" "$work/crates/"
+        grep "^$crate:" "$top/crates.txt" >> crates.txt
+    done
     echo "$name: $needs" >> crates.txt
     cd "crates/$name"
     rm -rf src specs proofs stdin stdout args data
