@@ -1,0 +1,4 @@
+pub mod FactLemmas
+pub mod OpeningLemmas
+pub mod LineLemmas
+pub mod RoleLemmas

@@ -1,0 +1,19 @@
+//! What a token's text says to the tables of the moment: the facts of ciphers that a decision may use, and the
+//! validation of a token (Identity API v3; Fernet tokens). It opens nothing by itself: what keys make of texts it
+//! finds among the facts, and names that one is lacking.
+#![tactic(auto)]
+
+mod facts;
+mod opening;
+mod roles;
+mod scope;
+mod tables;
+#[cfg(test)]
+mod tests;
+mod validity;
+mod verdict;
+
+pub use facts::Facts;
+pub use tables::Tables;
+pub use validity::validate;
+pub use verdict::Verdict;

@@ -1,0 +1,17 @@
+use ks_assign::Grants;
+use ks_machine::Settings;
+use ks_people::People;
+use ks_ring::Ring;
+use ks_roles::Roles;
+use ks_tree::Tree;
+
+/// The tables that a validation looks at.
+#[derive(Clone, Copy)]
+pub struct Tables<'a> {
+    pub tree: &'a Tree,
+    pub people: &'a People,
+    pub roles: &'a Roles,
+    pub grants: &'a Grants,
+    pub ring: &'a Ring,
+    pub settings: &'a Settings,
+}
