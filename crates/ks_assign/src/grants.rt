@@ -1,17 +1,17 @@
 ghost use Rattle.std.specs.Prelude.{◌≡◌, ◌≢◌, [], not, filter, Ok, Err, false, is_none, IsSome, IfOk, IsTrue};
+ghost use Rattle.ks_base.specs.declared.limits.TheConstants.{GRANTS};
 ghost use Rattle.ks_base.specs.Orders.{grant_cmp};
 ghost use Rattle.ks_base.specs.Refusals.{Changes, Decides};
 ghost use Rattle.ks_base.specs.Tables.{IsAscending, find_row};
-ghost use Rattle.ks_assign.specs.Grants.{stands, with_grant, without_grant, grant_fault, ungrant_fault, is_of_actor, is_at_target, is_of_role};
+ghost use Rattle.ks_base.specs.Grants.{stands, with_grant, without_grant, grant_fault, ungrant_fault, is_of_actor, is_at_target, is_of_role};
 
 use crate::named::{Elsewhere, OfOtherRoles, OfOthers};
+use ks_base::limits::GRANTS;
 use ks_base::{Actor, GrantList, GrantRow, Id, Kind, Memory, RowFault, RowSet, Target, refuse_if};
 use std::alloc::Global;
 use std::marker::Model;
 
-const LIMIT: usize = 262_144;
-
-/// Grants, each once: by actor (users first), target (domains first), whether they are inherited (those that
+/// Grants, each once: by actor (users first), target (the system first, then domains), whether they are inherited (those that
 /// are not first) and role.
 #[derive(Drop)]
 pub struct Grants {
@@ -48,7 +48,7 @@ impl Grants {
     {
         let _actor = &row.actor;
         refuse_if(
-            !self.rows.has(&row) && self.rows.len() >= LIMIT,
+            !self.rows.has(&row) && self.rows.len() >= GRANTS,
             RowFault::Full(Kind::Grant),
         )?;
         Ok(self.rows.add(row)?)
@@ -78,7 +78,7 @@ impl Grants {
         self.rows.keep(&OfOthers { actor });
     }
 
-    /// Takes all grants at the project or domain back.
+    /// Takes all grants at the target back.
     pub fn drop_target(&mut self, target: &Target)
         ensures { self.new ≡ filter (λ row. not (is_at_target target.now row)) self.old }
     {

@@ -3,7 +3,5 @@
 
 mod grants;
 mod named;
-#[cfg(test)]
-mod tests;
 
 pub use grants::Grants;

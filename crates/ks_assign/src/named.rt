@@ -1,6 +1,6 @@
 //! The tests by which grants are kept.
 ghost use Rattle.std.specs.Prelude.{◌≡◌, not};
-ghost use Rattle.ks_assign.specs.Grants.{is_of_actor, is_at_target, is_of_role};
+ghost use Rattle.ks_base.specs.Grants.{is_of_actor, is_at_target, is_of_role};
 
 use ks_base::{Actor, GrantRow, Id, Target, Test};
 
@@ -38,6 +38,7 @@ fn is_at_target(target: &Target, row: &GrantRow) -> bool
     match (target, &row.target) {
         (Target::Project(wanted), Target::Project(id)) => id == wanted,
         (Target::Domain(wanted), Target::Domain(id)) => id == wanted,
+        (Target::System, Target::System) => true,
         _ => false,
     }
 }

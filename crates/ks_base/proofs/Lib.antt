@@ -1,3 +1,4 @@
+pub mod ChainLemmas
 pub mod IdLemmas
 pub mod PairLemmas
 pub mod PlaceLemmas

@@ -14,7 +14,7 @@ walk_on rows from to (step ∷ steps) row walk among is =
     (step ∷ more.0, (walk.0, walk.1, more.1))
 
 -- a walk and another
-walk_then : (rows : List ImplyRow) (from on to : Id) (steps later : List ImplyRow) →
+pub walk_then : (rows : List ImplyRow) (from on to : Id) (steps later : List ImplyRow) →
     IsWalk rows from steps on → IsWalk rows on later to → Walks rows from to
 walk_then rows from on to [] later walk more = (later, subst (λ (x : Id). IsWalk rows x later to) (sym walk) more)
 walk_then rows from on to (step ∷ steps) later walk more =

@@ -5,8 +5,16 @@ pub mod Orders
 pub mod Places
 pub mod Tables
 pub mod Refusals
+pub mod Limits
 pub mod Rows
 pub mod Tree
 pub mod Roles
+pub mod Trees
+pub mod TreeFaults
+pub mod People
+pub mod PeopleFaults
+pub mod RoleLists
+pub mod RoleFaults
+pub mod Grants
 pub mod Revocation
 pub mod Trusts

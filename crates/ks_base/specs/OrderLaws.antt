@@ -13,7 +13,7 @@ use Rattle.ks_base.specs.declared.grants.GrantRow.{GrantRow}
 use Rattle.ks_base.specs.declared.grants.ImplyRow.{ImplyRow}
 use Rattle.ks_base.specs.declared.users.MemberRow.{MemberRow}
 use Rattle.ks_base.specs.Tables.{id_cmp}
-use Rattle.ks_base.specs.Orders.{actor_rank, actor_id, actor_cmp, target_rank, target_id, target_cmp, grant_cmp, member_cmp, imply_cmp}
+use Rattle.ks_base.specs.Orders.{actor_rank, actor_id, actor_cmp, target_rank, target_bytes, target_cmp, grant_cmp, member_cmp, imply_cmp}
 
 then_equal : (o p : Ordering) → ordering_then o p ≡ Equal → (o ≡ Equal) × (p ≡ Equal)
 then_equal Less p e = cc
@@ -48,8 +48,13 @@ actor_exact (actors.Group a) (actors.Group b) e = ap actors.Group (id_exact a b 
 pub target_exact : (a b : Target) → target_cmp a b ≡ Equal → a ≡ b
 target_exact (targets.Project a) (targets.Project b) e = ap targets.Project (id_exact a b e)
 target_exact (targets.Project a) (targets.Domain b) e = cc
+target_exact (targets.Project a) targets.System e = cc
 target_exact (targets.Domain a) (targets.Project b) e = cc
 target_exact (targets.Domain a) (targets.Domain b) e = ap targets.Domain (id_exact a b e)
+target_exact (targets.Domain a) targets.System e = cc
+target_exact targets.System (targets.Project b) e = cc
+target_exact targets.System (targets.Domain b) e = cc
+target_exact targets.System targets.System e = refl
 
 pub grant_exact : (a b : GrantRow) → grant_cmp a b ≡ Equal → a ≡ b
 grant_exact a b e =
@@ -80,7 +85,7 @@ pub actor_total : IsTotalOrder actor_cmp
 actor_total = then_total (on_total actor_rank nat_cmp_total) (on_total actor_id nat_list_cmp_total)
 
 pub target_total : IsTotalOrder target_cmp
-target_total = then_total (on_total target_rank nat_cmp_total) (on_total target_id nat_list_cmp_total)
+target_total = then_total (on_total target_rank nat_cmp_total) (on_total target_bytes nat_list_cmp_total)
 
 pub grant_total : IsTotalOrder grant_cmp
 grant_total =

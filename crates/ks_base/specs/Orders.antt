@@ -1,5 +1,6 @@
 -- The orders of the rows that are their own key.
-use Rattle.std.specs.Prelude.{ℕ, List}
+use Rattle.std.specs.Prelude.{ℕ, List, [], Option, Some, None}
+use Rattle.std.specs.Option.{option_map_or}
 use Rattle.std.specs.declared.cmp.Ordering.{Ordering}
 use Rattle.std.specs.Ordering.{nat_cmp, bool_cmp, then_cmp, on}
 use Rattle.ks_base.specs.declared.grants.Actor.{Actor}
@@ -23,17 +24,24 @@ actor_id (actors.Group id) = id
 abbrev pub actor_cmp : Actor → Actor → Ordering
 actor_cmp = then_cmp (on actor_rank nat_cmp) (on actor_id id_cmp)
 
--- domains before projects
+-- the system before domains, and these before projects
 abbrev pub target_rank : Target → ℕ
-target_rank (targets.Domain id) = 0
-target_rank (targets.Project id) = 1
+target_rank targets.System = 0
+target_rank (targets.Domain id) = 1
+target_rank (targets.Project id) = 2
 
-abbrev pub target_id : Target → List ℕ
-target_id (targets.Domain id) = id
-target_id (targets.Project id) = id
+-- the system has no id
+abbrev pub target_id : Target → Option (List ℕ)
+target_id targets.System = None
+target_id (targets.Domain id) = Some id
+target_id (targets.Project id) = Some id
+
+-- the bytes of the id, if there is one
+abbrev pub target_bytes : Target → List ℕ
+target_bytes at = option_map_or (λ id. id) (target_id at) []
 
 abbrev pub target_cmp : Target → Target → Ordering
-target_cmp = then_cmp (on target_rank nat_cmp) (on target_id id_cmp)
+target_cmp = then_cmp (on target_rank nat_cmp) (on target_bytes id_cmp)
 
 -- by actor, target, whether it is inherited (no before yes) and role
 abbrev pub grant_cmp : GrantRow → GrantRow → Ordering

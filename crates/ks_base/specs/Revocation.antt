@@ -6,6 +6,7 @@ use Rattle.ks_base.specs.declared.events.Revoke.{Revoke}
 use Rattle.ks_base.specs.declared.events.Revoke.TheVariants as revoke
 use Rattle.ks_base.specs.declared.events.EventRow.{EventRow}
 use Rattle.ks_base.specs.declared.events.Holder.{Holder}
+use Rattle.ks_base.specs.declared.limits.TheConstants.{EXPIRED_WINDOW, EVENT_GRACE}
 use Rattle.ks_base.specs.Rows.{Id, same}
 
 abbrev pub has : Option Id → Id → Bool
@@ -28,9 +29,17 @@ matches event holder issued = nat_le issued event.moment && names event.what hol
 abbrev pub is_revoked : List EventRow → Holder → ℕ → Bool
 is_revoked events holder issued = list_any (λ event. matches event holder issued) events
 
--- an event is live for as long as a token that it may revoke could live, and half an hour more
+-- how long past its expiry a token may still be asked for, in seconds: two days
+abbrev pub window : ℕ
+window = EXPIRED_WINDOW
+
+-- and half an hour more
+abbrev pub kept_for : ℕ
+kept_for = EVENT_GRACE
+
+-- an event is live for as long as a token that it may revoke could live and be asked for, and half an hour more
 abbrev pub is_live : ℕ → ℕ → EventRow → Bool
-is_live life high event = nat_le high (event.moment + life + 1800)
+is_live life high event = nat_le high (event.moment + life + kept_for)
 
 abbrev pub live : ℕ → ℕ → List EventRow → List EventRow
 live life high events = filter (is_live life high) events

@@ -36,13 +36,16 @@ pub record LiesIn (projects : List ProjectRow) (domain project : Id) : Type 0 wh
   pub id_is : row.id ≡ project
   pub domain_is : row.domain ≡ domain
 
--- a direct grant reaches its target; an inherited one on a domain reaches the domain's projects and not
--- the domain; an inherited one on a project reaches its descendants and not the project
+-- a direct grant reaches its target, which may be the system; an inherited one on a domain reaches the
+-- domain's projects and not the domain; an inherited one on a project reaches its descendants and not the
+-- project; none is inherited from the system, and none but one on the system reaches it
 abbrev pub Reaches : List ProjectRow → Bool → Target → Target → Type 0
 Reaches projects false granted wanted = granted ≡ wanted
 Reaches projects true (target.Domain domain) (target.Project project) = LiesIn projects domain project
 Reaches projects true (target.Project above) (target.Project project) = Among (ancestors projects project) above
+Reaches projects true target.System (target.Project project) = ⊥
 Reaches projects true granted (target.Domain domain) = ⊥
+Reaches projects true granted target.System = ⊥
 
 -- a role is effective for a user on a target
 pub record Effective (rows : Rows) (user : Id) (wanted : Target) (role : Id) : Type 0 where

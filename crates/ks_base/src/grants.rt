@@ -1,4 +1,5 @@
 ghost use Rattle.std.specs.Prelude.{◌≡◌};
+ghost use Rattle.std.specs.Option.{option_copied};
 ghost use Rattle.ks_base.specs.Orders.{actor_rank, actor_id, actor_cmp, target_rank, target_id, target_cmp};
 
 use crate::{Id, Memory, Ordered, TryCopy};
@@ -16,6 +17,8 @@ pub enum Actor {
 pub enum Target {
     Project(Id),
     Domain(Id),
+    /// The whole system, and no project or domain of it.
+    System,
 }
 
 /// That an actor has a role at a target; `inherited`: at all projects below the target instead.
@@ -65,13 +68,14 @@ impl Actor {
 }
 
 impl Target {
-    /// The id of the project or domain.
-    pub fn id(&self) -> &Id
-        ensures { result.now ≡ target_id self.now }
+    /// The id of the project or domain; the system has none.
+    pub fn id(&self) -> Option<&Id>
+        ensures { option_copied result ≡ target_id self.now }
     {
         match self {
-            Target::Project(id) => id,
-            Target::Domain(id) => id,
+            Target::Project(id) => Some(id),
+            Target::Domain(id) => Some(id),
+            Target::System => None,
         }
     }
 
@@ -79,18 +83,21 @@ impl Target {
         ensures { result ≡ target_rank self.now }
     {
         match self {
-            Target::Domain(_) => 0,
-            Target::Project(_) => 1,
+            Target::System => 0,
+            Target::Domain(_) => 1,
+            Target::Project(_) => 2,
         }
     }
 
-    /// Domains come before projects, and each by their ids.
+    /// The system comes before domains, and these before projects, each by their ids.
     pub fn compare(&self, other: &Target) -> Ordering
         ensures { result ≡ target_cmp self.now other.now }
     {
-        self.rank()
-            .cmp(&other.rank())
-            .then(self.id().cmp(other.id()))
+        match (self, other) {
+            (Target::Project(id), Target::Project(other_id)) => id.cmp(other_id),
+            (Target::Domain(id), Target::Domain(other_id)) => id.cmp(other_id),
+            (_, _) => self.rank().cmp(&other.rank()),
+        }
     }
 }
 

@@ -14,8 +14,6 @@ pub enum Kind {
     Trust,
     /// A revocation.
     Event,
-    /// The changes that are noted.
-    Journal,
 }
 
 impl TryCopy for Kind {

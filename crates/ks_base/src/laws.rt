@@ -1,5 +1,5 @@
-//! What grants and implications mean, as laws of the definitions.
-ghost use Rattle.std.specs.Prelude.{◌≡◌, ◌↔◌, List, true, false};
+//! What grants, implications and chains of trusts mean, as laws of the definitions.
+ghost use Rattle.std.specs.Prelude.{◌≡◌, ◌↔◌, Bool, List, true, false};
 ghost use Rattle.ks_base.specs.declared.grants.Actor.TheVariants as actors;
 ghost use Rattle.ks_base.specs.declared.grants.ImplyRow.{ImplyRow};
 ghost use Rattle.ks_base.specs.declared.grants.Target.TheVariants as targets;
@@ -8,6 +8,8 @@ ghost use Rattle.ks_base.specs.declared.users.MemberRow.{MemberRow};
 ghost use Rattle.ks_base.specs.Rows.{Id, Rows};
 ghost use Rattle.ks_base.specs.Tables.{Among};
 ghost use Rattle.ks_base.specs.Roles.{Acts, Reaches, Effective, IsImplied};
+ghost use Rattle.ks_base.specs.declared.trusts.TrustRow.{TrustRow};
+ghost use Rattle.ks_base.specs.Trusts.{DescendsFrom, LeadsTo, IsChained, AreChained, first_trustor, first_of_new, goes};
 
 /// An inherited grant on a domain reaches neither that domain nor another one.
 pub fn inherited_misses_its_domain()
@@ -38,4 +40,21 @@ pub fn implied_again_is_implied()
 /// More roles and more implications imply no less.
 pub fn implied_of_more()
     ensures { (implications more_implications : List ImplyRow) (roles more_roles : List Id) → ((row : ImplyRow) → Among implications row → Among more_implications row) → ((id : Id) → Among roles id → Among more_roles id) → (role : Id) → IsImplied implications roles role → IsImplied more_implications more_roles role }
+{}
+
+/// Where counts rise from parent to parent, what is computed as the first trustor of a trust is the one to whom
+/// it leads.
+pub fn trust_leads_to_its_first_trustor()
+    ensures { (trusts : List TrustRow) (trust : TrustRow) (first : Id) → AreChained trusts → IsChained trusts trust → LeadsTo trusts trust first ↔ (first_trustor trusts trust ≡ first) }
+{}
+
+/// A trust that is to be made leads to the first trustor of its parent, or to its own trustor.
+pub fn new_trust_leads_as_its_parent()
+    ensures { (trusts : List TrustRow) (trust : TrustRow) (first : Id) → AreChained trusts → IsChained trusts trust → LeadsTo trusts trust first ↔ (first_of_new trusts trust ≡ first) }
+{}
+
+/// A trust goes exactly where it descends from one that is touched.
+#[tactic(auto, using(crate::proofs::ChainLemmas::goes_from))]
+pub fn trust_goes_with_those_above()
+    ensures { (trusts : List TrustRow) (touched : TrustRow → Bool) (trust : TrustRow) → AreChained trusts → IsChained trusts trust → (goes trusts touched trust ≡ true) ↔ ((top : TrustRow) × DescendsFrom trusts trust top × (touched top ≡ true)) }
 {}

@@ -10,6 +10,7 @@ mod id;
 mod key;
 mod kinds;
 mod laws;
+pub mod limits;
 mod list;
 mod lists;
 mod memory;
@@ -33,7 +34,8 @@ pub use key::Key;
 pub use kinds::Kind;
 pub use laws::{
     group_grant_is_its_members, implied_again_is_implied, implied_of_more,
-    inherited_misses_its_domain, named_is_implied, on_domain_is_direct,
+    inherited_misses_its_domain, named_is_implied, new_trust_leads_as_its_parent,
+    on_domain_is_direct, trust_goes_with_those_above, trust_leads_to_its_first_trustor,
 };
 pub use list::{ListOf, TryCopy};
 pub use lists::{
@@ -51,12 +53,3 @@ pub use table::{Row, Table, Test};
 pub use text::Text;
 pub use trusts::TrustRow;
 pub use users::{MemberRow, PasswordRow, UserRow};
-
-#[cfg(test)]
-mod grant_tests;
-#[cfg(test)]
-mod row_tests;
-#[cfg(test)]
-mod table_tests;
-#[cfg(test)]
-mod tests;

@@ -9,7 +9,7 @@ use Rattle.ks_base.specs.Roles.{Acts}
 use Rattle.ks_base.specs.Rows.{Id}
 use Rattle.ks_base.specs.Tables.{Among}
 use Rattle.ks_base.proofs.RowLemmas.{among_filter, filter_among}
-use Rattle.ks_people.specs.State.{is_of_user}
+use Rattle.ks_base.specs.People.{is_of_user}
 use Rattle.ks_effective.specs.Actors.{include}
 use Rattle.ks_effective.proofs.ListLemmas.{among_map, map_among, any-Decides}
 

@@ -45,6 +45,8 @@ on_domain projects id false (target.Project at) = (λ is. cc, λ is. cc)
 on_domain projects id false (target.Domain at) = (λ is. ap target.Domain ((bytes_eq-Decides at id).0 is), λ is. let alike : at ≡ id = cc in (bytes_eq-Decides at id).1 alike)
 on_domain projects id true (target.Project at) = (λ is. cc, λ none. absurd none)
 on_domain projects id true (target.Domain at) = (λ is. cc, λ none. absurd none)
+on_domain projects id false target.System = (λ is. cc, λ is. cc)
+on_domain projects id true target.System = (λ is. cc, λ none. absurd none)
 
 pub domain-Decides : (projects : List ProjectRow) (id : Id) (row : GrantRow) →
     Decides (includes (reach.Domain id) row) (Reaches projects row.inherited row.target (target.Domain id))
@@ -58,6 +60,22 @@ on_project projects id up false (target.Domain at) = (λ is. cc, λ is. cc)
 on_project projects id up false (target.Project at) = (λ is. ap target.Project ((bytes_eq-Decides at id).0 is), λ is. let alike : at ≡ id = cc in (bytes_eq-Decides at id).1 alike)
 on_project projects id up true (target.Domain at) = (λ is. domain_lies projects id at (project_of id projects) refl is, λ lies. lies_domain projects id at up lies)
 on_project projects id up true (target.Project at) = any-Decides at (ancestors projects id)
+on_project projects id up false target.System = (λ is. cc, λ is. cc)
+on_project projects id up true target.System = (λ is. cc, λ none. absurd none)
+
+-- the grants that reach the system stand on it
+on_system : (projects : List ProjectRow) (inherited : Bool) (granted : Target) →
+    Decides (reached_from reach.System inherited granted) (Reaches projects inherited granted target.System)
+on_system projects false (target.Project at) = (λ is. cc, λ is. cc)
+on_system projects false (target.Domain at) = (λ is. cc, λ is. cc)
+on_system projects false target.System = (λ is. refl, λ is. refl)
+on_system projects true (target.Project at) = (λ is. cc, λ none. absurd none)
+on_system projects true (target.Domain at) = (λ is. cc, λ none. absurd none)
+on_system projects true target.System = (λ is. cc, λ none. absurd none)
+
+pub system-Decides : (projects : List ProjectRow) (row : GrantRow) →
+    Decides (includes reach.System row) (Reaches projects row.inherited row.target target.System)
+system-Decides projects row = on_system projects row.inherited row.target
 
 pub project-Decides : (projects : List ProjectRow) (id : Id) (domain : Option Id) (above : List Id) → IsAscending id_cmp (λ row. row.id) projects →
     domain ≡ option_map (λ row. row.domain) (project_of id projects) → above ≡ ancestors projects id → (row : GrantRow) →

@@ -14,11 +14,19 @@ is_given (Some given) id = same given id
 
 -- on the target itself a grant is not inherited; on a project's domain and on its ancestors it is
 abbrev pub reached_from : Reach → Bool → Target → Bool
+reached_from reach.System false target.System = true
+reached_from reach.System false (target.Domain at) = false
+reached_from reach.System false (target.Project at) = false
+reached_from reach.System true at = false
+reached_from (reach.Domain id) false target.System = false
 reached_from (reach.Domain id) false (target.Domain at) = same at id
+reached_from (reach.Domain id) false (target.Project at) = false
+reached_from (reach.Domain id) true at = false
+reached_from (reach.Project id domain ancestors) inherited target.System = false
+reached_from (reach.Project id domain ancestors) false (target.Domain at) = false
 reached_from (reach.Project id domain ancestors) false (target.Project at) = same at id
 reached_from (reach.Project id domain ancestors) true (target.Domain at) = is_given domain at
 reached_from (reach.Project id domain ancestors) true (target.Project at) = list_any (λ ancestor. same ancestor at) ancestors
-reached_from other inherited at = false
 
 abbrev pub includes : Reach → GrantRow → Bool
 includes reach row = reached_from reach row.inherited row.target

@@ -2,9 +2,9 @@
 use Rattle.std.specs.Prelude.{List, []}
 use Rattle.ks_base.specs.declared.grants.GrantRow.{GrantRow}
 use Rattle.ks_base.specs.Rows.{Rows}
-use Rattle.ks_tree.specs.State.{TreeState}
-use Rattle.ks_people.specs.State.{PeopleState}
-use Rattle.ks_roles.specs.State.{RolesState}
+use Rattle.ks_base.specs.Trees.{TreeState}
+use Rattle.ks_base.specs.People.{PeopleState}
+use Rattle.ks_base.specs.RoleLists.{RolesState}
 
 -- without trusts, on which effective roles do not depend
 abbrev pub rows_of : TreeState → PeopleState → RolesState → List GrantRow → Rows

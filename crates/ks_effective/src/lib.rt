@@ -5,8 +5,6 @@ mod actors;
 mod effective;
 mod laws;
 mod reach;
-#[cfg(test)]
-mod tests;
 
 pub use effective::roles_of;
 pub use laws::{

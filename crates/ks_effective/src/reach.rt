@@ -9,6 +9,8 @@ use ks_tree::Tree;
 /// Where the grants stand that reach a target.
 #[derive(Drop)]
 pub enum Reach {
+    /// The system: on itself, not inherited.
+    System,
     /// A domain: on itself, not inherited.
     Domain(Id),
     /// A project: on itself, not inherited, and inherited on its domain, if it stands, and on its ancestors.
@@ -25,6 +27,7 @@ impl Reach {
         ensures { IfOk result (λ reach. (row : GrantRow) → IsTrue (includes reach row) ↔ Reaches tree.now.projects row.inherited row.target target.now) }
     {
         match target {
+            Target::System => Ok(Reach::System),
             Target::Domain(id) => Ok(Reach::Domain(*id)),
             Target::Project(id) => Ok(Reach::Project {
                 id: *id,
@@ -39,6 +42,7 @@ impl Reach {
         ensures { result ≡ includes self.now row.now }
     {
         match self {
+            Reach::System => !row.inherited && row.target == Target::System,
             Reach::Domain(id) => !row.inherited && row.target == Target::Domain(*id),
             Reach::Project {
                 id,
@@ -48,6 +52,7 @@ impl Reach {
                 Target::Project(at) if row.inherited => ancestors.as_slice().contains(at),
                 Target::Project(at) => at == id,
                 Target::Domain(at) => row.inherited && *domain == Some(*at),
+                Target::System => false,
             },
         }
     }

@@ -1,16 +1,16 @@
 //! Groups: look-ups, checks and changes.
 ghost use Rattle.std.specs.Prelude.{◌≡◌, ◌≢◌, option_copied, Err};
+ghost use Rattle.ks_base.specs.declared.limits.TheConstants.{GROUPS};
 ghost use Rattle.ks_base.specs.Refusals.{fault_in, Changes, Decides};
 ghost use Rattle.ks_base.specs.Rows.{group_of};
 ghost use Rattle.ks_base.specs.Tables.{id_cmp, IsAscending};
-ghost use Rattle.ks_people.specs.State.{with_group, without_group};
-ghost use Rattle.ks_people.specs.Faults.{group_absent, group_name_taken, other_group_named, add_group_fault, set_group_fault, drop_group_fault};
+ghost use Rattle.ks_base.specs.People.{with_group, without_group};
+ghost use Rattle.ks_base.specs.PeopleFaults.{group_absent, group_name_taken, other_group_named, add_group_fault, set_group_fault, drop_group_fault};
 
 use crate::People;
 use crate::select::{GroupNamed, OfOtherGroups, OtherGroupNamed};
+use ks_base::limits::GROUPS;
 use ks_base::{GroupRow, Id, Kind, RowFault, refuse_if};
-
-const GROUP_LIMIT: usize = 16_384;
 
 impl People {
     /// The group with this id.
@@ -34,7 +34,7 @@ impl People {
 
     /// Puts the row in the place of the group with its id. Refused are an id that no group has (`Absent`) and a
     /// name that another group of the row's domain has (`NameTaken`). It takes no memory.
-    #[tactic(auto, using(ks_base::proofs::RefusalLemmas::refused), unfolding(crate::specs::Faults::set_group_fault))]
+    #[tactic(auto, using(ks_base::proofs::RefusalLemmas::refused), unfolding(ks_base::specs::PeopleFaults::set_group_fault))]
     pub fn set_group(&mut self, row: GroupRow) -> Result<(), RowFault>
         ensures changes { Changes RowFault.Memory (set_group_fault self.old row) self.old (with_group row self.old) result self.new }
         ensures memory { result ≢ Err RowFault.Memory }
@@ -45,7 +45,7 @@ impl People {
     }
 
     /// Takes a group out, with all its memberships. Refused is an id that no group has (`Absent`).
-    #[tactic(auto, unfolding(crate::specs::Faults::drop_group_fault))]
+    #[tactic(auto, unfolding(ks_base::specs::PeopleFaults::drop_group_fault))]
     pub fn drop_group(&mut self, id: &Id) -> Result<(), RowFault>
         ensures decides { Decides (drop_group_fault self.old id.now) self.old (without_group id.now self.old) result self.new }
         ensures memory { result ≢ Err RowFault.Memory }
@@ -56,19 +56,16 @@ impl People {
         Ok(())
     }
 
-    #[tactic(auto, unfolding(crate::specs::Faults::add_group_fault))]
+    #[tactic(auto, unfolding(ks_base::specs::PeopleFaults::add_group_fault))]
     fn may_add_group(&self, row: &GroupRow) -> Result<(), RowFault>
         ensures { fault_in result ≡ add_group_fault self.now row.now }
     {
         self.group_name_is_free(row)?;
-        refuse_if(
-            self.groups.len() >= GROUP_LIMIT,
-            RowFault::Full(Kind::Group),
-        )?;
+        refuse_if(self.groups.len() >= GROUPS, RowFault::Full(Kind::Group))?;
         refuse_if(self.groups.contains(&row.id), RowFault::IdTaken(row.id))
     }
 
-    #[tactic(auto, unfolding(crate::specs::Faults::set_group_fault))]
+    #[tactic(auto, unfolding(ks_base::specs::PeopleFaults::set_group_fault))]
     fn may_set_group(&self, row: &GroupRow) -> Result<(), RowFault>
         ensures { fault_in result ≡ set_group_fault self.now row.now }
     {
@@ -79,7 +76,7 @@ impl People {
         }
     }
 
-    #[tactic(auto, unfolding(crate::specs::Faults::drop_group_fault))]
+    #[tactic(auto, unfolding(ks_base::specs::PeopleFaults::drop_group_fault))]
     fn may_drop_group(&self, id: &Id) -> Result<(), RowFault>
         ensures { fault_in result ≡ drop_group_fault self.now id.now }
     {

@@ -7,8 +7,6 @@ mod lists;
 mod members;
 mod people;
 mod select;
-#[cfg(test)]
-mod tests;
 mod users;
 
 pub use people::People;

@@ -1,7 +1,7 @@
 //! The lists of ids that are shown.
 ghost use Rattle.std.specs.Prelude.{◌≡◌, map, filter, IfOk};
 ghost use Rattle.ks_base.specs.Tables.{id_cmp, IsAscending};
-ghost use Rattle.ks_people.specs.State.{is_of_user, is_of_group, users_of, group_ids, groups_of, members_of};
+ghost use Rattle.ks_base.specs.People.{is_of_user, is_of_group, users_of, group_ids, groups_of, members_of};
 
 use crate::People;
 use crate::select::{GroupIn, UserIn};

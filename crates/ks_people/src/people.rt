@@ -14,7 +14,7 @@ pub struct People {
 }
 
 impl Model for People {
-    ghost use Rattle.ks_people.specs.State.{PeopleState};
+    ghost use Rattle.ks_base.specs.People.{PeopleState};
 
     ghost Value = { PeopleState };
 

@@ -1,7 +1,7 @@
 //! The tests by which rows are looked for and kept.
 ghost use Rattle.std.specs.Prelude.{not};
-ghost use Rattle.ks_people.specs.State.{is_user_named, is_group_named, is_user_in, is_group_in, is_of_user, is_of_group};
-ghost use Rattle.ks_people.specs.Faults.{is_other_user_named, is_other_group_named};
+ghost use Rattle.ks_base.specs.People.{is_user_named, is_group_named, is_user_in, is_group_in, is_of_user, is_of_group};
+ghost use Rattle.ks_base.specs.PeopleFaults.{is_other_user_named, is_other_group_named};
 
 use ks_base::{GroupRow, Id, MemberRow, Test, Text, UserRow};
 

@@ -1,16 +1,16 @@
 //! Users: look-ups, checks and changes.
 ghost use Rattle.std.specs.Prelude.{◌≡◌, ◌≢◌, find, option_copied, Err};
+ghost use Rattle.ks_base.specs.declared.limits.TheConstants.{USERS};
 ghost use Rattle.ks_base.specs.Refusals.{fault_in, Changes, Decides};
 ghost use Rattle.ks_base.specs.Rows.{user_of};
 ghost use Rattle.ks_base.specs.Tables.{id_cmp, IsAscending};
-ghost use Rattle.ks_people.specs.State.{is_user_named, with_user, without_user};
-ghost use Rattle.ks_people.specs.Faults.{user_absent, user_name_taken, other_user_named, add_user_fault, set_user_fault, drop_user_fault};
+ghost use Rattle.ks_base.specs.People.{is_user_named, with_user, without_user};
+ghost use Rattle.ks_base.specs.PeopleFaults.{user_absent, user_name_taken, other_user_named, add_user_fault, set_user_fault, drop_user_fault};
 
 use crate::People;
 use crate::select::{OfOtherUsers, OtherUserNamed, UserNamed};
+use ks_base::limits::USERS;
 use ks_base::{Id, Kind, RowFault, Text, UserRow, refuse_if};
-
-const USER_LIMIT: usize = 65_536;
 
 impl People {
     /// The user with this id.
@@ -41,7 +41,7 @@ impl People {
 
     /// Puts the row in the place of the user with its id. Refused are an id that no user has (`Absent`) and a
     /// name that another user of the row's domain has (`NameTaken`). It takes no memory.
-    #[tactic(auto, using(ks_base::proofs::RefusalLemmas::refused), unfolding(crate::specs::Faults::set_user_fault))]
+    #[tactic(auto, using(ks_base::proofs::RefusalLemmas::refused), unfolding(ks_base::specs::PeopleFaults::set_user_fault))]
     pub fn set_user(&mut self, row: UserRow) -> Result<(), RowFault>
         ensures changes { Changes RowFault.Memory (set_user_fault self.old row) self.old (with_user row self.old) result self.new }
         ensures memory { result ≢ Err RowFault.Memory }
@@ -52,7 +52,7 @@ impl People {
     }
 
     /// Takes a user out, with all its memberships. Refused is an id that no user has (`Absent`).
-    #[tactic(auto, unfolding(crate::specs::Faults::drop_user_fault))]
+    #[tactic(auto, unfolding(ks_base::specs::PeopleFaults::drop_user_fault))]
     pub fn drop_user(&mut self, id: &Id) -> Result<(), RowFault>
         ensures decides { Decides (drop_user_fault self.old id.now) self.old (without_user id.now self.old) result self.new }
         ensures memory { result ≢ Err RowFault.Memory }
@@ -63,16 +63,16 @@ impl People {
         Ok(())
     }
 
-    #[tactic(auto, unfolding(crate::specs::Faults::add_user_fault))]
+    #[tactic(auto, unfolding(ks_base::specs::PeopleFaults::add_user_fault))]
     fn may_add_user(&self, row: &UserRow) -> Result<(), RowFault>
         ensures { fault_in result ≡ add_user_fault self.now row.now }
     {
         self.user_name_is_free(row)?;
-        refuse_if(self.users.len() >= USER_LIMIT, RowFault::Full(Kind::User))?;
+        refuse_if(self.users.len() >= USERS, RowFault::Full(Kind::User))?;
         refuse_if(self.users.contains(&row.id), RowFault::IdTaken(row.id))
     }
 
-    #[tactic(auto, unfolding(crate::specs::Faults::set_user_fault))]
+    #[tactic(auto, unfolding(ks_base::specs::PeopleFaults::set_user_fault))]
     fn may_set_user(&self, row: &UserRow) -> Result<(), RowFault>
         ensures { fault_in result ≡ set_user_fault self.now row.now }
     {
@@ -83,7 +83,7 @@ impl People {
         }
     }
 
-    #[tactic(auto, unfolding(crate::specs::Faults::drop_user_fault))]
+    #[tactic(auto, unfolding(ks_base::specs::PeopleFaults::drop_user_fault))]
     fn may_drop_user(&self, id: &Id) -> Result<(), RowFault>
         ensures { fault_in result ≡ drop_user_fault self.now id.now }
     {

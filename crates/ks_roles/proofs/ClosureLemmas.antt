@@ -12,7 +12,7 @@ use Rattle.ks_base.specs.Tables.{id_cmp, IsAscending, Among, find_row, put_row}
 use Rattle.ks_base.specs.OrderLaws.{id_exact}
 use Rattle.ks_base.proofs.TableLemmas.{ascending_put}
 use Rattle.ks_base.proofs.RowLemmas.{id_same, find_put, find_put_other, among_put, put_among, among_put_other, has-Decides}
-use Rattle.ks_roles.specs.State.{is_of_prior, implied_ids}
+use Rattle.ks_base.specs.RoleLists.{is_of_prior, implied_ids}
 use Rattle.ks_base.proofs.WalkLemmas.{implied_on, walk_stays, extensive}
 
 -- ids as rows that are their own key

@@ -1,7 +1,7 @@
 ghost use Rattle.std.specs.Prelude.{◌≡◌, ◌≢◌, not, None, Ok, Err, false, IfOk, IsTrue};
 ghost use Rattle.ks_base.specs.Refusals.{Changes, Decides};
-ghost use Rattle.ks_roles.specs.State.{is_implication, with_role, without_role, with_implication, without_implication};
-ghost use Rattle.ks_roles.specs.Faults.{add_fault, set_fault, drop_fault, imply_fault, unimply_fault};
+ghost use Rattle.ks_base.specs.RoleLists.{is_implication, with_role, without_role, with_implication, without_implication};
+ghost use Rattle.ks_base.specs.RoleFaults.{add_fault, set_fault, drop_fault, imply_fault, unimply_fault};
 
 use crate::Roles;
 use crate::named::Without;
@@ -21,7 +21,7 @@ impl Roles {
 
     /// Puts the row in the place of the role with its id. Refused are an id that no role has (`Absent`) and a
     /// name that another role has (`NameTaken`). It takes no memory.
-    #[tactic(auto, using(ks_base::proofs::RefusalLemmas::refused), unfolding(crate::specs::Faults::set_fault))]
+    #[tactic(auto, using(ks_base::proofs::RefusalLemmas::refused), unfolding(ks_base::specs::RoleFaults::set_fault))]
     pub fn set(&mut self, row: RoleRow) -> Result<(), RowFault>
         ensures changes { Changes RowFault.Memory (set_fault self.old row) self.old (with_role row self.old) result self.new }
         ensures memory { result ≢ Err RowFault.Memory }
@@ -46,7 +46,7 @@ impl Roles {
     /// change and takes no memory. Refused are ids that no role has (`Absent`, the prior role first), a role
     /// named `admin` as the implied one (`Prohibited`, also where the implication stands) and the 8,193rd
     /// implication (`Full`). A role may imply itself, also by way of others.
-    #[tactic(auto, using(ks_base::proofs::RefusalLemmas::refused), unfolding(crate::specs::Faults::imply_fault))]
+    #[tactic(auto, using(ks_base::proofs::RefusalLemmas::refused), unfolding(ks_base::specs::RoleFaults::imply_fault))]
     pub fn imply(&mut self, row: ImplyRow) -> Result<bool, RowFault>
         ensures changes { Changes RowFault.Memory (imply_fault self.old row) self.old (with_implication row self.old) result self.new }
         ensures new { IfOk result (λ new. new ≡ not (is_implication row self.old.implications)) }
@@ -59,7 +59,7 @@ impl Roles {
 
     /// Takes an implication back. Refused are ids that no role has (`Absent`, the prior role first) and an
     /// implication that does not stand (`Absent`, with the implied role).
-    #[tactic(auto, unfolding(crate::specs::Faults::unimply_fault))]
+    #[tactic(auto, unfolding(ks_base::specs::RoleFaults::unimply_fault))]
     pub fn unimply(&mut self, row: &ImplyRow) -> Result<(), RowFault>
         ensures decides { Decides (unimply_fault self.old row.now) self.old (without_implication row.now self.old) result self.new }
         ensures memory { result ≢ Err RowFault.Memory }

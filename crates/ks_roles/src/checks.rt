@@ -1,32 +1,30 @@
 //! The causes for which changes are refused, in the order in which they are tested.
 ghost use Rattle.std.specs.Prelude.{◌≡◌};
+ghost use Rattle.ks_base.specs.declared.limits.TheConstants.{IMPLICATIONS, ROLES};
 ghost use Rattle.ks_base.specs.Refusals.{fault_in};
-ghost use Rattle.ks_roles.specs.Faults.{role_absent, admin_implied, implications_full, implication_absent, add_fault, set_fault, drop_fault, imply_fault, unimply_fault};
+ghost use Rattle.ks_base.specs.RoleFaults.{role_absent, admin_implied, implications_full, implication_absent, add_fault, set_fault, drop_fault, imply_fault, unimply_fault};
 
 use crate::Roles;
 use crate::named::OtherNamed;
+use ks_base::limits::{IMPLICATIONS, ROLES};
 use ks_base::{Id, ImplyRow, Kind, RoleRow, RowFault, refuse_if};
-
-const ROLE_LIMIT: usize = 1_024;
-
-const IMPLICATION_LIMIT: usize = 8_192;
 
 /// The name of the role that no other may imply.
 const ADMIN: &[u8] = b"admin";
 
 impl Roles {
-    #[tactic(auto, unfolding(crate::specs::Faults::add_fault))]
+    #[tactic(auto, unfolding(ks_base::specs::RoleFaults::add_fault))]
     pub(crate) fn may_add(&self, row: &RoleRow) -> Result<(), RowFault>
         ensures { fault_in result ≡ add_fault self.now row.now }
     {
         if let Some(holder) = self.named(&row.name) {
             return Err(RowFault::NameTaken(holder.id));
         }
-        refuse_if(self.roles.len() >= ROLE_LIMIT, RowFault::Full(Kind::Role))?;
+        refuse_if(self.roles.len() >= ROLES, RowFault::Full(Kind::Role))?;
         refuse_if(self.roles.contains(&row.id), RowFault::IdTaken(row.id))
     }
 
-    #[tactic(auto, unfolding(crate::specs::Faults::set_fault))]
+    #[tactic(auto, unfolding(ks_base::specs::RoleFaults::set_fault))]
     pub(crate) fn may_set(&self, row: &RoleRow) -> Result<(), RowFault>
         ensures { fault_in result ≡ set_fault self.now row.now }
     {
@@ -37,7 +35,7 @@ impl Roles {
         }
     }
 
-    #[tactic(auto, unfolding(crate::specs::Faults::imply_fault))]
+    #[tactic(auto, unfolding(ks_base::specs::RoleFaults::imply_fault))]
     pub(crate) fn may_imply(&self, row: &ImplyRow) -> Result<(), RowFault>
         ensures { fault_in result ≡ imply_fault self.now row.now }
     {
@@ -47,7 +45,7 @@ impl Roles {
         self.has_room_for(row)
     }
 
-    #[tactic(auto, unfolding(crate::specs::Faults::unimply_fault))]
+    #[tactic(auto, unfolding(ks_base::specs::RoleFaults::unimply_fault))]
     pub(crate) fn may_unimply(&self, row: &ImplyRow) -> Result<(), RowFault>
         ensures { fault_in result ≡ unimply_fault self.now row.now }
     {
@@ -78,7 +76,7 @@ impl Roles {
         ensures { fault_in result ≡ implications_full self.now row.now }
     {
         refuse_if(
-            !self.implications.has(row) && self.implications.len() >= IMPLICATION_LIMIT,
+            !self.implications.has(row) && self.implications.len() >= IMPLICATIONS,
             RowFault::Full(Kind::Implication),
         )
     }

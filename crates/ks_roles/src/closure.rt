@@ -1,7 +1,7 @@
 ghost use Rattle.std.specs.Prelude.{◌≡◌, ◌++◌, ◌↔◌, ℕ, List, IfOk, IsSome, None, OnOk};
 ghost use Rattle.ks_base.specs.Roles.{IsImplied};
 ghost use Rattle.ks_base.specs.Tables.{id_cmp, Among, IsAscending, find_row, put_row};
-ghost use Rattle.ks_roles.specs.State.{implied_ids};
+ghost use Rattle.ks_base.specs.RoleLists.{implied_ids};
 
 use crate::Roles;
 use ks_base::{Id, IdList, Memory, Ordered, RowSet};

@@ -7,7 +7,5 @@ mod closure;
 mod lists;
 mod named;
 mod roles;
-#[cfg(test)]
-mod tests;
 
 pub use roles::Roles;

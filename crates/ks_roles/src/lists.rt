@@ -1,6 +1,6 @@
 ghost use Rattle.std.specs.Prelude.{◌≡◌, map, IfOk};
 ghost use Rattle.ks_base.specs.Tables.{id_cmp, IsAscending};
-ghost use Rattle.ks_roles.specs.State.{implied_ids};
+ghost use Rattle.ks_base.specs.RoleLists.{implied_ids};
 
 use crate::Roles;
 use ks_base::{Id, IdList, ImplyRow, Memory};

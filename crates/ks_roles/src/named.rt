@@ -1,7 +1,7 @@
 //! The tests by which rows are looked for and kept.
 ghost use Rattle.std.specs.Prelude.{not};
-ghost use Rattle.ks_roles.specs.State.{is_named, names_role};
-ghost use Rattle.ks_roles.specs.Faults.{is_other_named};
+ghost use Rattle.ks_base.specs.RoleLists.{is_named, names_role};
+ghost use Rattle.ks_base.specs.RoleFaults.{is_other_named};
 
 use ks_base::{Id, ImplyRow, RoleRow, Test, Text};
 

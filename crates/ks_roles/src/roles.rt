@@ -1,7 +1,7 @@
 ghost use Rattle.std.specs.Prelude.{◌≡◌, [], find, option_copied};
 ghost use Rattle.ks_base.specs.Rows.{role_of};
 ghost use Rattle.ks_base.specs.Tables.{id_cmp, IsAscending};
-ghost use Rattle.ks_roles.specs.State.{is_named};
+ghost use Rattle.ks_base.specs.RoleLists.{is_named};
 
 use crate::named::Named;
 use ks_base::{Id, ImplyRow, RoleRow, RowSet, Table, Text};
@@ -17,7 +17,7 @@ pub struct Roles {
 }
 
 impl Model for Roles {
-    ghost use Rattle.ks_roles.specs.State.{RolesState};
+    ghost use Rattle.ks_base.specs.RoleLists.{RolesState};
 
     ghost Value = { RolesState };
 

@@ -1,8 +1,8 @@
 ghost use Rattle.std.specs.Prelude.{◌≡◌, ◌≢◌, IsSome, IsSomeAnd, Err};
 ghost use Rattle.ks_base.specs.Refusals.{Changes, Decides};
 ghost use Rattle.ks_base.specs.Rows.{domain_of, project_of};
-ghost use Rattle.ks_tree.specs.State.{with_domain, with_project, without_domain, without_project};
-ghost use Rattle.ks_tree.specs.Faults.{add_domain_fault, add_project_fault, set_domain_fault, set_project_fault, drop_domain_fault, drop_project_fault};
+ghost use Rattle.ks_base.specs.Trees.{with_domain, with_project, without_domain, without_project};
+ghost use Rattle.ks_base.specs.TreeFaults.{add_domain_fault, add_project_fault, set_domain_fault, set_project_fault, drop_domain_fault, drop_project_fault};
 
 use crate::Tree;
 use crate::named::Outside;
@@ -35,7 +35,7 @@ impl Tree {
 
     /// Puts the row in the place of the domain with its id. Refused is a name that another domain has
     /// (`NameTaken`). It takes no memory.
-    #[tactic(auto, using(ks_base::proofs::RefusalLemmas::refused), unfolding(crate::specs::Faults::set_domain_fault))]
+    #[tactic(auto, using(ks_base::proofs::RefusalLemmas::refused), unfolding(ks_base::specs::TreeFaults::set_domain_fault))]
     pub fn set_domain(&mut self, row: DomainRow) -> Result<(), TreeFault>
         requires { IsSome (domain_of row.id self.old.domains) }
         ensures changes { Changes TreeFault.Memory (set_domain_fault self.old row) self.old (with_domain row self.old) result self.new }
@@ -49,7 +49,7 @@ impl Tree {
     /// Puts the row in the place of the project with its id. Refused are to disable it where an enabled project
     /// lies below it (`EnabledBelow`), to enable it where a disabled one lies above it (`DisabledAbove`), and a
     /// name that another project of the domain has (`NameTaken`). It takes no memory.
-    #[tactic(auto, using(ks_base::proofs::RefusalLemmas::refused), unfolding(crate::specs::Faults::set_project_fault, crate::specs::Faults::disable_fault, crate::specs::Faults::enable_fault))]
+    #[tactic(auto, using(ks_base::proofs::RefusalLemmas::refused), unfolding(ks_base::specs::TreeFaults::set_project_fault, ks_base::specs::TreeFaults::disable_fault, ks_base::specs::TreeFaults::enable_fault))]
     pub fn set_project(&mut self, row: ProjectRow) -> Result<(), TreeFault>
         requires { IsSomeAnd (project_of row.id self.old.projects) (λ standing. (standing.domain ≡ row.domain) × (standing.parent ≡ row.parent)) }
         ensures changes { Changes TreeFault.Memory (set_project_fault self.old row) self.old (with_project row self.old) result self.new }
@@ -62,7 +62,7 @@ impl Tree {
 
     /// Takes a disabled domain out, with all its projects. Refused are an id that no domain has (`Absent`) and
     /// an enabled domain (`DomainEnabled`).
-    #[tactic(auto, unfolding(crate::specs::Faults::drop_domain_fault))]
+    #[tactic(auto, unfolding(ks_base::specs::TreeFaults::drop_domain_fault))]
     pub fn drop_domain(&mut self, id: &Id) -> Result<(), TreeFault>
         ensures decides { Decides (drop_domain_fault self.old id.now) self.old (without_domain id.now self.old) result self.new }
         ensures memory { result ≢ Err TreeFault.Memory }
@@ -75,7 +75,7 @@ impl Tree {
 
     /// Takes a project out. Refused are an id that no project has (`Absent`) and a project with others right
     /// below it (`HasChildren`).
-    #[tactic(auto, unfolding(crate::specs::Faults::drop_project_fault))]
+    #[tactic(auto, unfolding(ks_base::specs::TreeFaults::drop_project_fault))]
     pub fn drop_project(&mut self, id: &Id) -> Result<(), TreeFault>
         ensures decides { Decides (drop_project_fault self.old id.now) self.old (without_project id.now self.old) result self.new }
         ensures memory { result ≢ Err TreeFault.Memory }

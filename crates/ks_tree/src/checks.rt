@@ -1,17 +1,13 @@
 //! The causes for which changes are refused, in the order in which they are tested.
 ghost use Rattle.std.specs.Prelude.{◌≡◌};
+ghost use Rattle.ks_base.specs.declared.limits.TheConstants.{DOMAINS, LEVELS, PROJECTS};
 ghost use Rattle.ks_base.specs.Refusals.{fault_in};
-ghost use Rattle.ks_tree.specs.Faults.{domain_absent, project_absent, no_parent, too_deep, has_children, lies_below, is_enabled_below, enabled_below, disabled_above, domain_name_taken, project_name_taken, other_domain_named, other_project_named, disable_fault, enable_fault, add_domain_fault, add_project_fault, set_domain_fault, set_project_fault, drop_domain_fault, drop_project_fault};
+ghost use Rattle.ks_base.specs.TreeFaults.{domain_absent, project_absent, no_parent, too_deep, has_children, lies_below, is_enabled_below, enabled_below, disabled_above, domain_name_taken, project_name_taken, other_domain_named, other_project_named, disable_fault, enable_fault, add_domain_fault, add_project_fault, set_domain_fault, set_project_fault, drop_domain_fault, drop_project_fault};
 
 use crate::Tree;
 use crate::named::{ChildOf, Disabled, OtherDomainNamed, OtherProjectNamed, WithId};
+use ks_base::limits::{DOMAINS, LEVELS, PROJECTS};
 use ks_base::{DomainRow, Id, Kind, ProjectRow, Test, TreeFault, refuse_if};
-
-const DOMAIN_LIMIT: usize = 1_024;
-
-const PROJECT_LIMIT: usize = 65_536;
-
-const DEEPEST: usize = 5;
 
 /// Enabled projects below this one.
 #[derive(Drop)]
@@ -29,19 +25,16 @@ impl Test<ProjectRow> for EnabledBelow<'_> {
 }
 
 impl Tree {
-    #[tactic(auto, unfolding(crate::specs::Faults::add_domain_fault))]
+    #[tactic(auto, unfolding(ks_base::specs::TreeFaults::add_domain_fault))]
     pub(crate) fn may_add_domain(&self, row: &DomainRow) -> Result<(), TreeFault>
         ensures { fault_in result ≡ add_domain_fault self.now row.now }
     {
         self.domain_name_is_free(row)?;
-        refuse_if(
-            self.domains.len() >= DOMAIN_LIMIT,
-            TreeFault::Full(Kind::Domain),
-        )?;
+        refuse_if(self.domains.len() >= DOMAINS, TreeFault::Full(Kind::Domain))?;
         refuse_if(self.domains.contains(&row.id), TreeFault::IdTaken(row.id))
     }
 
-    #[tactic(auto, unfolding(crate::specs::Faults::add_project_fault))]
+    #[tactic(auto, unfolding(ks_base::specs::TreeFaults::add_project_fault))]
     pub(crate) fn may_add_project(&self, row: &ProjectRow) -> Result<(), TreeFault>
         ensures { fault_in result ≡ add_project_fault self.now row.now }
     {
@@ -51,13 +44,13 @@ impl Tree {
         self.all_above_are_enabled(row)?;
         self.project_name_is_free(row)?;
         refuse_if(
-            self.projects.len() >= PROJECT_LIMIT,
+            self.projects.len() >= PROJECTS,
             TreeFault::Full(Kind::Project),
         )?;
         refuse_if(self.projects.contains(&row.id), TreeFault::IdTaken(row.id))
     }
 
-    #[tactic(auto, unfolding(crate::specs::Faults::set_domain_fault))]
+    #[tactic(auto, unfolding(ks_base::specs::TreeFaults::set_domain_fault))]
     pub(crate) fn may_set_domain(&self, row: &DomainRow) -> Result<(), TreeFault>
         ensures { fault_in result ≡ set_domain_fault self.now row.now }
     {
@@ -67,7 +60,7 @@ impl Tree {
         }
     }
 
-    #[tactic(auto, unfolding(crate::specs::Faults::set_project_fault))]
+    #[tactic(auto, unfolding(ks_base::specs::TreeFaults::set_project_fault))]
     pub(crate) fn may_set_project(&self, row: &ProjectRow) -> Result<(), TreeFault>
         ensures { fault_in result ≡ set_project_fault self.now row.now }
     {
@@ -79,7 +72,7 @@ impl Tree {
         }
     }
 
-    #[tactic(auto, unfolding(crate::specs::Faults::drop_domain_fault))]
+    #[tactic(auto, unfolding(ks_base::specs::TreeFaults::drop_domain_fault))]
     pub(crate) fn may_drop_domain(&self, id: &Id) -> Result<(), TreeFault>
         ensures { fault_in result ≡ drop_domain_fault self.now id.now }
     {
@@ -89,7 +82,7 @@ impl Tree {
         }
     }
 
-    #[tactic(auto, unfolding(crate::specs::Faults::drop_project_fault))]
+    #[tactic(auto, unfolding(ks_base::specs::TreeFaults::drop_project_fault))]
     pub(crate) fn may_drop_project(&self, id: &Id) -> Result<(), TreeFault>
         ensures { fault_in result ≡ drop_project_fault self.now id.now }
     {
@@ -127,7 +120,7 @@ impl Tree {
     fn is_high_enough(&self, row: &ProjectRow) -> Result<(), TreeFault>
         ensures { fault_in result ≡ too_deep self.now row.now }
     {
-        refuse_if(self.count_above(row) >= DEEPEST, TreeFault::TooDeep)
+        refuse_if(self.count_above(row) >= LEVELS, TreeFault::TooDeep)
     }
 
     fn all_above_are_enabled(&self, row: &ProjectRow) -> Result<(), TreeFault>
@@ -154,7 +147,7 @@ impl Tree {
         self.nearest_above(row, &WithId { id }).is_some()
     }
 
-    #[tactic(auto, unfolding(crate::specs::Faults::disable_fault))]
+    #[tactic(auto, unfolding(ks_base::specs::TreeFaults::disable_fault))]
     fn may_disable(&self, row: &ProjectRow) -> Result<(), TreeFault>
         ensures { fault_in result ≡ disable_fault self.now row.now }
     {
@@ -166,7 +159,7 @@ impl Tree {
         }
     }
 
-    #[tactic(auto, unfolding(crate::specs::Faults::enable_fault))]
+    #[tactic(auto, unfolding(ks_base::specs::TreeFaults::enable_fault))]
     fn may_enable(&self, row: &ProjectRow) -> Result<(), TreeFault>
         ensures { fault_in result ≡ enable_fault self.now row.now }
     {

@@ -6,8 +6,6 @@ mod changes;
 mod checks;
 mod lists;
 mod named;
-#[cfg(test)]
-mod tests;
 mod tree;
 mod walk;
 

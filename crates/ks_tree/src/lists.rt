@@ -1,6 +1,6 @@
 ghost use Rattle.std.specs.Prelude.{◌≡◌, IfOk};
 ghost use Rattle.ks_base.specs.Tree.{ancestors};
-ghost use Rattle.ks_tree.specs.State.{projects_of, domain_ids};
+ghost use Rattle.ks_base.specs.Trees.{projects_of, domain_ids};
 
 use crate::Tree;
 use crate::named::InDomain;

@@ -2,8 +2,8 @@
 ghost use Rattle.std.specs.Prelude.{not};
 ghost use Rattle.ks_base.specs.Rows.{same};
 ghost use Rattle.ks_base.specs.Tree.{is_child_of};
-ghost use Rattle.ks_tree.specs.State.{is_domain_named, is_project_named, lies_in};
-ghost use Rattle.ks_tree.specs.Faults.{is_other_domain_named, is_other_project_named};
+ghost use Rattle.ks_base.specs.Trees.{is_domain_named, is_project_named, lies_in};
+ghost use Rattle.ks_base.specs.TreeFaults.{is_other_domain_named, is_other_project_named};
 
 use ks_base::{DomainRow, Id, ProjectRow, Test, Text};
 

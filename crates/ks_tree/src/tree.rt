@@ -1,7 +1,7 @@
 ghost use Rattle.std.specs.Prelude.{◌≡◌, [], find, option_copied};
 ghost use Rattle.ks_base.specs.Rows.{domain_of, project_of};
 ghost use Rattle.ks_base.specs.Tables.{id_cmp, IsAscending};
-ghost use Rattle.ks_tree.specs.State.{is_domain_named, is_project_named};
+ghost use Rattle.ks_base.specs.Trees.{is_domain_named, is_project_named};
 
 use crate::named::{DomainNamed, ProjectNamed};
 use ks_base::{DomainRow, Id, ProjectRow, Table, Text};
@@ -17,7 +17,7 @@ pub struct Tree {
 }
 
 impl Model for Tree {
-    ghost use Rattle.ks_tree.specs.State.{TreeState};
+    ghost use Rattle.ks_base.specs.Trees.{TreeState};
 
     ghost Value = { TreeState };
 

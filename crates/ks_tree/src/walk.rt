@@ -1,7 +1,7 @@
 ghost use Rattle.std.specs.Prelude.{◌≡◌, find, length, option_copied};
 ghost use Rattle.ks_base.specs.Rows.{same};
 ghost use Rattle.ks_base.specs.Tree.{parent_of, above};
-ghost use Rattle.ks_tree.specs.Faults.{lies_below, is_enabled_below};
+ghost use Rattle.ks_base.specs.TreeFaults.{lies_below, is_enabled_below};
 
 use crate::Tree;
 use ks_base::{Id, ProjectRow, Test};

@@ -1,8 +1,11 @@
 use Rattle.std.proofs.Common.{◌≡◌, rules}
 use Rattle.std.specs.Option.{option_map}
 use Rattle.ks_base.specs.Rows.{project_of}
-use Rattle.ks_effective.proofs.ReachLemmas.{domain-Decides, project-Decides}
+use Rattle.ks_effective.proofs.ReachLemmas.{domain-Decides, project-Decides, system-Decides}
 use Rattle.ks_effective.proofs.reach.Reach.of.Goals as goal
+
+pub returns-in-System : goal.returns-in-System
+returns-in-System c = rw c.in-System.is (system-Decides c.args.tree.now.projects)
 
 pub returns-in-Domain : goal.returns-in-Domain
 returns-in-Domain c = rw c.in-Domain.is (domain-Decides c.args.tree.now.projects c.in-Domain.id)

@@ -1,7 +1,7 @@
 use Rattle.std.proofs.Common.{sym, subst, IsSome, arith}
 use Rattle.ks_base.specs.Rows.{group_of}
-use Rattle.ks_people.specs.State.{PeopleState}
-use Rattle.ks_people.specs.Faults.{set_group_fault}
+use Rattle.ks_base.specs.People.{PeopleState}
+use Rattle.ks_base.specs.PeopleFaults.{set_group_fault}
 use Rattle.ks_people.proofs.people.People.set_group.Goals as goal
 
 pub returns-in_err-put-clause-memory : goal.returns-in_err-put-clause-memory

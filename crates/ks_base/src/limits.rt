@@ -1,0 +1,61 @@
+//! How much the server takes: each limit stands here, and code and definitions name it.
+
+/// Domains that may stand.
+pub const DOMAINS: usize = 1_024;
+/// Projects that may stand.
+pub const PROJECTS: usize = 65_536;
+/// Users that may stand.
+pub const USERS: usize = 65_536;
+/// Groups that may stand.
+pub const GROUPS: usize = 16_384;
+/// Memberships that may stand.
+pub const MEMBERS: usize = 262_144;
+/// Roles that may stand.
+pub const ROLES: usize = 1_024;
+/// Implications that may stand.
+pub const IMPLICATIONS: usize = 8_192;
+/// Grants that may stand.
+pub const GRANTS: usize = 262_144;
+/// Trusts that may stand.
+pub const TRUSTS: usize = 65_536;
+/// Revocations that may be live.
+pub const EVENTS: usize = 262_144;
+/// Keys that may be held.
+pub const KEYS: usize = 32;
+/// Entries of the journal that an identity keeps.
+pub const ENTRIES: usize = 65_536;
+
+/// How far below its domain a project may lie.
+pub const LEVELS: usize = 5;
+/// How many trusts may follow below the first one.
+pub const REDELEGATIONS: u32 = 3;
+/// Roles of one trust.
+pub const TRUST_ROLES: usize = 64;
+/// Uses that a trust may be given.
+pub const USES: u64 = 9_007_199_254_740_992;
+
+/// Bytes of an id.
+pub const ID_BYTES: usize = 64;
+/// Bytes of a name.
+pub const NAME_BYTES: usize = 255;
+/// Bytes of a description.
+pub const DESCRIPTION_BYTES: usize = 4_096;
+/// Bytes of a password.
+pub const PASSWORD_BYTES: usize = 4_096;
+
+/// The shortest life of a token, in seconds.
+pub const SHORTEST_LIFE: u64 = 60;
+/// The longest life of a token, in seconds.
+pub const LONGEST_LIFE: u64 = 604_800;
+/// The life of a token where nothing else is set, in seconds.
+pub const DEFAULT_LIFE: u64 = 3_600;
+/// Rounds of a derived password.
+pub const ROUNDS: u32 = 100_000;
+/// The last second of the year 9999, in seconds since 1970-01-01T00:00:00Z: no later moment has a text.
+pub const LAST_SECOND: u64 = 253_402_300_799;
+/// The last reading of the clock that counts: a year before the last second, so that each expiry has a text.
+pub const LAST_READING: u64 = 253_370_764_799;
+/// How long past its expiry a token may still be asked for, in seconds: two days.
+pub const EXPIRED_WINDOW: u64 = 172_800;
+/// How long a revocation is kept beyond the life of the tokens that it ends, in seconds: the window, and half an hour.
+pub const EVENT_GRACE: u64 = 174_600;
