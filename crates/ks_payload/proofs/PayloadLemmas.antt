@@ -1,82 +1,122 @@
 -- The laws of payloads, from the readers of their fields.
-use Rattle.std.proofs.Common.{◌≡◌, ℕ, zero, suc, ◌<◌, ◌≤◌, true, false, ◌==◌, nat_le, cond, List, [], ◌∷◌, ◌++◌, length, Option, Some, None, unwrap_or, refl, sym, ap, ◌∙◌, arith, append_assoc, append-nil}
+use Rattle.std.proofs.Common.{◌≡◌, ℕ, zero, suc, ◌<◌, ◌≤◌, true, false, ◌==◌, nat_le, cond, List, [], ◌∷◌, ◌++◌, length, Option, Some, None, unwrap_or, refl, sym, ap, ◌∙◌, arith, append_assoc, append-nil, inl, inr, subst}
 use Rattle.std.proofs.lemmas.Bool.{eqb-true}
-use Rattle.std.specs.Prelude.{is_some, IfSome}
+use Rattle.std.specs.Prelude.{◌⊎◌, ◌↔◌, is_some, IfSome, slice_get}
 use Rattle.std.proofs.lemmas.Bool.Decides.{nat_tests}
 use Rattle.std.proofs.lemmas.Nat.{be_bytes_8, from_be_bytes-to_be_bytes_8}
 use Rattle.std.specs.Int.{w64, to_be_bytes, from_be_bytes, bytes_high_first, byte_at}
 use Rattle.hex.specs.Hex.{IsBytes}
 use Rattle.ks_base.specs.Ids.{IsId}
 use Rattle.ks_payload.specs.IdFields.{id_field}
-use Rattle.ks_payload.specs.Payloads.{has_domain, has_project, has_trust, last_expiry, field_if_any, audit_field, scope_field, spelling, IsSixteenBytes, IsInRange, IsPayload}
-use Rattle.ks_payload.specs.Readings.{take_number, take_bytes, take_id, take_if, take_head, take_scope, take_expiry, take_audits, take_payload, payload_of, if_whole}
+use Rattle.ks_payload.specs.Payloads.{has_domain, has_project, has_trust, has_credential, last_expiry, field_if_any, audit_field, scope_field, fields, spelling, old_spelling, IsSixteenBytes, IsInRange, IsPayload}
+use Rattle.ks_payload.specs.Readings.{take_number, take_bytes, take_id, take_if, last_kind, take_head, take_scope, take_expiry, take_audits, take_payload, payload_of, if_whole}
 use Rattle.ks_payload.specs.declared.payload.Payload.{Payload}
 use Rattle.ks_payload.proofs.FieldLemmas.{some_from_if, bind_some, taken_number, takes_number, taken_bytes, takes_bytes, taken_id, takes_id, taken_id_if, takes_id_if, taken_bytes_if, chain_bytes}
+
+-- ---- the version
+
+-- the versions that have a payload
+abbrev pub IsVersion : ℕ → Payload → Type 0
+IsVersion version p = (version ≡ 2) ⊎ ((version ≡ 1) × (p.kind ≤ 3))
+
+pub version_of : (p : Payload) (bytes : List ℕ) → IsPayload bytes p → (version : ℕ) × IsVersion version p × (bytes ≡ version ∷ fields p)
+unfolding spelling old_spelling
+version_of p bytes is = elim is.1 [ inl new ↦ (2, inl refl, new) | inr old ↦ (1, inr (refl, old.0), old.1) ]
+
+pub payload_in : (p : Payload) (version : ℕ) (bytes : List ℕ) → IsInRange p → IsVersion version p → bytes ≡ version ∷ fields p → IsPayload bytes p
+unfolding spelling old_spelling
+payload_in p version bytes in_range is e = (
+  in_range,
+  elim is [
+    | inl new ↦ inl (e ∙ ap (λ v. v ∷ fields p) new)
+    | inr old ↦ inr (old.1, e ∙ ap (λ v. v ∷ fields p) old.0)
+  ],
+)
+
+version_within : (p : Payload) (version : ℕ) → IsInRange p → IsVersion version p → (1 ≤ version) × (version ≤ 2) × (p.kind ≤ last_kind version)
+version_within p version in_range is = elim is [
+  | inl new ↦ rw new (omega arith, omega arith, in_range.kind)
+  | inr old ↦ rw old.0 (omega arith, omega arith, old.1)
+]
+
+kinds_within : (version kind : ℕ) → 1 ≤ version → version ≤ 2 → kind ≤ last_kind version →
+    (kind ≤ 5) × ((version ≡ 2) ⊎ ((version ≡ 1) × (kind ≤ 3)))
+kinds_within zero kind low high k = absurd (omega arith)
+kinds_within (suc zero) kind low high k = (omega (arith, k), inr (refl, k))
+kinds_within (suc (suc zero)) kind low high k = (k, inl refl)
+kinds_within (suc (suc (suc n))) kind low high k = absurd (omega arith)
 
 -- ---- version, kind and methods
 
 taken_head : (xs : List ℕ) (f : (ℕ × ℕ) × List ℕ) → take_head xs ≡ Some f →
-    (f.0.0 ≤ 3) × (1 ≤ f.0.1) × (f.0.1 ≤ 15) × (xs ≡ 1 ∷ f.0.0 ∷ f.0.1 ∷ f.1)
+    (version : ℕ) × (1 ≤ version) × (version ≤ 2) × (f.0.0 ≤ last_kind version) × (1 ≤ f.0.1) × (f.0.1 ≤ 15)
+    × (xs ≡ version ∷ f.0.0 ∷ f.0.1 ∷ f.1)
 unfolding take_head
 taken_head xs f h =
-    let v = bind_some (take_number 1 1 xs) _ f h in
-    let k = bind_some (take_number 0 3 v.0.1) _ f v.2 in
+    let v = bind_some (take_number 1 2 xs) _ f h in
+    let k = bind_some (take_number 0 (last_kind v.0.0) v.0.1) _ f v.2 in
     let m = bind_some (take_number 1 15 k.0.1) _ f k.2 in
     let same : ((k.0.0, m.0.0), m.0.1) ≡ f = ap (λ o. unwrap_or o f) m.2 in
-    let version = taken_number 1 1 xs v.0 v.1 in
-    let kind = taken_number 0 3 v.0.1 k.0 k.1 in
+    let version = taken_number 1 2 xs v.0 v.1 in
+    let kind = taken_number 0 (last_kind v.0.0) v.0.1 k.0 k.1 in
     let methods = taken_number 1 15 k.0.1 m.0 m.1 in
-    let one : v.0.0 ≡ 1 = omega (arith, version.0, version.1) in
-    rw (← same) (kind.1, methods.0, methods.1, three_items xs v.0.1 k.0.1 m.0.1 v.0.0 k.0.0 m.0.0 version.2 one kind.2 methods.2)
+    rw (← same) (v.0.0, version.0, version.1, kind.1, methods.0, methods.1, three_items xs v.0.1 k.0.1 m.0.1 v.0.0 k.0.0 m.0.0 version.2 kind.2 methods.2)
   where
-    three_items : (xs first second third : List ℕ) (v k m : ℕ) → xs ≡ v ∷ first → v ≡ 1 → first ≡ k ∷ second → second ≡ m ∷ third →
-        xs ≡ 1 ∷ k ∷ m ∷ third
-    three_items xs first second third v k m e1 e2 e3 e4 = cc
+    three_items : (xs first second third : List ℕ) (v k m : ℕ) → xs ≡ v ∷ first → first ≡ k ∷ second → second ≡ m ∷ third →
+        xs ≡ v ∷ k ∷ m ∷ third
+    three_items xs first second third v k m e1 e2 e3 = cc
 
-takes_head : (kind methods : ℕ) (rest : List ℕ) → kind ≤ 3 → 1 ≤ methods → methods ≤ 15 →
-    take_head (1 ∷ kind ∷ methods ∷ rest) ≡ Some ((kind, methods), rest)
+takes_head : (version kind methods : ℕ) (rest : List ℕ) → 1 ≤ version → version ≤ 2 → kind ≤ last_kind version → 1 ≤ methods → methods ≤ 15 →
+    take_head (version ∷ kind ∷ methods ∷ rest) ≡ Some ((kind, methods), rest)
 unfolding take_head
-takes_head kind methods rest k low high =
+takes_head version kind methods rest first last k low high =
     rw (
-      takes_number 1 1 1 (kind ∷ methods ∷ rest) (omega arith) (omega arith),
-      takes_number 0 3 kind (methods ∷ rest) (omega arith) k,
+      takes_number 1 2 version (kind ∷ methods ∷ rest) first last,
+      takes_number 0 (last_kind version) kind (methods ∷ rest) (omega arith) k,
       takes_number 1 15 methods rest low high,
     ) refl
 
 -- ---- scope
 
-taken_scope : (kind : ℕ) (xs : List ℕ) (f : (Option (List ℕ) × Option (List ℕ) × Option (List ℕ)) × List ℕ) → take_scope kind xs ≡ Some f →
+taken_scope : (kind : ℕ) (xs : List ℕ) (f : (Option (List ℕ) × Option (List ℕ) × Option (List ℕ) × Option (List ℕ)) × List ℕ) → take_scope kind xs ≡ Some f →
     ((is_some f.0.0 ≡ has_domain kind) × IfSome f.0.0 IsId) × ((is_some f.0.1 ≡ has_project kind) × IfSome f.0.1 IsId)
-    × ((is_some f.0.2 ≡ has_trust kind) × IfSome f.0.2 IsId)
-    × (xs ≡ field_if_any f.0.0 ++ (field_if_any f.0.1 ++ (field_if_any f.0.2 ++ f.1)))
+    × ((is_some f.0.2 ≡ has_trust kind) × IfSome f.0.2 IsId) × ((is_some f.0.3 ≡ has_credential kind) × IfSome f.0.3 IsId)
+    × (xs ≡ field_if_any f.0.0 ++ (field_if_any f.0.1 ++ (field_if_any f.0.2 ++ (field_if_any f.0.3 ++ f.1))))
 unfolding take_scope
 taken_scope kind xs f h =
     let d = bind_some (take_if (has_domain kind) take_id xs) _ f h in
     let p = bind_some (take_if (has_project kind) take_id d.0.1) _ f d.2 in
     let t = bind_some (take_if (has_trust kind) take_id p.0.1) _ f p.2 in
-    let same : ((d.0.0, p.0.0, t.0.0), t.0.1) ≡ f = ap (λ o. unwrap_or o f) t.2 in
+    let c = bind_some (take_if (has_credential kind) take_id t.0.1) _ f t.2 in
+    let same : ((d.0.0, p.0.0, t.0.0, c.0.0), c.0.1) ≡ f = ap (λ o. unwrap_or o f) c.2 in
     let domain = taken_id_if (has_domain kind) xs d.0 d.1 in
     let project = taken_id_if (has_project kind) d.0.1 p.0 p.1 in
     let trust = taken_id_if (has_trust kind) p.0.1 t.0 t.1 in
+    let credential = taken_id_if (has_credential kind) t.0.1 c.0 c.1 in
     rw (← same) (
       (domain.0, domain.1),
       (project.0, project.1),
       (trust.0, trust.1),
-      domain.2 ∙ ap (λ ys. field_if_any d.0.0 ++ ys) (project.2 ∙ ap (λ ys. field_if_any p.0.0 ++ ys) trust.2),
+      (credential.0, credential.1),
+      domain.2
+          ∙ ap (λ ys. field_if_any d.0.0 ++ ys) (project.2
+          ∙ ap (λ ys. field_if_any p.0.0 ++ ys) (trust.2 ∙ ap (λ ys. field_if_any t.0.0 ++ ys) credential.2)),
     )
 
+regroup_scope : (d p t c ys : List ℕ) → d ++ (p ++ (t ++ (c ++ ys))) ≡ (d ++ (p ++ (t ++ c))) ++ ys
+regroup_scope d p t c ys = simp append_assoc
+
 takes_scope : (p : Payload) (rest : List ℕ) → IsInRange p →
-    take_scope p.kind (scope_field p ++ rest) ≡ Some ((p.domain, p.project, p.trust), rest)
+    take_scope p.kind (scope_field p ++ rest) ≡ Some ((p.domain, p.project, p.trust, p.credential), rest)
 unfolding take_scope
 takes_scope p rest in_range =
-    let grouped : scope_field p ++ rest ≡ field_if_any p.domain ++ (field_if_any p.project ++ (field_if_any p.trust ++ rest)) =
-    append_assoc (field_if_any p.domain) (field_if_any p.project ++ field_if_any p.trust) rest
-    ∙ ap (λ ys. field_if_any p.domain ++ ys) (append_assoc (field_if_any p.project) (field_if_any p.trust) rest) in
+    let last = field_if_any p.credential ++ rest in
     rw (
-      grouped,
-      takes_id_if (has_domain p.kind) p.domain (field_if_any p.project ++ (field_if_any p.trust ++ rest)) in_range.has_domain_id in_range.domain,
-      takes_id_if (has_project p.kind) p.project (field_if_any p.trust ++ rest) in_range.has_project_id in_range.project,
-      takes_id_if (has_trust p.kind) p.trust rest in_range.has_trust_id in_range.trust,
+      sym (regroup_scope (field_if_any p.domain) (field_if_any p.project) (field_if_any p.trust) (field_if_any p.credential) rest),
+      takes_id_if (has_domain p.kind) p.domain (field_if_any p.project ++ (field_if_any p.trust ++ last)) in_range.has_domain_id in_range.domain,
+      takes_id_if (has_project p.kind) p.project (field_if_any p.trust ++ last) in_range.has_project_id in_range.project,
+      takes_id_if (has_trust p.kind) p.trust last in_range.has_trust_id in_range.trust,
+      takes_id_if (has_credential p.kind) p.credential rest in_range.has_credential_id in_range.credential,
     ) refl
 
 -- ---- expiry
@@ -169,26 +209,24 @@ takes_audits audit (Some chain) rest is some =
 
 -- ---- the payload
 
-regroup_three : (d p t ys : List ℕ) → d ++ (p ++ (t ++ ys)) ≡ (d ++ (p ++ t)) ++ ys
-regroup_three d p t ys = simp append_assoc
+regroup : (v k m : ℕ) (a b c d rest : List ℕ) → (v ∷ k ∷ m ∷ (a ++ (b ++ (c ++ d)))) ++ rest ≡ v ∷ k ∷ m ∷ (a ++ (b ++ (c ++ (d ++ rest))))
+regroup v k m a b c d rest = simp append_assoc
 
-regroup : (k m : ℕ) (a b c d rest : List ℕ) → (1 ∷ k ∷ m ∷ (a ++ (b ++ (c ++ d)))) ++ rest ≡ 1 ∷ k ∷ m ∷ (a ++ (b ++ (c ++ (d ++ rest))))
-regroup k m a b c d rest = simp append_assoc
+regroup_payload : (version : ℕ) (p : Payload) (rest : List ℕ) → (version ∷ fields p) ++ rest
+    ≡ version ∷ p.kind ∷ p.methods ∷ (id_field p.user ++ (scope_field p ++ (to_be_bytes w64 p.expires ++ (audit_field p.audit p.chain ++ rest))))
+regroup_payload version p rest = regroup version p.kind p.methods (id_field p.user) (scope_field p) (to_be_bytes w64 p.expires) (audit_field p.audit p.chain) rest
 
-fields_spell : (p : Payload) (xs after_head after_user after_scope after_expiry rest : List ℕ) →
-    xs ≡ 1 ∷ p.kind ∷ p.methods ∷ after_head → after_head ≡ id_field p.user ++ after_user →
-    after_user ≡ field_if_any p.domain ++ (field_if_any p.project ++ (field_if_any p.trust ++ after_scope)) →
-    after_scope ≡ to_be_bytes w64 p.expires ++ after_expiry → after_expiry ≡ audit_field p.audit p.chain ++ rest → xs ≡ spelling p ++ rest
-unfolding spelling
-fields_spell p xs after_head after_user after_scope after_expiry rest head user scope expiry audits =
-    head ∙ ap (λ ys. 1 ∷ p.kind ∷ p.methods ∷ ys) (user ∙ ap (λ ys. id_field p.user ++ ys) (scope ∙ scoped p.domain p.project p.trust after_scope ∙ ap (λ ys. scope_field p ++ ys) (expiry ∙ ap (λ ys. to_be_bytes w64 p.expires ++ ys) audits)))
-    ∙ sym (regroup p.kind p.methods (id_field p.user) (scope_field p) (to_be_bytes w64 p.expires) (audit_field p.audit p.chain) rest)
-  where
-    scoped : (d q t : Option (List ℕ)) (ys : List ℕ) →
-        field_if_any d ++ (field_if_any q ++ (field_if_any t ++ ys)) ≡ (field_if_any d ++ (field_if_any q ++ field_if_any t)) ++ ys
-    scoped d q t ys = regroup_three (field_if_any d) (field_if_any q) (field_if_any t) ys
+fields_spell : (version : ℕ) (p : Payload) (xs after_head after_user after_scope after_expiry rest : List ℕ) →
+    xs ≡ version ∷ p.kind ∷ p.methods ∷ after_head → after_head ≡ id_field p.user ++ after_user →
+    after_user ≡ field_if_any p.domain ++ (field_if_any p.project ++ (field_if_any p.trust ++ (field_if_any p.credential ++ after_scope))) →
+    after_scope ≡ to_be_bytes w64 p.expires ++ after_expiry → after_expiry ≡ audit_field p.audit p.chain ++ rest → xs ≡ (version ∷ fields p) ++ rest
+fields_spell version p xs after_head after_user after_scope after_expiry rest head user scope expiry audits =
+    let scoped = regroup_scope (field_if_any p.domain) (field_if_any p.project) (field_if_any p.trust) (field_if_any p.credential) after_scope in
+    head ∙ ap (λ ys. version ∷ p.kind ∷ p.methods ∷ ys) (user ∙ ap (λ ys. id_field p.user ++ ys) (scope ∙ scoped ∙ ap (λ ys. scope_field p ++ ys) (expiry ∙ ap (λ ys. to_be_bytes w64 p.expires ++ ys) audits)))
+    ∙ sym (regroup_payload version p rest)
 
-taken_payload : (xs : List ℕ) (f : Payload × List ℕ) → take_payload xs ≡ Some f → IsInRange f.0 × (xs ≡ spelling f.0 ++ f.1)
+taken_payload : (xs : List ℕ) (f : Payload × List ℕ) → take_payload xs ≡ Some f →
+    (version : ℕ) × IsInRange f.0 × IsVersion version f.0 × (xs ≡ (version ∷ fields f.0) ++ f.1)
 unfolding take_payload
 taken_payload xs f h =
     let head = bind_some (take_head xs) _ f h in
@@ -197,6 +235,7 @@ taken_payload xs f h =
     let expires = bind_some (take_expiry scope.0.1) _ f scope.2 in
     let audits = bind_some (take_audits expires.0.1) _ f expires.2 in
     let a = taken_head xs head.0 head.1 in
+    let kinds = kinds_within a.0 head.0.0.0 a.1 a.2 a.3 in
     let b = taken_id head.0.1 user.0 user.1 in
     let c = taken_scope head.0.0.0 user.0.1 scope.0 scope.1 in
     let d = taken_expiry scope.0.1 expires.0 expires.1 in
@@ -211,13 +250,15 @@ taken_payload xs f h =
       expires = expires.0.0;
       audit = audits.0.0.0;
       chain = audits.0.0.1;
+      credential = scope.0.0.3;
     } in
     let same : (whole, audits.0.1) ≡ f = ap (λ o. unwrap_or o f) audits.2 in
     rw (← same) (
+      a.0,
       record {
-        kind = a.0;
-        some_method = a.1;
-        methods = a.2;
+        kind = kinds.0;
+        some_method = a.4;
+        methods = a.5;
         user = b.0;
         has_domain_id = c.0.0;
         domain = c.0.1;
@@ -228,37 +269,41 @@ taken_payload xs f h =
         expires = d.0;
         audit = e.0;
         chain = e.1;
+        has_credential_id = c.3.0;
+        credential = c.3.1;
       },
-      fields_spell whole xs head.0.1 user.0.1 scope.0.1 expires.0.1 audits.0.1 a.3 b.1 c.3 d.1 e.2,
+      kinds.1,
+      fields_spell a.0 whole xs head.0.1 user.0.1 scope.0.1 expires.0.1 audits.0.1 a.6 b.1 c.4 d.1 e.2,
     )
 
-takes_fields : (p : Payload) (expiry rest : List ℕ) → IsInRange p → ((r : List ℕ) → take_expiry (expiry ++ r) ≡ Some (p.expires, r)) →
-    take_payload (1 ∷ p.kind ∷ p.methods ∷ (id_field p.user ++ (scope_field p ++ (expiry ++ (audit_field p.audit p.chain ++ rest))))) ≡ Some (p, rest)
+takes_fields : (version : ℕ) (p : Payload) (expiry rest : List ℕ) → IsInRange p → IsVersion version p → ((r : List ℕ) → take_expiry (expiry ++ r) ≡ Some (p.expires, r)) →
+    take_payload (version ∷ p.kind ∷ p.methods ∷ (id_field p.user ++ (scope_field p ++ (expiry ++ (audit_field p.audit p.chain ++ rest))))) ≡ Some (p, rest)
 unfolding take_payload
-takes_fields p expiry rest in_range taken =
+takes_fields version p expiry rest in_range is taken =
     let after_expiry = audit_field p.audit p.chain ++ rest in
     let after_scope = expiry ++ after_expiry in
     let after_user = scope_field p ++ after_scope in
+    let w = version_within p version in_range is in
     rw (
-      takes_head p.kind p.methods (id_field p.user ++ after_user) in_range.kind in_range.some_method in_range.methods,
+      takes_head version p.kind p.methods (id_field p.user ++ after_user) w.0 w.1 w.2 in_range.some_method in_range.methods,
       takes_id p.user after_user in_range.user,
       takes_scope p after_scope in_range,
       taken after_expiry,
       takes_audits p.audit p.chain rest in_range.audit in_range.chain,
     ) refl
 
-pub takes_payload : (p : Payload) (rest : List ℕ) → IsInRange p → take_payload (spelling p ++ rest) ≡ Some (p, rest)
-unfolding spelling
-takes_payload p rest in_range =
-    ap (λ xs. take_payload xs) (regroup p.kind p.methods (id_field p.user) (scope_field p) (to_be_bytes w64 p.expires) (audit_field p.audit p.chain) rest)
-    ∙ takes_fields p (to_be_bytes w64 p.expires) rest in_range (λ r. takes_expiry p.expires r in_range.expires)
+pub takes_payload : (version : ℕ) (p : Payload) (rest : List ℕ) → IsInRange p → IsVersion version p → take_payload ((version ∷ fields p) ++ rest) ≡ Some (p, rest)
+takes_payload version p rest in_range is =
+    ap (λ xs. take_payload xs) (regroup_payload version p rest)
+    ∙ takes_fields version p (to_be_bytes w64 p.expires) rest in_range is (λ r. takes_expiry p.expires r in_range.expires)
 
 -- ---- the laws
 
 pub reads_payload : (p : Payload) (bytes : List ℕ) → IsPayload bytes p → payload_of bytes ≡ Some p
 unfolding payload_of
 reads_payload p bytes is =
-    let alone : take_payload bytes ≡ Some (p, []) = ap (λ xs. take_payload xs) (is.1 ∙ sym (append-nil (spelling p))) ∙ takes_payload p [] is.0 in
+    let v = version_of p bytes is in
+    let alone : take_payload bytes ≡ Some (p, []) = ap (λ xs. take_payload xs) (v.2 ∙ sym (append-nil (v.0 ∷ fields p))) ∙ takes_payload v.0 p [] is.0 v.1 in
     rw alone refl
 
 whole_is : (p q : Payload) (rest : List ℕ) → if_whole p rest ≡ Some q → (p ≡ q) × (rest ≡ [])
@@ -271,7 +316,8 @@ read_payload p bytes h =
     let b = bind_some (take_payload bytes) (λ found. if_whole found.0 found.1) p h in
     let w = whole_is b.0.0 p b.0.1 b.2 in
     let t = taken_payload bytes b.0 b.1 in
-    rw (← w.0) (t.0, t.1 ∙ ap (λ ys. spelling b.0.0 ++ ys) w.1 ∙ append-nil (spelling b.0.0))
+    let whole : bytes ≡ t.0 ∷ fields b.0.0 = t.3 ∙ ap (λ ys. (t.0 ∷ fields b.0.0) ++ ys) w.1 ∙ append-nil (t.0 ∷ fields b.0.0) in
+    rw (← w.0) (payload_in b.0.0 t.0 bytes t.1 t.2 whole)
 
 pub no_payload : (bytes : List ℕ) → payload_of bytes ≡ None → (p : Payload) → ¬ IsPayload bytes p
 no_payload bytes none p is = let some = reads_payload p bytes is in cc
@@ -286,29 +332,47 @@ none_from bytes none = nothing (payload_of bytes) (λ p some. none p (read_paylo
 pub same_payload : (bytes : List ℕ) (p q : Payload) → IsPayload bytes p → IsPayload bytes q → p ≡ q
 same_payload bytes p q a b = ap (λ o. unwrap_or o p) (sym (reads_payload p bytes a) ∙ reads_payload q bytes b)
 
-pub same_bytes : (p : Payload) (a b : List ℕ) → IsPayload a p → IsPayload b p → a ≡ b
-same_bytes p a b ha hb = ha.1 ∙ sym hb.1
+pub same_bytes : (p : Payload) (a b : List ℕ) → slice_get a 0 ≡ slice_get b 0 → IsPayload a p → IsPayload b p → a ≡ b
+same_bytes p a b first ha hb =
+    let va = version_of p a ha in
+    let vb = version_of p b hb in
+    let versions : Some va.0 ≡ Some vb.0 = ap (λ xs. slice_get xs 0) (sym va.2) ∙ first ∙ ap (λ xs. slice_get xs 0) vb.2 in
+    va.2 ∙ ap (λ o. unwrap_or o 0 ∷ fields p) versions ∙ sym vb.2
+
+pub versions_of : (p : Payload) → IsInRange p → (version : ℕ) → ((rest : List ℕ) × IsPayload (version ∷ rest) p) ↔ IsVersion version p
+versions_of p in_range version = (
+  λ (rest, is). (let v = version_of p (version ∷ rest) is in
+      let same : v.0 ≡ version = ap (λ xs. first xs) (sym v.2) in
+      let P : ℕ → Type 0 = λ n. IsVersion n p in subst P same v.1),
+  λ is. (fields p, payload_in p version (version ∷ fields p) in_range is refl),
+)
+  where
+    first : List ℕ → ℕ
+    first [] = 0
+    first (x ∷ xs) = x
 
 pub nothing_more : (p q : Payload) (a more : List ℕ) → IsPayload a p → IsPayload (a ++ more) q → more ≡ []
 nothing_more p q a more ha hb =
-    let first : take_payload (a ++ more) ≡ Some (p, more) = ap (λ xs. take_payload (xs ++ more)) ha.1 ∙ takes_payload p more ha.0 in
-    let second : take_payload (a ++ more) ≡ Some (q, []) = ap (λ xs. take_payload xs) (hb.1 ∙ sym (append-nil (spelling q))) ∙ takes_payload q [] hb.0 in
+    let va = version_of p a ha in
+    let vb = version_of q (a ++ more) hb in
+    let first : take_payload (a ++ more) ≡ Some (p, more) = ap (λ xs. take_payload (xs ++ more)) va.2 ∙ takes_payload va.0 p more ha.0 va.1 in
+    let second : take_payload (a ++ more) ≡ Some (q, []) = ap (λ xs. take_payload xs) (vb.2 ∙ sym (append-nil (vb.0 ∷ fields q))) ∙ takes_payload vb.0 q [] hb.0 vb.1 in
     ap (λ (o : Option (Payload × List ℕ)). (unwrap_or o (p, more)).1) (sym first ∙ second)
 
 pub reading_is : (bytes : List ℕ) (o : Option Payload) → o ≡ payload_of bytes → IfSome o (λ p. IsPayload bytes p)
 reading_is bytes (Some p) h = read_payload p bytes (sym h)
 reading_is bytes None h = tt
 
-joined : (k m : ℕ) (u d p t e a : List ℕ) →
-    ((((((1 ∷ k ∷ m ∷ []) ++ u) ++ d) ++ p) ++ t) ++ e) ++ a ≡ 1 ∷ k ∷ m ∷ (u ++ ((d ++ (p ++ t)) ++ (e ++ a)))
-joined k m u d p t e a = simp append_assoc
+joined : (k m : ℕ) (u d p t c e a : List ℕ) →
+    (((((((2 ∷ k ∷ m ∷ []) ++ u) ++ d) ++ p) ++ t) ++ c) ++ e) ++ a ≡ 2 ∷ k ∷ m ∷ (u ++ ((d ++ (p ++ (t ++ c))) ++ (e ++ a)))
+joined k m u d p t c e a = simp append_assoc
 
 -- what stands there after each field that is written
-pub written : (p : Payload) (start head user domain project trust expires whole : List ℕ) → start ≡ [] → head ≡ start ++ (1 ∷ p.kind ∷ p.methods ∷ []) →
+pub written : (p : Payload) (start head user domain project trust credential expires whole : List ℕ) → start ≡ [] → head ≡ start ++ (2 ∷ p.kind ∷ p.methods ∷ []) →
     user ≡ head ++ id_field p.user → domain ≡ user ++ field_if_any p.domain → project ≡ domain ++ field_if_any p.project →
-    trust ≡ project ++ field_if_any p.trust → expires ≡ trust ++ to_be_bytes w64 p.expires → whole ≡ expires ++ audit_field p.audit p.chain →
-    whole ≡ spelling p
+    trust ≡ project ++ field_if_any p.trust → credential ≡ trust ++ field_if_any p.credential →
+    expires ≡ credential ++ to_be_bytes w64 p.expires → whole ≡ expires ++ audit_field p.audit p.chain → whole ≡ spelling p
 unfolding spelling
-written p start head user domain project trust expires whole e0 e1 e2 e3 e4 e5 e6 e7 =
-    let fields = joined p.kind p.methods (id_field p.user) (field_if_any p.domain) (field_if_any p.project) (field_if_any p.trust) (to_be_bytes w64 p.expires) (audit_field p.audit p.chain) in
-    rw (e7, e6, e5, e4, e3, e2, e1, e0) fields
+written p start head user domain project trust credential expires whole e0 e1 e2 e3 e4 e5 e6 e7 e8 =
+    let fields = joined p.kind p.methods (id_field p.user) (field_if_any p.domain) (field_if_any p.project) (field_if_any p.trust) (field_if_any p.credential) (to_be_bytes w64 p.expires) (audit_field p.audit p.chain) in
+    rw (e8, e7, e6, e5, e4, e3, e2, e1, e0) fields

@@ -1,8 +1,8 @@
 -- What holds of all payloads and their spellings.
-use Rattle.std.specs.Prelude.{◌≡◌, ◌≢◌, ◌↔◌, ◌⊎◌, ℕ, List, [], ◌∷◌, ◌++◌, length, Some, None}
+use Rattle.std.specs.Prelude.{◌≡◌, ◌≢◌, ◌↔◌, ◌⊎◌, ℕ, ◌≤◌, List, [], ◌∷◌, ◌++◌, length, Some, None, slice_get}
 use Rattle.hex.specs.Hex.{encode_lower}
 use Rattle.ks_payload.specs.IdFields.{id_field}
-use Rattle.ks_payload.specs.Payloads.{IsPayload, IsSixteenBytes}
+use Rattle.ks_payload.specs.Payloads.{IsPayload, IsInRange, IsSixteenBytes}
 use Rattle.ks_payload.specs.Readings.{payload_of}
 use Rattle.ks_payload.specs.declared.payload.Payload.{Payload}
 
@@ -14,8 +14,14 @@ FindsEachPayload = (bytes : List ℕ) (p : Payload) → (payload_of bytes ≡ So
 abbrev pub FindsNoOther : Type 0
 FindsNoOther = (bytes : List ℕ) → (payload_of bytes ≡ None) ↔ ((p : Payload) → ¬ IsPayload bytes p)
 
+-- a payload in range has a spelling of version 2, and one of version 1 exactly where its kind is 0 to 3
+abbrev pub HasItsVersions : Type 0
+HasItsVersions = (p : Payload) → IsInRange p → (version : ℕ) →
+    ((rest : List ℕ) × IsPayload (version ∷ rest) p) ↔ ((version ≡ 2) ⊎ ((version ≡ 1) × (p.kind ≤ 3)))
+
+-- and one alone of each: spellings of a payload whose first byte, the version, is the same are the same
 abbrev pub HasOneSpelling : Type 0
-HasOneSpelling = (p : Payload) (a b : List ℕ) → IsPayload a p → IsPayload b p → a ≡ b
+HasOneSpelling = (p : Payload) (a b : List ℕ) → slice_get a 0 ≡ slice_get b 0 → IsPayload a p → IsPayload b p → a ≡ b
 
 abbrev pub HasOneReading : Type 0
 HasOneReading = (bytes : List ℕ) (p q : Payload) → IsPayload bytes p → IsPayload bytes q → p ≡ q

@@ -1,30 +1,35 @@
--- The payload of an identity token, version 1: which payloads there are, and the bytes that spell each.
-use Rattle.std.specs.Prelude.{◌≡◌, ℕ, ◌<◌, ◌≤◌, Bool, ◌||◌, ◌==◌, List, [], ◌∷◌, ◌++◌, length, slice_index, Option, Some, None, is_some, IfSome}
+-- The payload of an identity token: which payloads there are, and the bytes that spell each, in version 2 and in version 1.
+use Rattle.std.specs.Prelude.{◌≡◌, ◌⊎◌, ℕ, ◌<◌, ◌≤◌, Bool, ◌||◌, ◌==◌, List, [], ◌∷◌, ◌++◌, length, slice_index, Option, Some, None, is_some, IfSome}
 use Rattle.std.specs.Int.{w64, to_be_bytes}
+use Rattle.ks_base.specs.declared.limits.TheConstants.{LAST_SECOND}
 use Rattle.ks_base.specs.Ids.{IsId}
 use Rattle.ks_payload.specs.IdFields.{id_field}
 use Rattle.ks_payload.specs.declared.payload.Payload.{Payload}
 
--- 1 is the kind of a domain, 2 of a project, and 3 of a trust, which names its project too
+-- The kinds: 0 is without a scope, 1 a domain, 2 a project, 3 a trust, which names its project too, 4 the system, which names
+-- nothing, and 5 an application credential, which names its project too.
 abbrev pub has_domain : ℕ → Bool
 has_domain kind = kind == 1
 
 abbrev pub has_project : ℕ → Bool
-has_project kind = (kind == 2) || (kind == 3)
+has_project kind = (kind == 2) || ((kind == 3) || (kind == 5))
 
 abbrev pub has_trust : ℕ → Bool
 has_trust kind = kind == 3
+
+abbrev pub has_credential : ℕ → Bool
+has_credential kind = kind == 5
 
 abbrev pub IsSixteenBytes : List ℕ → Type 0
 IsSixteenBytes id = (length id ≡ 16) × ((k : ℕ) → slice_index id k < 256)
 
 -- the last second of the year 9999
 abbrev pub last_expiry : ℕ
-last_expiry = 253402300799
+last_expiry = LAST_SECOND
 
 -- the payloads that have a spelling
 pub record IsInRange (p : Payload) : Type 0 where
-  pub kind : p.kind ≤ 3
+  pub kind : p.kind ≤ 5
   pub some_method : 1 ≤ p.methods
   pub methods : p.methods ≤ 15
   pub user : IsId p.user
@@ -37,6 +42,8 @@ pub record IsInRange (p : Payload) : Type 0 where
   pub expires : p.expires ≤ last_expiry
   pub audit : IsSixteenBytes p.audit
   pub chain : IfSome p.chain IsSixteenBytes
+  pub has_credential_id : is_some p.credential ≡ has_credential p.kind
+  pub credential : IfSome p.credential IsId
 
 -- the field of an id that is there
 abbrev pub field_if_any : Option (List ℕ) → List ℕ
@@ -48,14 +55,21 @@ abbrev pub audit_field : List ℕ → Option (List ℕ) → List ℕ
 audit_field audit None = 1 ∷ audit
 audit_field audit (Some chain) = 2 ∷ (audit ++ chain)
 
--- the domain; the project; or the project, then the trust
+-- nothing; the domain; the project; the project, then the trust; or the project, then the credential
 abbrev pub scope_field : Payload → List ℕ
-scope_field p = field_if_any p.domain ++ (field_if_any p.project ++ field_if_any p.trust)
+scope_field p = field_if_any p.domain ++ (field_if_any p.project ++ (field_if_any p.trust ++ field_if_any p.credential))
 
--- version, kind, methods, user, scope, expiry, audit ids
+-- what stands behind the version, the same in both: kind, methods, user, scope, expiry, audit ids
+abbrev pub fields : Payload → List ℕ
+fields p = p.kind ∷ p.methods ∷ (id_field p.user ++ (scope_field p ++ (to_be_bytes w64 p.expires ++ audit_field p.audit p.chain)))
+
+-- the spelling of version 2, the one that is written
 unfoldable pub spelling : Payload → List ℕ
-spelling p =
-    1 ∷ p.kind ∷ p.methods ∷ (id_field p.user ++ (scope_field p ++ (to_be_bytes w64 p.expires ++ audit_field p.audit p.chain)))
+spelling p = 2 ∷ fields p
+
+-- the spelling of version 1, which has the kinds 0 to 3 alone
+unfoldable pub old_spelling : Payload → List ℕ
+old_spelling p = 1 ∷ fields p
 
 abbrev pub IsPayload : List ℕ → Payload → Type 0
-IsPayload bytes p = IsInRange p × (bytes ≡ spelling p)
+IsPayload bytes p = IsInRange p × ((bytes ≡ spelling p) ⊎ ((p.kind ≤ 3) × (bytes ≡ old_spelling p)))

@@ -5,7 +5,7 @@ use Rattle.std.specs.Int.{w64, from_be_bytes}
 use Rattle.hex.specs.Hex.{encode_lower}
 use Rattle.ks_base.specs.Ids.{is_id_byte}
 use Rattle.ks_payload.specs.IdFields.{is_hex_id}
-use Rattle.ks_payload.specs.Payloads.{has_domain, has_project, has_trust, last_expiry}
+use Rattle.ks_payload.specs.Payloads.{has_domain, has_project, has_trust, has_credential, last_expiry}
 use Rattle.ks_payload.specs.declared.payload.Payload.{Payload}
 
 infixl 10 ◌>>=◌
@@ -44,21 +44,26 @@ abbrev pub take_if : Bool → (List ℕ → Option (List ℕ × List ℕ)) → L
 take_if true reader bytes = option_map (λ found. (Some found.0, found.1)) (reader bytes)
 take_if false reader bytes = Some (None, bytes)
 
--- kind and methods
+-- the last kind of a version
+abbrev pub last_kind : ℕ → ℕ
+last_kind version = if version == 1 then 3 else 5
+
+-- kind and methods, behind the version
 unfoldable pub take_head : List ℕ → Option ((ℕ × ℕ) × List ℕ)
 take_head bytes = do
-  version ← take_number 1 1 bytes
-  kind ← take_number 0 3 version.1
+  version ← take_number 1 2 bytes
+  kind ← take_number 0 (last_kind version.0) version.1
   methods ← take_number 1 15 kind.1
   Some ((kind.0, methods.0), methods.1)
 
--- the domain, the project and the trust of this kind
-unfoldable pub take_scope : ℕ → List ℕ → Option ((Option (List ℕ) × Option (List ℕ) × Option (List ℕ)) × List ℕ)
+-- the domain, the project, the trust and the credential of this kind
+unfoldable pub take_scope : ℕ → List ℕ → Option ((Option (List ℕ) × Option (List ℕ) × Option (List ℕ) × Option (List ℕ)) × List ℕ)
 take_scope kind bytes = do
   domain ← take_if (has_domain kind) take_id bytes
   project ← take_if (has_project kind) take_id domain.1
   trust ← take_if (has_trust kind) take_id project.1
-  Some ((domain.0, project.0, trust.0), trust.1)
+  credential ← take_if (has_credential kind) take_id trust.1
+  Some ((domain.0, project.0, trust.0, credential.0), credential.1)
 
 unfoldable pub take_expiry : List ℕ → Option (ℕ × List ℕ)
 take_expiry bytes = do
@@ -92,6 +97,7 @@ take_payload bytes = do
       expires = expires.0;
       audit = audits.0.0;
       chain = audits.0.1;
+      credential = scope.0.3;
     },
     audits.1,
   )

@@ -1,5 +1,5 @@
 //! Laws of the format. Their functions do nothing: their contracts are the laws.
-ghost use Rattle.ks_payload.specs.Laws.{FindsEachPayload, FindsNoOther, HasOneReading, HasOneSpelling, HasNoProperPrefix, HasTheIdField};
+ghost use Rattle.ks_payload.specs.Laws.{FindsEachPayload, FindsNoOther, HasOneReading, HasItsVersions, HasOneSpelling, HasNoProperPrefix, HasTheIdField};
 
 /// What the computed reading finds is what the bytes spell.
 pub fn readings()
@@ -7,7 +7,12 @@ pub fn readings()
     ensures none { FindsNoOther }
 {}
 
-/// A payload has one spelling.
+/// A payload has a spelling in version 2, and one in version 1 exactly where its kind is 0 to 3.
+pub fn versions()
+    ensures { HasItsVersions }
+{}
+
+/// A payload has one spelling in a version.
 pub fn one_spelling()
     ensures { HasOneSpelling }
 {}

@@ -1,7 +1,7 @@
 //! The fields of a payload, each read off the front of the bytes.
 ghost use Rattle.std.specs.Prelude.{◌≡◌, MatchOption, option_map};
-ghost use Rattle.ks_payload.specs.Payloads.{has_domain, has_project, has_trust};
-ghost use Rattle.ks_payload.specs.Readings.{take_number, take_bytes, take_hex_id, take_plain_id, take_id, take_if, take_head, take_scope, take_expiry, take_audits, payload_of};
+ghost use Rattle.ks_payload.specs.Payloads.{has_domain, has_project, has_trust, has_credential};
+ghost use Rattle.ks_payload.specs.Readings.{take_number, take_bytes, take_hex_id, take_plain_id, take_id, take_if, last_kind, take_head, take_scope, take_expiry, take_audits, payload_of};
 
 use crate::Payload;
 use crate::hex_id::{is_hex_id, unpacked};
@@ -14,6 +14,11 @@ const PROJECT: u8 = 2;
 
 const TRUST: u8 = 3;
 
+const CREDENTIAL: u8 = 5;
+
+/// The first version, whose last kind is that of a trust.
+const OLD_VERSION: u8 = 1;
+
 const MOST_METHODS: u8 = 15;
 
 const LAST_EXPIRY: u64 = 253_402_300_799;
@@ -24,6 +29,7 @@ struct Scope {
     domain: Option<Id>,
     project: Option<Id>,
     trust: Option<Id>,
+    credential: Option<Id>,
 }
 
 /// The token's own audit id, and that of the first token of its chain.
@@ -125,16 +131,26 @@ fn take_sixteen_if(there: bool, bytes: &[u8]) -> Option<(Option<&[u8; 16]>, &[u8
     Some((Some(id), rest))
 }
 
+fn last_kind(version: u8) -> u8
+    ensures { result ≡ last_kind version }
+{
+    if version == OLD_VERSION {
+        TRUST
+    } else {
+        CREDENTIAL
+    }
+}
+
 /// The kind and the methods, behind the version.
 #[tactic(auto, unfolding(crate::specs::Readings::take_head))]
 fn take_head(bytes: &[u8]) -> Option<((u8, u8), &[u8])>
     ensures { MatchOption result (take_head bytes.now ≡ None)
         (λ found. take_head bytes.now ≡ Some (found.0, found.1.now)) }
 {
-    let Some((_, rest)) = take_number(bytes, VERSION, VERSION) else {
+    let Some((version, rest)) = take_number(bytes, OLD_VERSION, VERSION) else {
         return None;
     };
-    let Some((kind, rest)) = take_number(rest, 0, TRUST) else {
+    let Some((kind, rest)) = take_number(rest, 0, last_kind(version)) else {
         return None;
     };
     let Some((methods, rest)) = take_number(rest, 1, MOST_METHODS) else {
@@ -146,15 +162,19 @@ fn take_head(bytes: &[u8]) -> Option<((u8, u8), &[u8])>
 #[tactic(auto, unfolding(crate::specs::Readings::take_scope))]
 fn take_scope(kind: u8, bytes: &[u8]) -> Option<(Scope, &[u8])>
     ensures { MatchOption result (take_scope kind bytes.now ≡ None)
-        (λ found. take_scope kind bytes.now ≡ Some ((found.0.domain, found.0.project, found.0.trust), found.1.now)) }
+        (λ found. take_scope kind bytes.now ≡ Some ((found.0.domain, found.0.project, found.0.trust, found.0.credential), found.1.now)) }
 {
     let Some((domain, rest)) = take_id_if(kind == DOMAIN, bytes) else {
         return None;
     };
-    let Some((project, rest)) = take_id_if(kind == PROJECT || kind == TRUST, rest) else {
+    let has_project = kind == PROJECT || kind == TRUST || kind == CREDENTIAL;
+    let Some((project, rest)) = take_id_if(has_project, rest) else {
         return None;
     };
     let Some((trust, rest)) = take_id_if(kind == TRUST, rest) else {
+        return None;
+    };
+    let Some((credential, rest)) = take_id_if(kind == CREDENTIAL, rest) else {
         return None;
     };
     Some((
@@ -162,6 +182,7 @@ fn take_scope(kind: u8, bytes: &[u8]) -> Option<(Scope, &[u8])>
             domain,
             project,
             trust,
+            credential,
         },
         rest,
     ))
@@ -233,5 +254,6 @@ pub fn read_payload(bytes: &[u8]) -> Option<Payload>
         expires,
         audit,
         chain,
+        credential: scope.credential,
     })
 }
