@@ -5,7 +5,6 @@ pub mod Steps
 pub mod Cipher
 pub mod Search
 pub mod Chains
-pub mod PlainLemmas
 pub mod Streams
 pub mod WordLemmas
 pub mod RoundLemmas

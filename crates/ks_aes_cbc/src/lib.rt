@@ -8,12 +8,8 @@ mod cbc;
 mod columns;
 mod keys;
 mod laws;
-#[cfg(test)]
-mod plain;
 mod rounds;
 mod tables;
-#[cfg(test)]
-mod tests;
 
 pub use aes::Aes128;
 pub use cbc::{cbc_open, cbc_seal};

@@ -3,6 +3,7 @@
 //! opening.
 #![tactic(auto)]
 
+mod authentic;
 mod base64_url;
 mod envelope;
 mod key_text;
@@ -16,6 +17,3 @@ pub use key_text::{KeyText, read_key};
 pub use opened::{Opened, open};
 pub use opening::{OpenAnswer, answer};
 pub use sealing::seal;
-
-#[cfg(test)]
-mod tests;

@@ -2,10 +2,9 @@ ghost use Rattle.std.specs.Prelude.{◌≡◌, ◌<◌, length, slice_index, IfO
 ghost use Rattle.ks_fernet.specs.Opening.{answer_of, open_of};
 ghost use Rattle.ks_fernet.specs.Token.{parts_of};
 
+use crate::authentic::Authentic;
 use crate::envelope::{Parts, ROOM, fault_in, read_text};
-use ks_aes_cbc::cbc_open;
 use ks_base::{Bytes, Key, Memory};
-use ks_hmac::{hmac, same};
 use std::alloc::Global;
 
 /// What a key makes of a text.
@@ -23,8 +22,7 @@ pub enum OpenAnswer {
     },
 }
 
-/// What the key makes of the text. Nothing is deciphered before the mac is tested. Only the plain
-/// text takes memory.
+/// What the key makes of the text. Only the plain text takes memory.
 pub fn answer(alloc: Global, key: &Key, text: &[u8]) -> Result<OpenAnswer, Memory>
     ensures { IfOk result (λ said. said ≡ open_of key.now text.now) }
 {
@@ -45,15 +43,12 @@ fn open_bytes(alloc: Global, key: &Key, bytes: &[u8]) -> Result<OpenAnswer, Memo
     ensures { IfOk result (λ said. said ≡ answer_of key.now (parts_of bytes.now)) }
 {
     let parts = Parts::of(bytes);
-    if !same(parts.mac, &hmac(&key.signing, parts.signed)) {
+    let Some(authentic) = Authentic::of(key, &parts) else {
         return Ok(OpenAnswer::No);
-    }
+    };
     let time = parts.time;
-    match cbc_open(alloc, &key.encryption, parts.iv, parts.ciphertext)? {
-        Some(plain) => Ok(OpenAnswer::Yes {
-            time,
-            plain: Bytes::from_vec(plain),
-        }),
+    match authentic.decipher(alloc)? {
+        Some(plain) => Ok(OpenAnswer::Yes { time, plain }),
         None => Ok(OpenAnswer::No),
     }
 }

@@ -11,8 +11,6 @@ use keyed::KeyedHash;
 use sha2::Digest;
 
 mod keyed;
-#[cfg(test)]
-mod tests;
 
 // PBKDF2 numbers the blocks of a key from 1, and a key of 32 bytes has one.
 const BLOCK_NUMBER: u32 = 1;

@@ -7,9 +7,10 @@ use Rattle.std.proofs.lemmas.List.Elements.{All-from_recursion, recursion_from_A
 use Rattle.ks_base.specs.declared.key.Key.{Key}
 use Rattle.ks_ring.specs.declared.held_key.HeldKey.{HeldKey}
 use Rattle.ks_ring.specs.Rings.{RingState, rising, lowest_number, left_of, held_as, numbered, load_of, highest, is_staged, active, promoted_to, promoted, rotate_of}
-use Rattle.ks_ring.specs.Laws.{AreCounted, CountsFromZero, Held, KeepsItsKey, LoadingKeepsNumbers, RotationKeepsNumbers, StagesTheNewKey, StagesNoOther, LoadingNeverFalls, RotationRises}
-use Rattle.ks_ring.proofs.NumberLemmas.{Finds, found_lowest, free_after, next_after, next_rises, next_step, reverse_cons}
+use Rattle.ks_ring.specs.Laws.{AreCounted, CountsFromZero, Held, KeepsItsKey, LoadingKeepsNumbers, RotationKeepsNumbers, StagesTheNewKey, StagesNoOther, LoadingNeverFalls, LoadingAddsFew, RotationRises}
+use Rattle.ks_ring.proofs.NumberLemmas.{Finds, found_lowest, free_after, next_after, next_rises, next_within, next_step, reverse_cons}
 use Rattle.ks_ring.proofs.RingLemmas.{HeldOver}
+use Rattle.ks_ring.proofs.SortLemmas.{length-rising}
 use Rattle.ks_ring.proofs.RotationLemmas.{over_promoted, over_take}
 
 -- what holds of all
@@ -142,6 +143,10 @@ stages_alone ring new most held stands zero_is =
 pub loading_rises : LoadingNeverFalls
 unfolding load_of
 loading_rises ring keys = next_rises ring.held ring.next (rising keys)
+
+pub loading_adds_few : LoadingAddsFew
+unfolding load_of
+loading_adds_few ring keys = rw (← length-rising keys) (next_within ring.held ring.next (rising keys))
 
 pub rotation_rises : RotationRises
 unfolding rotate_of

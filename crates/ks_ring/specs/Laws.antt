@@ -1,5 +1,5 @@
 -- No number is given twice.
-use Rattle.std.specs.Prelude.{◌≡◌, ◌⊎◌, ℕ, suc, ◌≤◌, List, [], ◌∷◌, reverse, All, Contains}
+use Rattle.std.specs.Prelude.{◌≡◌, ◌⊎◌, ℕ, suc, ◌+◌, ◌≤◌, List, [], ◌∷◌, length, reverse, All, Contains}
 use Rattle.ks_base.specs.declared.key.Key.{Key}
 use Rattle.ks_ring.specs.declared.held_key.HeldKey.{HeldKey}
 use Rattle.ks_ring.specs.Rings.{RingState, new_of, load_of, rotate_of}
@@ -42,6 +42,10 @@ StagesNoOther = (ring : RingState) (new : Key) (most : ℕ) (held : HeldKey) →
 -- the next number never falls
 abbrev pub LoadingNeverFalls : Type 0
 LoadingNeverFalls = (ring : RingState) (keys : List (ℕ × Key)) → ring.next ≤ (load_of ring keys).next
+
+-- and rises by one at most for each key that is loaded
+abbrev pub LoadingAddsFew : Type 0
+LoadingAddsFew = (ring : RingState) (keys : List (ℕ × Key)) → (load_of ring keys).next ≤ ring.next + length keys
 
 abbrev pub RotationRises : Type 0
 RotationRises = (ring : RingState) (new : Key) (most : ℕ) → (rotate_of ring new most).next ≡ suc ring.next

@@ -1,6 +1,6 @@
 //! Laws of the numbers. Their functions do nothing: their contracts are the laws. Together they say that no
 //! number is given twice.
-ghost use Rattle.ks_ring.specs.Laws.{CountsFromZero, LoadingKeepsNumbers, RotationKeepsNumbers, StagesTheNewKey, StagesNoOther, LoadingNeverFalls, RotationRises};
+ghost use Rattle.ks_ring.specs.Laws.{CountsFromZero, LoadingKeepsNumbers, RotationKeepsNumbers, StagesTheNewKey, StagesNoOther, LoadingNeverFalls, LoadingAddsFew, RotationRises};
 
 /// The first ring numbers its keys from 0 on by rising index.
 pub fn new_numbers()
@@ -19,8 +19,9 @@ pub fn rotated_numbers()
     ensures alone { StagesNoOther }
 {}
 
-/// The next number never falls.
+/// The next number never falls, and rises by one at most for each key.
 pub fn next_number()
     ensures loading { LoadingNeverFalls }
+    ensures few { LoadingAddsFew }
     ensures rotation { RotationRises }
 {}

@@ -13,6 +13,3 @@ mod sorting;
 pub use held_key::HeldKey;
 pub use laws::{loaded_numbers, new_numbers, next_number, rotated_numbers};
 pub use ring::Ring;
-
-#[cfg(test)]
-mod tests;
