@@ -7,5 +7,6 @@ pub mod Reading
 pub mod Seen
 pub mod Tokens
 pub mod Trees
+pub mod TreeCodes
 pub mod Truth
 pub mod Writing

@@ -2,8 +2,6 @@
 //! where a tree holds.
 #![tactic(auto)]
 
-#[cfg(test)]
-mod caller_tests;
 mod check;
 mod credentials;
 mod filling;
@@ -13,8 +11,6 @@ mod pieces;
 mod reader;
 mod rule;
 mod stop;
-#[cfg(test)]
-mod tests;
 mod tokens;
 mod truth;
 mod writer;

@@ -6,8 +6,6 @@ mod civil;
 mod fraction;
 mod laws;
 mod reading;
-#[cfg(test)]
-mod tests;
 mod writing;
 
 pub use laws::{one_civil_time, one_moment, one_written_text, read_back};
