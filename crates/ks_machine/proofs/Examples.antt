@@ -41,11 +41,11 @@ use Rattle.ks_machine.specs.States.{State}
 use Rattle.ks_machine.specs.Steps.{Stepped, Replies, Needs, step}
 use Rattle.ks_machine.proofs.TheMachine.{the_machine}
 
-abbrev moment : ℕ
+abbrev pub moment : ℕ
 moment = 499162800
 
 -- ann is admin on demo, bob is a member there
-abbrev o1 : PlainOpening
+abbrev pub o1 : PlainOpening
 o1 = record {
   settings = record { url = codes "http://127.0.0.1:5000"; life = 3600; rounds = 1; max_keys = 3; folder = false };
   rules = record { name = codes "default"; tree = role (codes "admin") } ∷ record { name = codes "identity:create_trust"; tree = always } ∷ [];
@@ -65,7 +65,7 @@ o1 = record {
 }
 
 -- tokens of the example are texts that stand for their payloads
-abbrev payload_for : Id → Payload
+abbrev pub payload_for : Id → Payload
 payload_for user = record {
   kind = 2;
   methods = 1;
@@ -76,22 +76,23 @@ payload_for user = record {
   expires = moment + 3600;
   audit = replicate 16 (length user);
   chain = None;
+  credential = None;
 }
 
-abbrev opens_as : Text → OpenAnswer
+abbrev pub opens_as : Text → OpenAnswer
 opens_as text =
     if bytes_eq text (codes "ann-token") then Yes moment (spelling (payload_for (codes "ann")))
     else if bytes_eq text (codes "bob-token") then Yes moment (spelling (payload_for (codes "bobby")))
     else NotText
 
 -- a password is its own digest
-abbrev known : Known
+abbrev pub known : Known
 known = record { answer = λ held text. Some (opens_as text); derive = λ password salt rounds. Some password }
 
-abbrev nothing_known : Known
+abbrev pub nothing_known : Known
 nothing_known = record { answer = λ held text. None; derive = λ password salt rounds. None }
 
-abbrev call : Command → Option Text → Call
+abbrev pub call : Command → Option Text → Call
 call asked caller = record {
   command = asked;
   caller = caller;
@@ -101,32 +102,32 @@ call asked caller = record {
   folder = folder.Unused;
 }
 
-abbrev start : State
+abbrev pub start : State
 start = opened_state o1
 
-abbrev cause_of : Stepped → Option Cause
+abbrev pub cause_of : Stepped → Option Cause
 cause_of (Replies (reply.Refused why) what) = Some why
 cause_of (Replies (reply.Ok told) what) = None
 cause_of (Needs lack) = None
 
-abbrev change_of : Stepped → Option Change
+abbrev pub change_of : Stepped → Option Change
 change_of (Replies told what) = what
 change_of (Needs lack) = None
 
-abbrev ann : Option Text
+abbrev pub ann : Option Text
 ann = Some (codes "ann-token")
 
-abbrev bob : Option Text
+abbrev pub bob : Option Text
 bob = Some (codes "bob-token")
 
-abbrev run : State → Call → State
+abbrev pub run : State → Call → State
 run S called = by_change (change_of (step known S called))
   where
     by_change : Option Change → State
     by_change None = S
     by_change (Some what) = apply S moment what
 
-abbrev password_login : Text → Text → Command
+abbrev pub password_login : Text → Text → Command
 password_login name password = command.Login (record {
   proof = proof.Password (user_named.Name name (named.Id (codes "default"))) password;
   scope = scope_in.Project (project_named.Name (codes "demo") (named.Id (codes "default")));
@@ -150,11 +151,11 @@ unfolding the_machine
 right_password = refl
 
 -- what one state after another refuses, and whether it changed
-abbrev replies : State → List Call → List (Option Cause)
+abbrev pub replies : State → List Call → List (Option Cause)
 replies S [] = []
 replies S (called ∷ more) = cause_of (step known S called) ∷ replies (run S called) more
 
-abbrev made_project : Text → Option Id → Command
+abbrev pub made_project : Text → Option Id → Command
 made_project name parent = command.Create (made.Project None (Some name) None parent None None)
 
 -- a second project of the name; its domain can't be changed; the default domain is enabled; nobody has the id; bob may not list; no token
@@ -181,9 +182,9 @@ refusals = refl
 -- bob ends his token: it is valid no more, and his project scope is as it was
 revoked :
     replies start (
-    call command.Validate ann ∷
+    call (command.Validate false) ann ∷
     call command.RevokeToken ann ∷
-    call command.Validate ann ∷
+    call (command.Validate false) ann ∷
     call (password_login (codes "bob") (codes "hunter2")) None ∷ [])
     ≡ None ∷ None ∷ Some (cause.SubjectToken why.Revoked) ∷ None ∷ []
 unfolding the_machine
@@ -193,7 +194,7 @@ revoked = refl
 lost_role :
     replies start (
     call (command.Ungrant (record { actor = actor.User (codes "bobby"); target = target.Project (codes "demo-id"); inherited = false; role = codes "r-member" })) ann ∷
-    call command.Validate ann ∷
+    call (command.Validate false) ann ∷
     call (password_login (codes "bob") (codes "hunter2")) None ∷ [])
     ≡ None ∷ Some (cause.SubjectToken why.Roles) ∷ Some (cause.ScopeRefused scope_why.NoRoles) ∷ []
 unfolding the_machine
@@ -205,7 +206,7 @@ unfolding the_machine
 asks_for_keys = refl
 
 -- bob trusts ann with his role on demo, once
-abbrev trusts_ann : Command
+abbrev pub trusts_ann : Command
 trusts_ann = command.CreateTrust (record {
   trustor = codes "bobby";
   trustee = codes "ann";
@@ -220,10 +221,10 @@ trusts_ann = command.CreateTrust (record {
 })
 
 -- the id that the draw of the examples makes
-abbrev drawn_id : Id
+abbrev pub drawn_id : Id
 drawn_id = codes "09090909090949098909090909090909"
 
-abbrev by_trust : Text → Command
+abbrev pub by_trust : Text → Command
 by_trust password = command.Login (record {
   proof = proof.Password (user_named.Id (codes "ann")) password;
   scope = scope_in.Trust drawn_id;
@@ -290,11 +291,11 @@ not_on_the_domain = refl
 
 -- revocations: what the changes of one call after the other end
 
-abbrev ended : State → List Call → List Revoke
+abbrev pub ended : State → List Call → List Revoke
 ended S [] = map (λ event. event.what) S.events
 ended S (called ∷ more) = ended (run S called) more
 
-abbrev update_bob : Option Text → Option Bool → Command
+abbrev pub update_bob : Option Text → Option Bool → Command
 update_bob name enabled = command.Update (codes "bobby") (made.User None name None None enabled)
 
 -- bob is renamed to his own name, disabled, enabled and deleted
@@ -312,20 +313,20 @@ bob_ends = refl
 abbrev made_below : Text → Text → Command
 made_below parent name = command.Create (made.Project None (Some name) None (Some parent) None None)
 
-abbrev call_drawing : ℕ → Command → Call
+abbrev pub call_drawing : ℕ → Command → Call
 call_drawing byte asked = record (call asked ann) { draw = Bytes (replicate 64 byte) }
 
 -- the ids that such draws make
-abbrev id_of_9 : Id
+abbrev pub id_of_9 : Id
 id_of_9 = codes "09090909090949098909090909090909"
 
-abbrev id_of_8 : Id
+abbrev pub id_of_8 : Id
 id_of_8 = codes "08080808080848088808080808080808"
 
-abbrev id_of_7 : Id
+abbrev pub id_of_7 : Id
 id_of_7 = codes "07070707070747078707070707070707"
 
-abbrev id_of_6 : Id
+abbrev pub id_of_6 : Id
 id_of_6 = codes "06060606060646068606060606060606"
 
 tree_is_kept :

@@ -1,4 +1,12 @@
 pub mod TheMachine
-mod Examples
+pub mod Examples
+mod WindowExamples
+mod KeyExamples
+mod TrustExamples
 pub mod FrontLemmas
 pub mod RoleLemmas
+pub mod FewFacts
+pub mod AllFacts
+pub mod TokenLemmas
+pub mod EndedLemmas
+pub mod RefusedLemmas

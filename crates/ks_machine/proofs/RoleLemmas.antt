@@ -9,6 +9,7 @@ use Rattle.std.specs.Prelude.{◌↔◌}
 use Rattle.std.proofs.lemmas.Bool.Decides.{Decides-and, Decides-or, Decides-like}
 use Rattle.std.proofs.lemmas.Cmp.{nat_list_cmp_total, tied_itself}
 use Rattle.std.proofs.lemmas.Slice.Eq.{bytes_eq-Decides}
+use Rattle.ks_base.specs.Grants.{same_target}
 use Rattle.ks_base.specs.declared.grants.Actor.{Actor}
 use Rattle.ks_base.specs.declared.grants.Actor.TheVariants as actor
 use Rattle.ks_base.specs.declared.grants.GrantRow.{GrantRow}
@@ -24,10 +25,10 @@ use Rattle.ks_base.specs.Tables.{Among, AreAbove, IsAscending, id_cmp, put_row}
 use Rattle.ks_base.specs.Tree.{ancestors}
 use Rattle.ks_base.proofs.RowLemmas.{among_filter, among_put_other, filter_among, put_among}
 use Rattle.ks_base.proofs.TableLemmas.{ascending_filter, ascending_put}
-use Rattle.ks_machine.specs.Effective.{acts, closure, implied_ids, in_order, is_effective, is_member, leads, lies_in, reaches, roles_at, same_target}
+use Rattle.ks_machine.specs.Effective.{acts, closure, roles_implied, in_order, is_effective, is_member, leads, lies_in, reaches, roles_at}
 
 -- a test of each item finds one that passes
-any-Decides : {X : Type 0} (test : X → Bool) (P : X → Type 0) → ((x : X) → Decides (test x) (P x)) → (xs : List X) →
+pub any-Decides : {X : Type 0} (test : X → Bool) (P : X → Type 0) → ((x : X) → Decides (test x) (P x)) → (xs : List X) →
     Decides (list_any test xs) ((x : X) × Among xs x × P x)
 any-Decides {X} test P each [] = (λ found. cc, none)
   where
@@ -84,7 +85,7 @@ whole : (rows : List ImplyRow) (row : ImplyRow) (from to : Id) → Parts rows ro
 whole rows row from to (inl walks) = (walks.0, wider rows row from to walks.0 walks.1)
 whole rows row from to (inr both) = over_row rows row from to both.0.0 both.1.0 both.0.1 both.1.1
 
-leads-Decides : (rows : List ImplyRow) (from to : Id) → Decides (leads rows from to) (Walks rows from to)
+pub leads-Decides : (rows : List ImplyRow) (from to : Id) → Decides (leads rows from to) (Walks rows from to)
 unfolding leads
 leads-Decides [] from to = Decides-like (same from to) (λ is. ([], is)) none (bytes_eq-Decides from to)
   where
@@ -116,7 +117,12 @@ target-Decides : (a b : Target) → Decides (same_target a b) (a ≡ b)
 target-Decides (target.Project a) (target.Project b) = Decides-like (same a b) (ap target.Project) (λ is. cc) (bytes_eq-Decides a b)
 target-Decides (target.Domain a) (target.Domain b) = Decides-like (same a b) (ap target.Domain) (λ is. cc) (bytes_eq-Decides a b)
 target-Decides (target.Project a) (target.Domain b) = (λ is. cc, λ is. cc)
+target-Decides (target.Project a) target.System = (λ is. cc, λ is. cc)
 target-Decides (target.Domain a) (target.Project b) = (λ is. cc, λ is. cc)
+target-Decides (target.Domain a) target.System = (λ is. cc, λ is. cc)
+target-Decides target.System (target.Project b) = (λ is. cc, λ is. cc)
+target-Decides target.System (target.Domain b) = (λ is. cc, λ is. cc)
+target-Decides target.System target.System = (λ is. refl, λ is. refl)
 
 lies-Decides : (projects : List ProjectRow) (domain project : Id) → Decides (lies_in projects domain project) (LiesIn projects domain project)
 lies-Decides projects domain project =
@@ -137,8 +143,11 @@ reaches-Decides projects true (target.Project above) (target.Project project) =
     among-Decides (λ id. same id above) above (λ id. bytes_eq-Decides id above) (ancestors projects project)
 reaches-Decides projects true (target.Domain domain) (target.Domain wanted) = (λ is. cc, λ none. absurd none)
 reaches-Decides projects true (target.Project above) (target.Domain wanted) = (λ is. cc, λ none. absurd none)
+reaches-Decides projects true target.System (target.Project project) = (λ is. cc, λ none. absurd none)
+reaches-Decides projects true target.System (target.Domain wanted) = (λ is. cc, λ none. absurd none)
+reaches-Decides projects true granted target.System = (λ is. cc, λ none. absurd none)
 
-effective-Decides : (rows : Rows) (user : Id) (wanted : Target) (role : Id) → Decides (is_effective rows user wanted role) (Effective rows user wanted role)
+pub effective-Decides : (rows : Rows) (user : Id) (wanted : Target) (role : Id) → Decides (is_effective rows user wanted role) (Effective rows user wanted role)
 unfolding is_effective
 effective-Decides rows user wanted role =
     Decides-like (list_any test rows.grants) forth
@@ -250,19 +259,19 @@ walk_end rows from to (step ∷ steps) walk = later (walk_end rows step.implied 
     later (inl is) = inr (subst (Among (map (λ row. row.implied) rows)) is (map_among (λ (row : ImplyRow). row.implied) rows step walk.1))
     later (inr among) = inr among
 
-candidate : (rows : Rows) (roles : List Id) (from to : Id) → Among roles from → Walks rows.implications from to → Among (roles ++ implied_ids rows) to
+candidate : (rows : Rows) (roles : List Id) (from to : Id) → Among roles from → Walks rows.implications from to → Among (roles ++ roles_implied rows) to
 candidate rows roles from to among walks = of_end (walk_end rows.implications from to walks.0 walks.1)
   where
-    of_end : (from ≡ to) ⊎ Among (implied_ids rows) to → Among (roles ++ implied_ids rows) to
-    of_end (inl is) = among_left roles (implied_ids rows) to (subst (Among roles) is among)
-    of_end (inr implied) = among_right roles (implied_ids rows) to implied
+    of_end : (from ≡ to) ⊎ Among (roles_implied rows) to → Among (roles ++ roles_implied rows) to
+    of_end (inl is) = among_left roles (roles_implied rows) to (subst (Among roles) is among)
+    of_end (inr implied) = among_right roles (roles_implied rows) to implied
 
 -- the two lists
 pub roles_are_effective : (rows : Rows) (user : Id) (wanted : Target) (ids : List Id) → IsAscending id_cmp (λ id. id) ids →
     ((role : Id) → Among ids role ↔ Effective rows user wanted role) → ids ≡ roles_at rows user wanted
 unfolding roles_at
 roles_are_effective rows user wanted ids up members =
-    filtered (is_effective rows user wanted) (Effective rows user wanted) (effective-Decides rows user wanted) (granted ++ implied_ids rows) ids
+    filtered (is_effective rows user wanted) (Effective rows user wanted) (effective-Decides rows user wanted) (granted ++ roles_implied rows) ids
     (λ role effective. candidate rows granted effective.grant.role role (map_among (λ (grant : GrantRow). grant.role) rows.grants effective.grant effective.stands) effective.walks)
     up members
   where
@@ -275,7 +284,7 @@ unfolding closure
 roles_are_implied rows roles ids up members =
     filtered (λ role. list_any (λ prior. leads rows.implications prior role) roles) (IsImplied rows.implications roles)
     (λ role. any-Decides (λ prior. leads rows.implications prior role) (λ prior. Walks rows.implications prior role) (λ prior. leads-Decides rows.implications prior role) roles)
-    (roles ++ implied_ids rows) ids known up members
+    (roles ++ roles_implied rows) ids known up members
   where
-    known : (role : Id) → IsImplied rows.implications roles role → Among (roles ++ implied_ids rows) role
+    known : (role : Id) → IsImplied rows.implications roles role → Among (roles ++ roles_implied rows) role
     known role (prior, among, walks) = candidate rows roles prior role among walks

@@ -1,11 +1,17 @@
--- The action that a command asks a rule for, and whether it draws random bytes.
+-- What each command asks for: an action of a rule, random bytes, the folder of keys, a token that it is about.
 use Rattle.std.specs.Prelude.{Bool, true, false, ◌++◌, Option, Some, None, codes}
+use Rattle.ks_base.specs.declared.grants.Actor.{Actor}
+use Rattle.ks_base.specs.declared.grants.Actor.TheVariants as actor
+use Rattle.ks_base.specs.declared.grants.Target.{Target}
+use Rattle.ks_base.specs.declared.grants.Target.TheVariants as target
 use Rattle.ks_base.specs.declared.kinds.Kind.{Kind}
 use Rattle.ks_base.specs.declared.kinds.Kind.TheVariants as kind
 use Rattle.ks_base.specs.Rows.{Text}
+use Rattle.ks_machine.specs.declared.bodies.Made.{Made}
 use Rattle.ks_machine.specs.declared.bodies.Made.TheVariants as made
 use Rattle.ks_machine.specs.declared.command.Command.{Command}
 use Rattle.ks_machine.specs.declared.command.Command.TheVariants as command
+use Rattle.ks_machine.specs.Assignments.{user_lacking}
 use Rattle.ks_machine.specs.Targets.{kind_of}
 
 -- a kind's word, and its plural
@@ -15,7 +21,11 @@ kind_word kind.Project = codes "project"
 kind_word kind.User = codes "user"
 kind_word kind.Group = codes "group"
 kind_word kind.Role = codes "role"
-kind_word other = codes ""
+kind_word kind.Implication = codes "implication"
+kind_word kind.Grant = codes "grant"
+kind_word kind.Member = codes "member"
+kind_word kind.Trust = codes "trust"
+kind_word kind.Event = codes "event"
 
 abbrev pub kind_words : Kind → Text
 kind_words kind = kind_word kind ++ codes "s"
@@ -23,56 +33,76 @@ kind_words kind = kind_word kind ++ codes "s"
 abbrev pub identity : Text → Text
 identity name = codes "identity:" ++ name
 
+-- grants on the system have actions of their own, for users and for groups
+abbrev pub grants_word : Text → Text → Actor → Target → Text
+grants_word word system_word who (target.Project id) = word
+grants_word word system_word who (target.Domain id) = word
+grants_word word system_word (actor.User id) target.System = system_word ++ codes "_for_user"
+grants_word word system_word (actor.Group id) target.System = system_word ++ codes "_for_group"
+
+-- what a command asks for before its own checks: the action that a rule must allow, random bytes, the keys of the folder, a token that
+-- it is about, and a field of its query that it lacks
+pub record Requirements : Type 0 where
+  pub action : Option Text
+  pub draws : Bool
+  pub loads : Bool
+  pub subject : Bool
+  pub lacks : Option Text
+
+-- a rule alone
+abbrev pub asks : Text → Requirements
+asks name = record { action = Some (identity name); draws = false; loads = false; subject = false; lacks = None }
+
+abbrev pub asks_and_draws : Text → Requirements
+asks_and_draws name = record (asks name) { draws = true }
+
+abbrev pub asks_about : Text → Requirements
+asks_about name = record (asks name) { subject = true }
+
 -- no rule is asked for version, login and password change
-unfoldable pub action_of : Command → Option Text
-action_of command.Version = None
-action_of (command.Login body) = None
-action_of command.Validate = Some (identity (codes "validate_token"))
-action_of command.Check = Some (identity (codes "check_token"))
-action_of command.RevokeToken = Some (identity (codes "revoke_token"))
-action_of (command.Create made) = Some (identity (codes "create_" ++ kind_word (kind_of made)))
-action_of (command.List kind filter) = Some (identity (codes "list_" ++ kind_words kind))
-action_of (command.Get kind id) = Some (identity (codes "get_" ++ kind_word kind))
-action_of (command.Update id made) = Some (identity (codes "update_" ++ kind_word (kind_of made)))
-action_of (command.Delete kind id) = Some (identity (codes "delete_" ++ kind_word kind))
-action_of (command.ChangePassword user old new) = None
-action_of (command.GroupsOf id) = Some (identity (codes "list_groups_for_user"))
-action_of (command.MembersOf id) = Some (identity (codes "list_users_in_group"))
-action_of (command.Join row) = Some (identity (codes "add_user_to_group"))
-action_of (command.IsIn row) = Some (identity (codes "check_user_in_group"))
-action_of (command.Leave row) = Some (identity (codes "remove_user_from_group"))
-action_of (command.Implied id) = Some (identity (codes "list_implied_roles"))
-action_of (command.Imply row) = Some (identity (codes "create_implied_role"))
-action_of (command.Implication row) = Some (identity (codes "get_implied_role"))
-action_of (command.IsImplied row) = Some (identity (codes "check_implied_role"))
-action_of (command.Unimply row) = Some (identity (codes "delete_implied_role"))
-action_of (command.GrantsOf who at inherited) = Some (identity (codes "list_grants"))
-action_of (command.Grant row) = Some (identity (codes "create_grant"))
-action_of (command.IsGranted row) = Some (identity (codes "check_grant"))
-action_of (command.Ungrant row) = Some (identity (codes "revoke_grant"))
-action_of (command.Assignments filter) = Some (identity (codes "list_role_assignments"))
-action_of (command.CreateTrust body) = Some (identity (codes "create_trust"))
-action_of (command.Trusts filter) = Some (identity (codes "list_trusts"))
-action_of (command.Trust id) = Some (identity (codes "get_trust"))
-action_of (command.DeleteTrust id) = Some (identity (codes "delete_trust"))
-action_of (command.TrustRoles id) = Some (identity (codes "list_roles_for_trust"))
-action_of command.Events = Some (identity (codes "list_revoke_events"))
-action_of command.RotateKeys = Some (identity (codes "rotate_keys"))
-action_of command.LoadKeys = Some (identity (codes "load_keys"))
+abbrev pub open_to_all : Bool → Requirements
+open_to_all draws = record { action = None; draws = draws; loads = false; subject = false; lacks = None }
 
 -- a change of a user draws a salt, also without a password
-unfoldable pub draws : Command → Bool
-draws (command.Login body) = true
-draws (command.Create made) = true
-draws (command.Update id (made.User given name domain password enabled)) = true
-draws (command.ChangePassword user old new) = true
-draws (command.CreateTrust body) = true
-draws command.RotateKeys = true
-draws other = false
+abbrev pub draws_for : Made → Bool
+draws_for (made.User given name domain password enabled) = true
+draws_for (made.Domain given name description enabled) = false
+draws_for (made.Project given name domain parent description enabled) = false
+draws_for (made.Group given name domain description) = false
+draws_for (made.Role given name description) = false
 
--- the command is about a token of its own
-unfoldable pub has_subject : Command → Bool
-has_subject command.Validate = true
-has_subject command.Check = true
-has_subject command.RevokeToken = true
-has_subject other = false
+unfoldable pub requirements : Command → Requirements
+requirements command.Version = open_to_all false
+requirements (command.Login body) = open_to_all true
+requirements (command.Validate late) = asks_about (codes "validate_token")
+requirements (command.Check late) = asks_about (codes "check_token")
+requirements command.RevokeToken = asks_about (codes "revoke_token")
+requirements (command.Create made) = asks_and_draws (codes "create_" ++ kind_word (kind_of made))
+requirements (command.List kind filter) = asks (codes "list_" ++ kind_words kind)
+requirements (command.Get kind id) = asks (codes "get_" ++ kind_word kind)
+requirements (command.Update id made) = record (asks (codes "update_" ++ kind_word (kind_of made))) { draws = draws_for made }
+requirements (command.Delete kind id) = asks (codes "delete_" ++ kind_word kind)
+requirements (command.ChangePassword user original password) = open_to_all true
+requirements (command.GroupsOf id) = asks (codes "list_groups_for_user")
+requirements (command.MembersOf id) = asks (codes "list_users_in_group")
+requirements (command.Join row) = asks (codes "add_user_to_group")
+requirements (command.IsIn row) = asks (codes "check_user_in_group")
+requirements (command.Leave row) = asks (codes "remove_user_from_group")
+requirements (command.Implied id) = asks (codes "list_implied_roles")
+requirements (command.Imply row) = asks (codes "create_implied_role")
+requirements (command.Implication row) = asks (codes "get_implied_role")
+requirements (command.IsImplied row) = asks (codes "check_implied_role")
+requirements (command.Unimply row) = asks (codes "delete_implied_role")
+requirements (command.GrantsOf who at inherited) = asks (grants_word (codes "list_grants") (codes "list_system_grants") who at)
+requirements (command.Grant row) = asks (grants_word (codes "create_grant") (codes "create_system_grant") row.actor row.target)
+requirements (command.IsGranted row) = asks (grants_word (codes "check_grant") (codes "check_system_grant") row.actor row.target)
+requirements (command.Ungrant row) = asks (grants_word (codes "revoke_grant") (codes "revoke_system_grant") row.actor row.target)
+requirements (command.Assignments filter) = record (asks (codes "list_role_assignments")) { lacks = user_lacking filter.fields }
+requirements (command.CreateTrust body) = asks_and_draws (codes "create_trust")
+requirements (command.Trusts filter) = asks (codes "list_trusts")
+requirements (command.Trust id) = asks (codes "get_trust")
+requirements (command.DeleteTrust id) = asks (codes "delete_trust")
+requirements (command.TrustRoles id) = asks (codes "list_roles_for_trust")
+requirements command.Events = asks (codes "list_revoke_events")
+requirements command.RotateKeys = asks_and_draws (codes "rotate_keys")
+requirements command.LoadKeys = record (asks (codes "load_keys")) { loads = true }

@@ -1,5 +1,5 @@
 -- Who has which role where (Identity API v3, role assignments): the grants, or what they give one user.
-use Rattle.std.specs.Prelude.{Bool, true, false, not, ◌&&◌, ◌||◌, if◌then◌else◌, List, [], ◌∷◌, ◌++◌, Option, Some, None, codes, filter, map}
+use Rattle.std.specs.Prelude.{Bool, true, false, not, ◌&&◌, ◌||◌, if◌then◌else◌, List, [], ◌∷◌, ◌++◌, Option, Some, None, codes, filter, is_none, map}
 use Rattle.std.specs.Option.{option_map_or}
 use Rattle.std.specs.Str.{bytes_eq}
 use Rattle.ks_base.specs.declared.grants.Actor.{Actor}
@@ -8,13 +8,9 @@ use Rattle.ks_base.specs.declared.grants.GrantRow.{GrantRow}
 use Rattle.ks_base.specs.declared.grants.Target.{Target}
 use Rattle.ks_base.specs.declared.grants.Target.TheVariants as target
 use Rattle.ks_base.specs.declared.shapes.Filter.{Filter}
-use Rattle.ks_base.specs.declared.shapes.ShapeFault.TheVariants as shape
 use Rattle.ks_base.specs.Rows.{Id, Text, Rows, same}
 use Rattle.ks_machine.specs.declared.body_out.BodyOut.TheVariants as body
-use Rattle.ks_machine.specs.declared.cause.Cause.{Cause}
-use Rattle.ks_machine.specs.declared.cause.Cause.TheVariants as cause
 use Rattle.ks_rule.specs.Kinds.{Fields, value_in}
-use Rattle.ks_machine.specs.Attempts.{Attempt, Go, ◌>>=◌, found}
 use Rattle.ks_machine.specs.Effective.{roles_at}
 use Rattle.ks_machine.specs.Outcomes.{Outcome, tells}
 
@@ -33,10 +29,18 @@ group_in (actor.Group id) = Some id
 abbrev pub project_in : Target → Option Id
 project_in (target.Project id) = Some id
 project_in (target.Domain id) = None
+project_in target.System = None
 
 abbrev pub domain_in : Target → Option Id
 domain_in (target.Project id) = None
 domain_in (target.Domain id) = Some id
+domain_in target.System = None
+
+-- what the filter of the system compares
+abbrev pub system_in : Target → Option Text
+system_in (target.Project id) = None
+system_in (target.Domain id) = None
+system_in target.System = Some (codes "all")
 
 abbrev pub is_listed : Fields → GrantRow → Bool
 is_listed filters row =
@@ -44,7 +48,8 @@ is_listed filters row =
     && (agrees filters (codes "group.id") (group_in row.actor)
     && (agrees filters (codes "role.id") (Some row.role)
     && (agrees filters (codes "scope.project.id") (project_in row.target)
-    && agrees filters (codes "scope.domain.id") (domain_in row.target))))
+    && (agrees filters (codes "scope.domain.id") (domain_in row.target)
+    && agrees filters (codes "scope.system") (system_in row.target)))))
 
 abbrev pub is_yes : Text → Bool
 is_yes text = not (bytes_eq text (codes "0") || bytes_eq text (codes "false"))
@@ -52,9 +57,14 @@ is_yes text = not (bytes_eq text (codes "0") || bytes_eq text (codes "false"))
 abbrev pub asks_for_effective : Fields → Bool
 asks_for_effective filters = option_map_or is_yes (value_in filters (codes "effective")) false
 
--- all targets: domains, then projects, each by id
+-- a listing that asks for effective roles names the user whose they are
+abbrev pub user_lacking : Fields → Option Text
+user_lacking filters =
+    if asks_for_effective filters && is_none (value_in filters (codes "user.id")) then Some (codes "user.id") else None
+
+-- all targets: the system, then domains, then projects, each by id
 abbrev pub targets : Rows → List Target
-targets rows = map (λ row. target.Domain row.id) rows.domains ++ map (λ row. target.Project row.id) rows.projects
+targets rows = target.System ∷ map (λ row. target.Domain row.id) rows.domains ++ map (λ row. target.Project row.id) rows.projects
 
 abbrev pub given_at : Rows → Id → Target → List GrantRow
 given_at rows user at = map (λ role. record { actor = actor.User user; target = at; inherited = false; role = role }) (roles_at rows user at)
@@ -63,15 +73,13 @@ unfoldable pub given_to : Rows → Id → List Target → List GrantRow
 given_to rows user [] = []
 given_to rows user (at ∷ more) = given_at rows user at ++ given_to rows user more
 
-unfoldable pub effective_of : Rows → Fields → Attempt Cause (List GrantRow)
-effective_of rows filters = do
-  user ← found (value_in filters (codes "user.id")) (cause.Shape (shape.Missing (codes "user.id")))
-  Go (given_to rows user (targets rows))
+-- all that is given to the user whom the listing names
+unfoldable pub effective_of : Rows → Fields → List GrantRow
+effective_of rows filters = option_map_or (λ user. given_to rows user (targets rows)) (value_in filters (codes "user.id")) []
 
-abbrev pub rows_asked : Rows → Fields → Attempt Cause (List GrantRow)
-rows_asked rows filters = if asks_for_effective filters then effective_of rows filters else Go rows.grants
+abbrev pub rows_asked : Rows → Fields → List GrantRow
+rows_asked rows filters = if asks_for_effective filters then effective_of rows filters else rows.grants
 
-unfoldable pub assignments : Rows → Filter → Attempt Cause Outcome
-assignments rows filters = do
-  grants ← rows_asked rows filters.fields
-  Go (tells (body.Assignments (filter (is_listed filters.fields) grants) (codes "/v3/role_assignments")))
+unfoldable pub assignments : Rows → Filter → Outcome
+assignments rows filters =
+    tells (body.Assignments (filter (is_listed filters.fields) (rows_asked rows filters.fields)) (codes "/v3/role_assignments"))

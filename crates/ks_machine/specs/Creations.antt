@@ -1,4 +1,4 @@
--- New domains, projects, users, groups and roles (Identity API v3). Room for the row and its drawn id are tested later.
+-- New domains, projects, users, groups and roles (Identity API v3): each by the rules of its table.
 use Rattle.std.specs.Prelude.{Bool, true, [], Option, None, option_map, unwrap_or}
 use Rattle.std.specs.Option.{option_and_then, option_or}
 use Rattle.ks_base.specs.declared.receipt.Drawn.{Drawn}
@@ -14,18 +14,18 @@ use Rattle.ks_machine.specs.declared.body_out.BodyOut.TheVariants as body
 use Rattle.ks_machine.specs.declared.body_out.Row.TheVariants as row
 use Rattle.ks_machine.specs.declared.cause.Cause.{Cause}
 use Rattle.ks_machine.specs.declared.change.Change.TheVariants as change
-use Rattle.ks_people.specs.Faults.{group_name_taken, user_name_taken}
-use Rattle.ks_roles.specs.Faults.{name_taken}
-use Rattle.ks_tree.specs.Faults.{disabled_above, domain_absent, domain_name_taken, no_parent, project_name_taken, too_deep}
+use Rattle.ks_base.specs.PeopleFaults.{add_group_fault, add_user_fault, user_name_taken}
+use Rattle.ks_base.specs.RoleFaults.{add_fault}
+use Rattle.ks_base.specs.TreeFaults.{add_domain_fault, add_project_fault}
 use Rattle.ks_machine.specs.Attempts.{Attempt, Go, ◌>>=◌, Known}
-use Rattle.ks_machine.specs.Outcomes.{Outcome, made_id, makes}
+use Rattle.ks_machine.specs.Outcomes.{Outcome, changes, made_id}
 use Rattle.ks_machine.specs.Passwords.{derived_or}
 use Rattle.ks_machine.specs.States.{State}
 use Rattle.ks_machine.specs.Tables.{people, roles, standing_domain, trees, unless_row, unless_tree}
 use Rattle.ks_machine.specs.Validity.{Valid, scope_domain}
 
-abbrev pub text_of : Option Text → Text
-text_of given = unwrap_or given []
+abbrev pub text_or_empty : Option Text → Text
+text_or_empty given = unwrap_or given []
 
 -- the domain of the caller: that of its scope, else that of its user
 abbrev pub domain_of_caller : Rows → Valid → Id
@@ -40,36 +40,33 @@ domain_for rows caller given parent =
 
 unfoldable pub create_domain : Rows → Id → Option Text → Option Text → Option Bool → Attempt Cause Outcome
 create_domain rows id name description enabled =
-    let new : DomainRow = record { id = id; name = text_of name; description = text_of description; enabled = unwrap_or enabled true } in
-    unless_tree (domain_name_taken (trees rows) new) >>= (λ _. Go (makes id (change.PutDomain new) (body.One (row.Domain new) true)))
+    let new : DomainRow = record { id = id; name = text_or_empty name; description = text_or_empty description; enabled = unwrap_or enabled true } in
+    unless_tree (add_domain_fault (trees rows) new) >>= (λ _. Go (changes (change.PutDomain new) (body.One (row.Domain new) true)))
 
 unfoldable pub create_project : Rows → ProjectRow → Attempt Cause Outcome
 create_project rows new = do
-  _ ← unless_tree (domain_absent (trees rows) new.domain)
-  _ ← unless_tree (no_parent (trees rows) new)
-  _ ← unless_tree (too_deep (trees rows) new)
-  _ ← unless_tree (disabled_above (trees rows) new)
-  _ ← unless_tree (project_name_taken (trees rows) new)
-  Go (makes new.id (change.PutProject new) (body.One (row.Project new) true))
+  _ ← unless_tree (add_project_fault (trees rows) new)
+  Go (changes (change.PutProject new) (body.One (row.Project new) true))
 
--- a user, whose password is still to be derived
+-- a user, whose password is still to be derived: the fact of it is asked for before room is tested
 unfoldable pub create_user : Known → State → Drawn → UserRow → Option Text → Attempt Cause Outcome
 create_user known S drawn new password = do
   _ ← standing_domain S.rows new.domain
   _ ← unless_row (user_name_taken (people S.rows) new)
   kept ← derived_or known S drawn None password
-  Go (makes new.id (change.PutUser (record new { password = kept })) (body.One (row.User (record new { password = kept })) true))
+  _ ← unless_row (add_user_fault (people S.rows) new)
+  Go (changes (change.PutUser (record new { password = kept })) (body.One (row.User (record new { password = kept })) true))
 
 unfoldable pub create_group : Rows → GroupRow → Attempt Cause Outcome
 create_group rows new = do
   _ ← standing_domain rows new.domain
-  _ ← unless_row (group_name_taken (people rows) new)
-  Go (makes new.id (change.PutGroup new) (body.One (row.Group new) true))
+  _ ← unless_row (add_group_fault (people rows) new)
+  Go (changes (change.PutGroup new) (body.One (row.Group new) true))
 
 unfoldable pub create_role : Rows → Id → Option Text → Option Text → Attempt Cause Outcome
 create_role rows id name description =
-    let new : RoleRow = record { id = id; name = text_of name; description = text_of description } in
-    unless_row (name_taken (roles rows) new) >>= (λ _. Go (makes id (change.PutRole new) (body.One (row.Role new) true)))
+    let new : RoleRow = record { id = id; name = text_or_empty name; description = text_or_empty description } in
+    unless_row (add_fault (roles rows) new) >>= (λ _. Go (changes (change.PutRole new) (body.One (row.Role new) true)))
 
 unfoldable pub create : Known → State → Drawn → Valid → Made → Attempt Cause Outcome
 create known S drawn caller (made.Domain given name description enabled) =
@@ -80,15 +77,15 @@ create known S drawn caller (made.Project given name domain parent description e
       id = made_id drawn;
       domain = home;
       parent = unwrap_or parent home;
-      name = text_of name;
-      description = text_of description;
+      name = text_or_empty name;
+      description = text_or_empty description;
       enabled = unwrap_or enabled true;
     })
 create known S drawn caller (made.User given name domain password enabled) =
     create_user known S drawn (record {
       id = made_id drawn;
       domain = domain_for S.rows caller domain None;
-      name = text_of name;
+      name = text_or_empty name;
       enabled = unwrap_or enabled true;
       password = None;
     }) password
@@ -96,7 +93,7 @@ create known S drawn caller (made.Group given name domain description) =
     create_group S.rows (record {
       id = made_id drawn;
       domain = domain_for S.rows caller domain None;
-      name = text_of name;
-      description = text_of description;
+      name = text_or_empty name;
+      description = text_or_empty description;
     })
 create known S drawn caller (made.Role given name description) = create_role S.rows (made_id drawn) name description

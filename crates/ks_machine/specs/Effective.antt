@@ -8,6 +8,7 @@ use Rattle.ks_base.specs.declared.grants.Target.{Target}
 use Rattle.ks_base.specs.declared.grants.Target.TheVariants as target
 use Rattle.ks_base.specs.declared.rows.ProjectRow.{ProjectRow}
 use Rattle.ks_base.specs.declared.users.MemberRow.{MemberRow}
+use Rattle.ks_base.specs.Grants.{same_target}
 use Rattle.ks_base.specs.Rows.{Id, Rows, same}
 use Rattle.ks_base.specs.Tables.{id_cmp, put_row}
 use Rattle.ks_base.specs.Tree.{ancestors}
@@ -24,20 +25,18 @@ abbrev pub acts : List MemberRow → Id → Actor → Bool
 acts members user (actor.User id) = same id user
 acts members user (actor.Group id) = is_member members id user
 
-abbrev pub same_target : Target → Target → Bool
-same_target (target.Project a) (target.Project b) = same a b
-same_target (target.Domain a) (target.Domain b) = same a b
-same_target a b = false
-
 abbrev pub lies_in : List ProjectRow → Id → Id → Bool
 lies_in projects domain project = list_any (λ row. same row.id project && same row.domain domain) projects
 
--- a direct grant reaches its target, an inherited one the projects of its domain, or the descendants of its project
+-- a direct grant reaches its target, an inherited one the projects of its domain, or the descendants of its project;
+-- none but one on the system reaches the system
 abbrev pub reaches : List ProjectRow → Bool → Target → Target → Bool
 reaches projects false granted wanted = same_target granted wanted
 reaches projects true (target.Domain domain) (target.Project project) = lies_in projects domain project
 reaches projects true (target.Project above) (target.Project project) = list_any (λ id. same id above) (ancestors projects project)
+reaches projects true target.System (target.Project project) = false
 reaches projects true granted (target.Domain domain) = false
+reaches projects true granted target.System = false
 
 unfoldable pub is_effective : Rows → Id → Target → Id → Bool
 is_effective rows user wanted role =
@@ -50,15 +49,15 @@ in_order [] = []
 in_order (id ∷ ids) = put_row id_cmp (λ other. other) id (in_order ids)
 
 -- the roles to which implications may lead
-abbrev pub implied_ids : Rows → List Id
-implied_ids rows = map (λ row. row.implied) rows.implications
+abbrev pub roles_implied : Rows → List Id
+roles_implied rows = map (λ row. row.implied) rows.implications
 
 -- the effective roles of a user at a target
 unfoldable pub roles_at : Rows → Id → Target → List Id
 roles_at rows user wanted =
-    filter (is_effective rows user wanted) (in_order (map (λ grant. grant.role) rows.grants ++ implied_ids rows))
+    filter (is_effective rows user wanted) (in_order (map (λ grant. grant.role) rows.grants ++ roles_implied rows))
 
 -- the roles to which walks lead from these
 unfoldable pub closure : Rows → List Id → List Id
 closure rows roles =
-    filter (λ role. list_any (λ prior. leads rows.implications prior role) roles) (in_order (roles ++ implied_ids rows))
+    filter (λ role. list_any (λ prior. leads rows.implications prior role) roles) (in_order (roles ++ roles_implied rows))

@@ -1,7 +1,13 @@
 -- What is asked of a call: what was drawn and read for it, and the ranges of its fields.
-use Rattle.std.specs.Prelude.{◌≡◌, ℕ, ◌≤◌, ◌^◌, Bool, true, false, List, length, Option, Some, None, IfSome}
+use Rattle.std.specs.Prelude.{◌≡◌, ℕ, ◌≤◌, Bool, true, false, List, length, Option, Some, None, IfSome}
 use Rattle.std.specs.List.{AllByRecursion}
 use Rattle.ks_base.specs.declared.faults.KeysFault.TheVariants as keys
+use Rattle.ks_base.specs.declared.grants.GrantRow.{GrantRow}
+use Rattle.ks_base.specs.declared.grants.Target.{Target}
+use Rattle.ks_base.specs.declared.grants.Target.TheVariants as target
+use Rattle.ks_base.specs.declared.kinds.Kind.{Kind}
+use Rattle.ks_base.specs.declared.kinds.Kind.TheVariants as kind
+use Rattle.ks_base.specs.declared.limits.TheConstants.{TRUST_ROLES}
 use Rattle.ks_base.specs.declared.receipt.Drawn.{Drawn}
 use Rattle.ks_base.specs.declared.receipt.Drawn.TheVariants.{Unused, Bytes, Failed}
 use Rattle.ks_machine.specs.declared.bodies.Made.{Made}
@@ -22,9 +28,8 @@ use Rattle.ks_machine.specs.declared.call.FolderRead.{FolderRead}
 use Rattle.ks_machine.specs.declared.call.FolderRead.TheVariants as folder
 use Rattle.ks_machine.specs.declared.command.Command.{Command}
 use Rattle.ks_machine.specs.declared.command.Command.TheVariants as command
-use Rattle.ks_machine.specs.Actions.{draws}
-use Rattle.ks_machine.specs.Ranges.{IsDescription, IsName, IsPassword}
-use Rattle.ks_machine.specs.Steps.{loads}
+use Rattle.ks_machine.specs.Actions.{requirements}
+use Rattle.ks_machine.specs.Ranges.{AreUses, IsDescription, IsExpiry, IsName, IsPassword}
 use Rattle.ks_ring.specs.Rings.{refusal_of}
 
 -- a command that draws has 64 bytes, or its draw failed
@@ -44,7 +49,10 @@ IsFolder (folder.Fault keys.Failed) = Unit {0}
 IsFolder (folder.Fault keys.NoKeys) = Unit {0}
 IsFolder (folder.Fault (keys.BadKey index)) = Unit {0}
 IsFolder (folder.Fault keys.TooMany) = Unit {0}
-IsFolder other = ⊥
+IsFolder (folder.Fault keys.AlreadySet) = ⊥
+IsFolder (folder.Fault keys.IndexEnd) = ⊥
+IsFolder (folder.Fault keys.Memory) = ⊥
+IsFolder folder.Unused = ⊥
 
 abbrev pub IsFolderFor : Bool → FolderRead → Type 0
 IsFolderFor true read = IsFolder read
@@ -69,9 +77,34 @@ IsProof (proof.Password user password) = IsUserNamed user × IsPassword password
 IsProof (proof.Token text) = Unit {0}
 
 abbrev pub IsScope : ScopeIn → Type 0
+IsScope scope_in.Nothing = Unit {0}
+IsScope scope_in.Unscoped = Unit {0}
 IsScope (scope_in.Domain domain) = IsNamed domain
 IsScope (scope_in.Project project) = IsProjectNamed project
-IsScope other = Unit {0}
+IsScope scope_in.System = Unit {0}
+IsScope (scope_in.Trust id) = Unit {0}
+
+-- the kinds that have routes of their own
+abbrev pub IsOwnKind : Kind → Type 0
+IsOwnKind kind.Domain = Unit {0}
+IsOwnKind kind.Project = Unit {0}
+IsOwnKind kind.User = Unit {0}
+IsOwnKind kind.Group = Unit {0}
+IsOwnKind kind.Role = Unit {0}
+IsOwnKind kind.Implication = ⊥
+IsOwnKind kind.Grant = ⊥
+IsOwnKind kind.Member = ⊥
+IsOwnKind kind.Trust = ⊥
+IsOwnKind kind.Event = ⊥
+
+-- no grant on the system is inherited
+abbrev pub IsPlace : Target → Bool → Type 0
+IsPlace (target.Project id) inherited = Unit {0}
+IsPlace (target.Domain id) inherited = Unit {0}
+IsPlace target.System inherited = inherited ≡ false
+
+abbrev pub IsGrant : GrantRow → Type 0
+IsGrant row = IsPlace row.target row.inherited
 
 -- a body of a creation has its name, and no id
 abbrev pub IsMadeName : Bool → Option (List ℕ) → Option (List ℕ) → Type 0
@@ -88,7 +121,7 @@ IsMade new (made.Role id name description) = IsMadeName new id name × IfSome de
 
 abbrev pub IsTrustBody : TrustBody → Type 0
 IsTrustBody body =
-    AllByRecursion IsNamed body.roles × (length body.roles ≤ 64) × IfSome body.remaining (λ left. (1 ≤ left) × (left ≤ 2 ^ 53))
+    AllByRecursion IsNamed body.roles × (length body.roles ≤ TRUST_ROLES) × IfSome body.expires IsExpiry × IfSome body.remaining AreUses
 
 abbrev pub AreFields : Command → Type 0
 AreFields (command.Login body) = IsProof body.proof × IsScope body.scope
@@ -96,9 +129,37 @@ AreFields (command.Create made) = IsMade true made
 AreFields (command.Update id made) = IsMade false made
 AreFields (command.ChangePassword user original password) = IsPassword original × IsPassword password
 AreFields (command.CreateTrust body) = IsTrustBody body
-AreFields other = Unit {0}
+AreFields (command.List kind filter) = IsOwnKind kind
+AreFields (command.Get kind id) = IsOwnKind kind
+AreFields (command.Delete kind id) = IsOwnKind kind
+AreFields (command.GrantsOf who at inherited) = IsPlace at inherited
+AreFields (command.Grant row) = IsGrant row
+AreFields (command.IsGranted row) = IsGrant row
+AreFields (command.Ungrant row) = IsGrant row
+AreFields command.Version = Unit {0}
+AreFields (command.Validate late) = Unit {0}
+AreFields (command.Check late) = Unit {0}
+AreFields command.RevokeToken = Unit {0}
+AreFields (command.GroupsOf id) = Unit {0}
+AreFields (command.MembersOf id) = Unit {0}
+AreFields (command.Join row) = Unit {0}
+AreFields (command.IsIn row) = Unit {0}
+AreFields (command.Leave row) = Unit {0}
+AreFields (command.Implied id) = Unit {0}
+AreFields (command.Imply row) = Unit {0}
+AreFields (command.Implication row) = Unit {0}
+AreFields (command.IsImplied row) = Unit {0}
+AreFields (command.Unimply row) = Unit {0}
+AreFields (command.Assignments filter) = Unit {0}
+AreFields (command.Trusts filter) = Unit {0}
+AreFields (command.Trust id) = Unit {0}
+AreFields (command.DeleteTrust id) = Unit {0}
+AreFields (command.TrustRoles id) = Unit {0}
+AreFields command.Events = Unit {0}
+AreFields command.RotateKeys = Unit {0}
+AreFields command.LoadKeys = Unit {0}
 
 pub record Fit (call : Call) : Type 0 where
-  pub draw : IsDrawFor (draws call.command) call.draw
-  pub folder : IsFolderFor (loads call.command) call.folder
+  pub draw : IsDrawFor (requirements call.command).draws call.draw
+  pub folder : IsFolderFor (requirements call.command).loads call.folder
   pub fields : AreFields call.command

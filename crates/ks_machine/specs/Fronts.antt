@@ -1,6 +1,6 @@
--- Fronts: an opening, the changes that were made since, and the highest moment. The journal of all that happened is a front, and
+-- Fronts: an opening, the changes that were made since, the highest moment, and how many changes are kept. The journal of all that happened is a front, and
 -- what a caller saw of it is an earlier one.
-use Rattle.std.specs.Prelude.{◌≡◌, ℕ, ◌≤◌, List, [], ◌∷◌, ◌++◌, length, take, Option, Some, None}
+use Rattle.std.specs.Prelude.{◌≡◌, ℕ, ◌≤◌, List, [], ◌∷◌, ◌++◌, length, min, take, Option, Some, None}
 use Rattle.std.specs.List.{AllByRecursion}
 use Rattle.ks_machine.specs.declared.call.Call.{Call}
 use Rattle.ks_machine.specs.declared.cause.Cause.TheVariants as cause
@@ -20,6 +20,13 @@ pub record Front : Type 0 where
   pub opening : PlainOpening
   pub changes : List Entry
   pub high : ℕ
+  -- how many of the changes are kept where a stop cannot undo them
+  pub kept : ℕ
+
+-- no change is at a moment above the highest, and no more changes are kept than there are
+pub record IsSound (f : Front) : Type 0 where
+  pub moments : AllByRecursion (λ entry. entry.moment ≤ f.high) f.changes
+  pub kept : f.kept ≤ length f.changes
 
 -- the state after changes, each at its moment
 unfoldable pub replayed : State → List Entry → State
@@ -30,12 +37,12 @@ replayed S (entry ∷ entries) = replayed (apply S entry.moment entry.change) en
 unfoldable pub replay : Front → State
 replay front = record (replayed (opened_state front.opening) front.changes) { high = front.high }
 
--- the first changes, and this as the highest moment
+-- the first changes, this as the highest moment, and of the kept changes those among the first
 abbrev pub cut : Front → ℕ → ℕ → Front
-cut front count high = record front { changes = take count front.changes; high = high }
+cut front count high = record front { changes = take count front.changes; high = high; kept = min front.kept count }
 
 -- one front goes on from another: from the same opening, with more changes, none of which is at a moment below the highest of the
--- other
+-- other, and with no fewer kept
 infix 4 ◌⊑◌
 pub record ◌⊑◌ (f g : Front) : Type 0 where
   pub opening : f.opening ≡ g.opening
@@ -43,8 +50,9 @@ pub record ◌⊑◌ (f g : Front) : Type 0 where
   pub changes : g.changes ≡ f.changes ++ later
   pub high : f.high ≤ g.high
   pub moments : AllByRecursion (λ entry. f.high ≤ entry.moment) later
+  pub kept : f.kept ≤ g.kept
 
--- the front after an event at this moment, with the change that it made, if any
+-- the front after an event at this moment, with the change that it made, if any, which is not kept yet
 abbrev pub then : Front → ℕ → Option Change → Front
 then front moment None = record front { high = moment }
 then front moment (Some what) = record front {

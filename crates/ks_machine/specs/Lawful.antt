@@ -1,5 +1,5 @@
 -- Which fronts can be reached: the opening is accepted, moments never fall, and each change meets what its tables and the ring ask.
-use Rattle.std.specs.Prelude.{◌≡◌, ℕ, ◌<◌, ◌≤◌, ◌^◌, ◌-◌, ◌⊎◌, true, false, List, [], ◌∷◌, length, Option, Some, None, IfSome, is_some}
+use Rattle.std.specs.Prelude.{◌≡◌, ℕ, ◌<◌, ◌≤◌, ◌^◌, ◌-◌, true, false, List, [], ◌∷◌, length, Option, Some, None, is_some}
 use Rattle.std.specs.List.{AllByRecursion}
 use Rattle.ks_base.specs.declared.grants.Actor.{Actor}
 use Rattle.ks_base.specs.declared.grants.Actor.TheVariants as actor
@@ -7,19 +7,19 @@ use Rattle.ks_base.specs.declared.grants.GrantRow.{GrantRow}
 use Rattle.ks_base.specs.declared.grants.Target.{Target}
 use Rattle.ks_base.specs.declared.grants.Target.TheVariants as target
 use Rattle.ks_base.specs.declared.trusts.TrustRow.{TrustRow}
-use Rattle.ks_base.specs.Rows.{Id, Rows, domain_of, group_of, project_of, role_of, trust_of, user_of}
-use Rattle.ks_base.specs.Trusts.{creation_fault, use_fault}
+use Rattle.ks_base.specs.Rows.{Rows, domain_of, group_of, project_of, role_of, trust_of, user_of}
+use Rattle.ks_base.specs.Trusts.{FollowsParent, creation_fault, use_fault}
 use Rattle.ks_machine.specs.declared.change.Change.{Change}
 use Rattle.ks_machine.specs.declared.change.Change.TheVariants as change
 use Rattle.ks_machine.specs.declared.change.Entry.{Entry}
-use Rattle.ks_assign.specs.Grants.{ungrant_fault}
-use Rattle.ks_people.specs.Faults.{add_group_fault, add_user_fault, drop_group_fault, drop_user_fault, join_group_fault, leave_group_fault, set_group_fault, set_user_fault}
+use Rattle.ks_base.specs.Grants.{grant_fault, ungrant_fault}
+use Rattle.ks_base.specs.PeopleFaults.{add_group_fault, add_user_fault, drop_group_fault, drop_user_fault, join_group_fault, leave_group_fault, set_group_fault, set_user_fault}
 use Rattle.ks_ring.specs.Rings.{RingState, highest, refusal_of}
-use Rattle.ks_roles.specs.Faults.{add_fault, drop_fault, imply_fault, set_fault, unimply_fault}
-use Rattle.ks_tree.specs.Faults.{add_domain_fault, add_project_fault, drop_domain_fault, drop_project_fault, set_domain_fault, set_project_fault}
+use Rattle.ks_base.specs.RoleFaults.{add_fault, drop_fault, imply_fault, set_fault, unimply_fault}
+use Rattle.ks_base.specs.TreeFaults.{add_domain_fault, add_project_fault, drop_domain_fault, drop_project_fault, set_domain_fault, set_project_fault}
 use Rattle.ks_machine.specs.Attempts.{Go}
 use Rattle.ks_machine.specs.Changes.{apply}
-use Rattle.ks_machine.specs.Effective.{roles_at}
+use Rattle.ks_machine.specs.Fit.{IsGrant}
 use Rattle.ks_machine.specs.Fronts.{Front}
 use Rattle.ks_machine.specs.Moment.{last_moment}
 use Rattle.ks_machine.specs.Opened.{open_fault, opened_state}
@@ -28,55 +28,38 @@ use Rattle.ks_machine.specs.Ranges.{IsDomainInRange, IsGroupInRange, IsProjectIn
 use Rattle.ks_machine.specs.Room.{room_for}
 use Rattle.ks_machine.specs.States.{State}
 use Rattle.ks_machine.specs.Tables.{people, roles, trees}
-use Rattle.ks_machine.specs.Validity.{first_of_chain}
+use Rattle.ks_machine.specs.TrustCommands.{roles_to_give}
 
 -- rows that stand
 
-abbrev pub Stands : {R : Type 0} → Option R → Type 0
-Stands row = is_some row ≡ true
+abbrev pub IsStanding : {R : Type 0} → Option R → Type 0
+IsStanding row = is_some row ≡ true
 
 abbrev pub ActorStands : Rows → Actor → Type 0
-ActorStands rows (actor.User id) = Stands (user_of id rows.users)
-ActorStands rows (actor.Group id) = Stands (group_of id rows.groups)
+ActorStands rows (actor.User id) = IsStanding (user_of id rows.users)
+ActorStands rows (actor.Group id) = IsStanding (group_of id rows.groups)
 
 abbrev pub TargetStands : Rows → Target → Type 0
-TargetStands rows (target.Project id) = Stands (project_of id rows.projects)
-TargetStands rows (target.Domain id) = Stands (domain_of id rows.domains)
+TargetStands rows (target.Project id) = IsStanding (project_of id rows.projects)
+TargetStands rows (target.Domain id) = IsStanding (domain_of id rows.domains)
+TargetStands rows target.System = Unit {0}
 
 abbrev pub GrantStands : Rows → GrantRow → Type 0
-GrantStands rows row = TargetStands rows row.target × ActorStands rows row.actor × Stands (role_of row.role rows.roles)
+GrantStands rows row = IsGrant row × TargetStands rows row.target × ActorStands rows row.actor × IsStanding (role_of row.role rows.roles)
 
 -- a row is new, and its table takes it; or it stands, keeps what can't be changed, and its table takes the change
 abbrev pub IsPut : {R F : Type 0} → Option R → Option F → (R → Type 0) → Option F → Type 0
 IsPut None added keeps set = added ≡ None
 IsPut (Some standing) added keeps set = keeps standing × (set ≡ None)
 
--- the parent of a trust stands, has its project, and gives the count that follows from its own
-abbrev pub IsBelow : Rows → TrustRow → Id → Type 0
-IsBelow rows trust id =
-    (parent : TrustRow) × (trust_of id rows.trusts ≡ Some parent) × (trust.project ≡ parent.project)
-    × ((trust.count ≡ parent.count - 1) ⊎ (trust.count ≡ 0))
-
--- the first trustor of a new trust
-abbrev pub first_trustor_of : Rows → TrustRow → Id
-first_trustor_of rows trust = by_parent trust.parent
-  where
-    by_found : Option TrustRow → Id
-    by_found None = trust.trustor
-    by_found (Some parent) = first_of_chain rows parent
-
-    by_parent : Option Id → Id
-    by_parent None = trust.trustor
-    by_parent (Some id) = by_found (trust_of id rows.trusts)
-
 pub record IsTrustMade (rows : Rows) (moment : ℕ) (trust : TrustRow) : Type 0 where
   pub range : IsTrustInRange trust
-  pub trustor : Stands (user_of trust.trustor rows.users)
-  pub trustee : Stands (user_of trust.trustee rows.users)
-  pub project : Stands (project_of trust.project rows.projects)
-  pub roles : AllByRecursion (λ role. Stands (role_of role rows.roles)) trust.roles
-  pub parent : IfSome trust.parent (IsBelow rows trust)
-  pub accepted : creation_fault rows.trusts (roles_at rows (first_trustor_of rows trust) (target.Project trust.project)) moment trust ≡ None
+  pub trustor : IsStanding (user_of trust.trustor rows.users)
+  pub trustee : IsStanding (user_of trust.trustee rows.users)
+  pub project : IsStanding (project_of trust.project rows.projects)
+  pub roles : AllByRecursion (λ role. IsStanding (role_of role rows.roles)) trust.roles
+  pub parent : FollowsParent rows.trusts trust
+  pub accepted : creation_fault rows.trusts (roles_to_give rows trust) moment trust ≡ None
 
 -- the ring takes new keys
 abbrev pub TakesKeys : RingState → Type 0
@@ -92,11 +75,11 @@ Fits S moment (change.PutProject row) =
     × IsPut (project_of row.id S.rows.projects) (add_project_fault (trees S.rows) row)
     (λ standing. (row.domain ≡ standing.domain) × (row.parent ≡ standing.parent)) (set_project_fault (trees S.rows) row)
 Fits S moment (change.PutUser row) =
-    IsUserInRange row × Stands (domain_of row.domain S.rows.domains)
+    IsUserInRange row × IsStanding (domain_of row.domain S.rows.domains)
     × IsPut (user_of row.id S.rows.users) (add_user_fault (people S.rows) row) (λ standing. row.domain ≡ standing.domain)
     (set_user_fault (people S.rows) row)
 Fits S moment (change.PutGroup row) =
-    IsGroupInRange row × Stands (domain_of row.domain S.rows.domains)
+    IsGroupInRange row × IsStanding (domain_of row.domain S.rows.domains)
     × IsPut (group_of row.id S.rows.groups) (add_group_fault (people S.rows) row) (λ standing. row.domain ≡ standing.domain)
     (set_group_fault (people S.rows) row)
 Fits S moment (change.PutRole row) =
@@ -108,16 +91,16 @@ Fits S moment (change.DropProject id) = drop_project_fault (trees S.rows) id ≡
 Fits S moment (change.DropUser id) = drop_user_fault (people S.rows) id ≡ None
 Fits S moment (change.DropGroup id) = drop_group_fault (people S.rows) id ≡ None
 Fits S moment (change.DropRole id) = drop_fault (roles S.rows) id ≡ None
-Fits S moment (change.DropTrust id) = Stands (trust_of id S.rows.trusts)
+Fits S moment (change.DropTrust id) = IsStanding (trust_of id S.rows.trusts)
 Fits S moment (change.Join row) = join_group_fault (people S.rows) row ≡ None
 Fits S moment (change.Leave row) = leave_group_fault (people S.rows) row ≡ None
 Fits S moment (change.Imply row) = imply_fault (roles S.rows) row ≡ None
 Fits S moment (change.Unimply row) = unimply_fault (roles S.rows) row ≡ None
-Fits S moment (change.Grant row) = GrantStands S.rows row
+Fits S moment (change.Grant row) = GrantStands S.rows row × (grant_fault S.rows.grants row ≡ None)
 Fits S moment (change.Ungrant row) = GrantStands S.rows row × (ungrant_fault S.rows.grants row ≡ None)
 Fits S moment (change.UseTrust id) =
     (trust : TrustRow) × (trust_of id S.rows.trusts ≡ Some trust) × (use_fault S.rows.trusts id trust.trustee moment ≡ None)
-    × Stands trust.remaining
+    × IsStanding trust.remaining
 Fits S moment (change.RevokeToken audit) = length audit ≡ 16
 Fits S moment (change.Rotate key) = (S.settings.folder ≡ false) × (highest S.ring.held < 999999999) × TakesKeys S.ring
 Fits S moment (change.Load keys) = (S.settings.folder ≡ true) × (refusal_of keys ≡ None) × TakesKeys S.ring
@@ -127,7 +110,7 @@ unfoldable pub AreLawful : State → ℕ → List Entry → ℕ → Type 0
 AreLawful S last [] high = last ≤ high
 AreLawful S last (entry ∷ entries) high =
     (entry.number ≡ S.made) × (last ≤ entry.moment) × Fits S entry.moment entry.change
-    × (room_for S entry.moment None entry.change ≡ Go tt) × AreLawful (apply S entry.moment entry.change) entry.moment entries high
+    × (room_for S entry.moment (Some entry.change) ≡ Go tt) × AreLawful (apply S entry.moment entry.change) entry.moment entries high
 
 -- the rows of an opening have their ranges
 pub record IsOpeningInRange (opening : PlainOpening) : Type 0 where

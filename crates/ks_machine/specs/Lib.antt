@@ -29,6 +29,8 @@ pub mod Steps
 pub mod Opened
 pub mod Fronts
 pub mod Laws
+pub mod FactLaws
 pub mod Ranges
-pub mod Lawful
 pub mod Fit
+pub mod Lawful
+pub mod TokenLaws

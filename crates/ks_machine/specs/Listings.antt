@@ -1,5 +1,5 @@
 -- One row, listings and deletions of the five kinds (Identity API v3).
-use Rattle.std.specs.Prelude.{Bool, true, false, not, ◌&&◌, ◌||◌, List, [], ◌++◌, codes, filter, map}
+use Rattle.std.specs.Prelude.{ℕ, Bool, true, false, not, ◌&&◌, ◌||◌, List, [], ◌++◌, codes, filter, map}
 use Rattle.std.specs.Option.{option_map_or}
 use Rattle.std.specs.Str.{bytes_eq}
 use Rattle.ks_base.specs.declared.kinds.Kind.{Kind}
@@ -10,6 +10,7 @@ use Rattle.ks_base.specs.declared.rows.ProjectRow.{ProjectRow}
 use Rattle.ks_base.specs.declared.rows.RoleRow.{RoleRow}
 use Rattle.ks_base.specs.declared.shapes.Filter.{Filter}
 use Rattle.ks_base.specs.declared.users.UserRow.{UserRow}
+use Rattle.ks_base.specs.Revocation.{live}
 use Rattle.ks_base.specs.Rows.{Id, Text, Rows}
 use Rattle.ks_machine.specs.declared.body_out.BodyOut.TheVariants as body
 use Rattle.ks_machine.specs.declared.body_out.Row.{Row}
@@ -18,10 +19,11 @@ use Rattle.ks_machine.specs.declared.cause.Cause.{Cause}
 use Rattle.ks_machine.specs.declared.cause.Cause.TheVariants as cause
 use Rattle.ks_machine.specs.declared.change.Change.TheVariants as change
 use Rattle.ks_rule.specs.Kinds.{Fields, value_in}
-use Rattle.ks_tree.specs.Faults.{drop_domain_fault, drop_project_fault}
+use Rattle.ks_base.specs.TreeFaults.{drop_domain_fault, drop_project_fault}
 use Rattle.ks_machine.specs.Actions.{kind_words}
 use Rattle.ks_machine.specs.Attempts.{Attempt, Go, Stop, ◌>>=◌}
 use Rattle.ks_machine.specs.Outcomes.{Outcome, changes, tells}
+use Rattle.ks_machine.specs.States.{State}
 use Rattle.ks_machine.specs.Tables.{standing_domain, standing_group, standing_project, standing_role, standing_user, trees, unless_tree}
 
 -- a row of a kind
@@ -32,7 +34,11 @@ row_at rows kind.Project id = standing_project rows id >>= (λ found. Go (row.Pr
 row_at rows kind.User id = standing_user rows id >>= (λ found. Go (row.User found))
 row_at rows kind.Group id = standing_group rows id >>= (λ found. Go (row.Group found))
 row_at rows kind.Role id = standing_role rows id >>= (λ found. Go (row.Role found))
-row_at rows other id = Stop (cause.Absent other id)
+row_at rows kind.Implication id = Stop (cause.Absent kind.Implication id)
+row_at rows kind.Grant id = Stop (cause.Absent kind.Grant id)
+row_at rows kind.Member id = Stop (cause.Absent kind.Member id)
+row_at rows kind.Trust id = Stop (cause.Absent kind.Trust id)
+row_at rows kind.Event id = Stop (cause.Absent kind.Event id)
 
 unfoldable pub get : Rows → Kind → Id → Attempt Cause Outcome
 get rows kind id = row_at rows kind id >>= (λ found. Go (tells (body.One found false)))
@@ -85,13 +91,21 @@ rows_listed rows kind.Project filters = map (λ found. row.Project found) (filte
 rows_listed rows kind.User filters = map (λ found. row.User found) (filter (is_user_listed filters) rows.users)
 rows_listed rows kind.Group filters = map (λ found. row.Group found) (filter (is_group_listed filters) rows.groups)
 rows_listed rows kind.Role filters = map (λ found. row.Role found) (filter (is_role_listed filters) rows.roles)
-rows_listed rows other filters = []
+rows_listed rows kind.Implication filters = []
+rows_listed rows kind.Grant filters = []
+rows_listed rows kind.Member filters = []
+rows_listed rows kind.Trust filters = []
+rows_listed rows kind.Event filters = []
 
 abbrev pub path_of_kind : Kind → Text
 path_of_kind kind = codes "/v3/" ++ kind_words kind
 
 unfoldable pub list : Rows → Kind → Filter → Outcome
 list rows kind filters = tells (body.Many kind (rows_listed rows kind filters.fields) (path_of_kind kind))
+
+-- the revocations that are live
+unfoldable pub events : State → ℕ → Outcome
+events S moment = tells (body.Events (live S.settings.life moment S.events) (codes "/v3/OS-REVOKE/events"))
 
 -- deletions
 
@@ -103,4 +117,8 @@ delete rows kind.Project id =
 delete rows kind.User id = standing_user rows id >>= (λ _. Go (changes (change.DropUser id) body.Nothing))
 delete rows kind.Group id = standing_group rows id >>= (λ _. Go (changes (change.DropGroup id) body.Nothing))
 delete rows kind.Role id = standing_role rows id >>= (λ _. Go (changes (change.DropRole id) body.Nothing))
-delete rows other id = Stop (cause.Absent other id)
+delete rows kind.Implication id = Stop (cause.Absent kind.Implication id)
+delete rows kind.Grant id = Stop (cause.Absent kind.Grant id)
+delete rows kind.Member id = Stop (cause.Absent kind.Member id)
+delete rows kind.Trust id = Stop (cause.Absent kind.Trust id)
+delete rows kind.Event id = Stop (cause.Absent kind.Event id)

@@ -1,5 +1,5 @@
 -- Logins (Identity API v3, authentication): who the caller shows to be, the scope that is asked for, and the token that is given.
-use Rattle.std.specs.Prelude.{ℕ, ◌+◌, ◌/◌, ◌%◌, ◌==◌, Bool, true, not, if◌then◌else◌, nat_lt, List, [], ◌∷◌, length, Option, Some, None, is_some, option_map}
+use Rattle.std.specs.Prelude.{ℕ, ◌+◌, ◌/◌, ◌%◌, ◌==◌, Bool, true, false, not, if◌then◌else◌, nat_lt, List, [], ◌∷◌, length, Option, Some, None, is_some, option_map}
 use Rattle.std.specs.Option.{option_and_then, option_map_or}
 use Rattle.std.specs.Str.{bytes_eq}
 use Rattle.ks_base.specs.declared.faults.TrustFault.TheVariants as trust_fault
@@ -11,7 +11,7 @@ use Rattle.ks_base.specs.declared.trusts.TrustRow.{TrustRow}
 use Rattle.ks_base.specs.declared.users.PasswordRow.{PasswordRow}
 use Rattle.ks_base.specs.declared.users.UserRow.{UserRow}
 use Rattle.ks_base.specs.Rows.{Id, Text, Rows, project_of, trust_of, user_of}
-use Rattle.ks_base.specs.Trusts.{use_fault}
+use Rattle.ks_base.specs.Trusts.{first_trustor, use_fault}
 use Rattle.ks_fernet.specs.Opening.{token_text}
 use Rattle.ks_machine.specs.declared.bodies.LoginBody.{LoginBody}
 use Rattle.ks_machine.specs.declared.bodies.Proof.{Proof}
@@ -23,19 +23,18 @@ use Rattle.ks_machine.specs.declared.body_out.TokenOut.{TokenOut}
 use Rattle.ks_machine.specs.declared.body_out.TrustUse.{TrustUse}
 use Rattle.ks_machine.specs.declared.cause.Cause.{Cause}
 use Rattle.ks_machine.specs.declared.cause.Cause.TheVariants as cause
-use Rattle.ks_machine.specs.declared.cause.ScopeWhy.{ScopeWhy}
 use Rattle.ks_machine.specs.declared.cause.ScopeWhy.TheVariants as scope_why
 use Rattle.ks_machine.specs.declared.change.Change.{Change}
 use Rattle.ks_machine.specs.declared.change.Change.TheVariants as change
 use Rattle.ks_payload.specs.declared.payload.Payload.{Payload}
 use Rattle.ks_payload.specs.Payloads.{spelling}
-use Rattle.ks_machine.specs.Attempts.{Attempt, Go, Stop, Stored, ◌>>=◌, Known, asked, blame, each, found, need, unless}
+use Rattle.ks_machine.specs.Attempts.{Attempt, Go, Stored, ◌>>=◌, Known, asked, blame, each, found, need, unless}
 use Rattle.ks_machine.specs.Effective.{closure, roles_at}
 use Rattle.ks_machine.specs.Outcomes.{Outcome, id_bytes, iv}
 use Rattle.ks_ring.specs.declared.held_key.HeldKey.{HeldKey}
 use Rattle.ks_machine.specs.Scopes.{domain_in, homed_project, homed_user, project_in, titled_domain, titled_roles, user_in}
 use Rattle.ks_machine.specs.States.{State, is_domain_on, is_project_on, is_user_on}
-use Rattle.ks_machine.specs.Validity.{Valid, first_of_chain, is_kept, user_by, validity}
+use Rattle.ks_machine.specs.Validity.{Valid, acts_as, is_kept, is_scoped, is_system, system_kind, validity}
 
 -- who it is
 
@@ -85,7 +84,7 @@ shown known S moment (proof.Password user password) = do
   row ← by_password known S.rows (user_in S.rows user) password
   Go (record { user = row.id; methods = password_method; expires = moment + S.settings.life; chain = None })
 shown known S moment (proof.Token text) = do
-  token ← blame (λ _. cause.Credentials) (validity known S moment text)
+  token ← blame (λ _. cause.Credentials) (validity known S moment false text)
   _ ← need (not (is_some token.payload.trust)) cause.TrustToken
   Go (shown_by_token token)
 
@@ -99,9 +98,6 @@ pub record Scoped : Type 0 where
   pub project : Option Id
   pub trust : Option TrustRow
   pub roles : List Id
-
-abbrev pub refused : {A : Type 0} → ScopeWhy → Attempt Cause A
-refused why = Stop (cause.ScopeRefused why)
 
 -- the roles that a user has at a target that stands
 unfoldable pub with_roles : Rows → Id → Target → Attempt Cause (List Id)
@@ -129,6 +125,12 @@ to_project rows user named = do
   roles ← with_roles rows user (target.Project project)
   Go (record { user = user; kind = 2; domain = None; project = Some project; trust = None; roles = roles })
 
+-- the whole system always stands
+unfoldable pub to_system : Rows → Id → Attempt Cause Scoped
+to_system rows user = do
+  roles ← with_roles rows user target.System
+  Go (record { user = user; kind = system_kind; domain = None; project = None; trust = None; roles = roles })
+
 abbrev pub user_on : Rows → Id → Attempt Cause (Unit {0})
 user_on rows id = need (is_user_on rows id) (cause.Trust (trust_fault.UserOff id))
 
@@ -141,16 +143,17 @@ to_trust rows moment user id = do
   trust ← found (trust_of id rows.trusts) (cause.Trust (trust_fault.Absent id))
   _ ← user_on rows trust.trustor
   _ ← user_on rows trust.trustee
-  _ ← user_on rows (first_of_chain rows trust)
+  _ ← user_on rows (first_trustor rows.trusts trust)
   project ← project_on rows (project_of trust.project rows.projects)
   _ ← each (role_kept rows trust) trust.roles
-  Go (record { user = user_by trust; kind = 3; domain = None; project = Some project; trust = Some trust; roles = closure rows trust.roles })
+  Go (record { user = acts_as trust; kind = 3; domain = None; project = Some project; trust = Some trust; roles = closure rows trust.roles })
 
 unfoldable pub scoped : Rows → ℕ → Id → ScopeIn → Attempt Cause Scoped
 scoped rows moment user scope_in.Nothing = Go (record { user = user; kind = 0; domain = None; project = None; trust = None; roles = [] })
 scoped rows moment user scope_in.Unscoped = Go (record { user = user; kind = 0; domain = None; project = None; trust = None; roles = [] })
 scoped rows moment user (scope_in.Domain domain) = to_domain rows user (option_map (λ row. row.id) (domain_in rows domain))
 scoped rows moment user (scope_in.Project project) = to_project rows user (project_in rows project)
+scoped rows moment user scope_in.System = to_system rows user
 scoped rows moment user (scope_in.Trust id) = to_trust rows moment user id
 
 -- what is told of a token
@@ -174,7 +177,8 @@ told_token rows text made payload issued roles = told_user rows payload.user (re
   project = option_map (homed_project rows) (option_and_then (λ id. project_of id rows.projects) payload.project);
   domain = option_map (titled_domain rows) payload.domain;
   trust = option_map trust_use (option_and_then (λ id. trust_of id rows.trusts) payload.trust);
-  roles = if payload.kind == 0 then None else Some (titled_roles rows roles);
+  roles = if is_scoped payload then Some (titled_roles rows roles) else None;
+  system = is_system payload;
 })
 
 -- the token
@@ -195,6 +199,7 @@ new_payload shown scope audit = record {
   expires = shown.expires;
   audit = audit;
   chain = shown.chain;
+  credential = None;
 }
 
 -- a login by a trust whose uses are numbered takes one
@@ -209,7 +214,6 @@ token_given S moment drawn shown scope =
     record {
       told = body.Token (told_token S.rows text true payload moment scope.roles);
       change = use_of scope.trust;
-      drawn = None;
     }
 
 unfoldable pub login : Known → State → ℕ → Drawn → LoginBody → Attempt Cause Outcome

@@ -1,6 +1,6 @@
 -- Memberships, implications and grants (Identity API v3; OS-INHERIT). A row that stands is no change and no refusal.
-use Rattle.std.specs.Prelude.{Bool, true, false, not, ◌&&◌, if◌then◌else◌, ◌++◌, codes, filter, map, is_some}
-use Rattle.ks_assign.specs.Grants.{stands, ungrant_fault}
+use Rattle.std.specs.Prelude.{Bool, true, false, ◌++◌, codes, filter, map, is_some}
+use Rattle.ks_base.specs.Grants.{grant_fault, stands, ungrant_fault}
 use Rattle.ks_base.specs.declared.grants.Actor.{Actor}
 use Rattle.ks_base.specs.declared.grants.Actor.TheVariants as actor
 use Rattle.ks_base.specs.declared.grants.GrantRow.{GrantRow}
@@ -9,27 +9,27 @@ use Rattle.ks_base.specs.declared.grants.Target.{Target}
 use Rattle.ks_base.specs.declared.grants.Target.TheVariants as target
 use Rattle.ks_base.specs.declared.kinds.Kind.TheVariants as kind
 use Rattle.ks_base.specs.declared.users.MemberRow.{MemberRow}
-use Rattle.ks_base.specs.Rows.{Id, Text, Rows, same}
+use Rattle.ks_base.specs.Rows.{Id, Text, Rows}
 use Rattle.ks_machine.specs.declared.body_out.BodyOut.{BodyOut}
 use Rattle.ks_machine.specs.declared.body_out.BodyOut.TheVariants as body
 use Rattle.ks_machine.specs.declared.body_out.Row.TheVariants as row
 use Rattle.ks_machine.specs.declared.cause.Cause.{Cause}
 use Rattle.ks_machine.specs.declared.change.Change.{Change}
 use Rattle.ks_machine.specs.declared.change.Change.TheVariants as change
-use Rattle.ks_people.specs.Faults.{member_absent}
-use Rattle.ks_people.specs.State.{member_of}
-use Rattle.ks_roles.specs.Faults.{admin_implied, implication_absent}
-use Rattle.ks_roles.specs.State.{implied_ids, is_implication}
+use Rattle.ks_base.specs.PeopleFaults.{join_group_fault, leave_group_fault}
+use Rattle.ks_base.specs.People.{member_of}
+use Rattle.ks_base.specs.RoleFaults.{imply_fault, unimply_fault}
+use Rattle.ks_base.specs.RoleLists.{implied_ids, is_implication}
 use Rattle.ks_machine.specs.Attempts.{Attempt, Go, ◌>>=◌}
-use Rattle.ks_machine.specs.Effective.{is_member, same_target}
+use Rattle.ks_machine.specs.Effective.{is_member}
 use Rattle.ks_machine.specs.Outcomes.{Outcome, changes, tells}
 use Rattle.ks_machine.specs.Scopes.{titled_role, titled_roles}
 use Rattle.ks_machine.specs.Tables.{people, roles, standing_domain, standing_group, standing_project, standing_role, standing_user, unless_row}
 
--- the change is made where the row is new
-abbrev pub if_new : Bool → Change → BodyOut → Outcome
-if_new true new told = tells told
-if_new false new told = changes new told
+-- a row that stands is no change
+abbrev pub unless_standing : Bool → Change → BodyOut → Outcome
+unless_standing true new told = tells told
+unless_standing false new told = changes new told
 
 -- memberships
 
@@ -47,22 +47,14 @@ members_of rows group = do
       (map (λ found. row.User found) (filter (λ user. is_member rows.members group user.id) rows.users))
       (codes "/v3/groups/" ++ (group ++ codes "/users"))))
 
--- the group and the user stand
-unfoldable pub both_stand : Rows → MemberRow → Attempt Cause (Unit {0})
-both_stand rows member = do
-  _ ← standing_group rows member.group
-  _ ← standing_user rows member.user
-  Go tt
-
 unfoldable pub join : Rows → MemberRow → Attempt Cause Outcome
 join rows member = do
-  _ ← both_stand rows member
-  Go (if_new (is_some (member_of member rows.members)) (change.Join member) body.Nothing)
+  _ ← unless_row (join_group_fault (people rows) member)
+  Go (unless_standing (is_some (member_of member rows.members)) (change.Join member) body.Nothing)
 
 unfoldable pub is_in : Rows → MemberRow → Attempt Cause Outcome
 is_in rows member = do
-  _ ← both_stand rows member
-  _ ← unless_row (member_absent (people rows) member)
+  _ ← unless_row (leave_group_fault (people rows) member)
   Go (tells body.Nothing)
 
 unfoldable pub leave : Rows → MemberRow → Attempt Cause Outcome
@@ -77,27 +69,17 @@ implied rows prior = do
   _ ← standing_role rows prior
   Go (tells (body.Inferences (titled_role rows prior) (titled_roles rows (implied_ids prior rows.implications))))
 
--- both roles stand
-unfoldable pub roles_stand : Rows → ImplyRow → Attempt Cause (Unit {0})
-roles_stand rows inference = do
-  _ ← standing_role rows inference.prior
-  _ ← standing_role rows inference.implied
-  Go tt
-
 abbrev pub told_inference : Rows → ImplyRow → Bool → BodyOut
 told_inference rows inference made = body.Inference (titled_role rows inference.prior) (titled_role rows inference.implied) made
 
 unfoldable pub imply : Rows → ImplyRow → Attempt Cause Outcome
 imply rows inference = do
-  _ ← roles_stand rows inference
-  _ ← unless_row (admin_implied (roles rows) inference.implied)
-  Go (if_new (is_implication inference rows.implications) (change.Imply inference) (told_inference rows inference true))
+  _ ← unless_row (imply_fault (roles rows) inference)
+  Go (unless_standing (is_implication inference rows.implications) (change.Imply inference) (told_inference rows inference true))
 
 -- the implication stands
-unfoldable pub implies : Rows → ImplyRow → Attempt Cause (Unit {0})
-implies rows inference = do
-  _ ← roles_stand rows inference
-  unless_row (implication_absent (roles rows) inference)
+abbrev pub implies : Rows → ImplyRow → Attempt Cause (Unit {0})
+implies rows inference = unless_row (unimply_fault (roles rows) inference)
 
 unfoldable pub implication : Rows → ImplyRow → Attempt Cause Outcome
 implication rows inference = do
@@ -119,19 +101,11 @@ unimply rows inference = do
 unfoldable pub target_stands : Rows → Target → Attempt Cause (Unit {0})
 target_stands rows (target.Project id) = standing_project rows id >>= (λ _. Go tt)
 target_stands rows (target.Domain id) = standing_domain rows id >>= (λ _. Go tt)
+target_stands rows target.System = Go tt
 
 unfoldable pub actor_stands : Rows → Actor → Attempt Cause (Unit {0})
 actor_stands rows (actor.User id) = standing_user rows id >>= (λ _. Go tt)
 actor_stands rows (actor.Group id) = standing_group rows id >>= (λ _. Go tt)
-
-abbrev pub same_actor : Actor → Actor → Bool
-same_actor (actor.User a) (actor.User b) = same a b
-same_actor (actor.Group a) (actor.Group b) = same a b
-same_actor a b = false
-
-abbrev pub is_granted_as : Actor → Target → Bool → GrantRow → Bool
-is_granted_as who at inherited grant =
-    same_actor grant.actor who && (same_target grant.target at && (if inherited then grant.inherited else not grant.inherited))
 
 -- a role that is granted to the actor at the target
 abbrev pub has_grant : Rows → Actor → Target → Bool → Id → Bool
@@ -140,11 +114,13 @@ has_grant rows who at inherited role = stands rows.grants (record { actor = who;
 abbrev pub target_path : Target → Text
 target_path (target.Project id) = codes "/projects/" ++ id
 target_path (target.Domain id) = codes "/domains/" ++ id
+target_path target.System = codes "/system"
 
 abbrev pub actor_path : Actor → Text
 actor_path (actor.User id) = codes "/users/" ++ id
 actor_path (actor.Group id) = codes "/groups/" ++ id
 
+-- no grant on the system is inherited
 abbrev pub grants_path : Actor → Target → Bool → Text
 grants_path who at false = codes "/v3" ++ (target_path at ++ (actor_path who ++ codes "/roles"))
 grants_path who at true = codes "/v3/OS-INHERIT" ++ (target_path at ++ (actor_path who ++ codes "/roles/inherited_to_projects"))
@@ -166,7 +142,8 @@ all_stand rows grant = do
 unfoldable pub grant : Rows → GrantRow → Attempt Cause Outcome
 grant rows granted = do
   _ ← all_stand rows granted
-  Go (if_new (stands rows.grants granted) (change.Grant granted) body.Nothing)
+  _ ← unless_row (grant_fault rows.grants granted)
+  Go (unless_standing (stands rows.grants granted) (change.Grant granted) body.Nothing)
 
 unfoldable pub is_granted : Rows → GrantRow → Attempt Cause Outcome
 is_granted rows granted = do

@@ -14,15 +14,19 @@ use Rattle.ks_base.specs.Orders.{grant_cmp, imply_cmp, member_cmp}
 use Rattle.ks_base.specs.Refusals.{fault_if, first_of}
 use Rattle.ks_base.specs.Rows.{Id, Rows, same, domain_of, group_of, project_of, role_of, user_of}
 use Rattle.ks_base.specs.Tables.{id_cmp, put_row}
-use Rattle.ks_base.specs.Tree.{above, is_top}
+use Rattle.ks_base.specs.Tree.{is_top}
 use Rattle.ks_machine.specs.Openings.{PlainOpening}
 use Rattle.ks_machine.specs.declared.settings.OpenFault.{OpenFault}
 use Rattle.ks_machine.specs.declared.settings.OpenFault.TheVariants as fault
-use Rattle.ks_roles.specs.Faults.{is_admin}
-use Rattle.ks_tree.specs.Faults.{level}
+use Rattle.ks_base.specs.RoleFaults.{is_admin}
+use Rattle.ks_base.specs.TreeFaults.{first_disabled, is_too_deep}
+use Rattle.ks_base.specs.Trees.{is_domain_named, is_project_named}
+use Rattle.ks_base.specs.People.{is_group_named, is_user_named}
+use Rattle.ks_base.specs.RoleLists.{is_named}
+use Rattle.ks_base.specs.Limits.{limit}
 use Rattle.ks_ring.specs.Rings.{new_of, refusal_of}
-use Rattle.ks_machine.specs.Room.{limit}
 use Rattle.ks_machine.specs.States.{State}
+use Rattle.ks_machine.specs.Tables.{trees}
 
 -- the state: each row once, in its place
 
@@ -79,18 +83,19 @@ ids_fault opening = first_of (
     first_fault (id_repeated kind.Group (λ row. row.id)) opening.groups ∷
     first_fault (id_repeated kind.Role (λ row. row.id)) opening.roles ∷ [])
 
--- names, unique among domains and roles, and in a domain among projects, users and groups
+-- names, unique among domains and roles, and in a domain among projects, users and groups: the fault names the earlier row, which
+-- has the name
 
 abbrev pub name_taken : {R : Type 0} → Kind → (R → Id) → (R → R → Bool) → List R → R → Option OpenFault
-name_taken kind id alike before row = fault_if (list_any (alike row) before) (fault.Name kind (id row))
+name_taken kind id alike before row = option_map (λ other. fault.Name kind (id other)) (find (alike row) before)
 
 unfoldable pub names_fault : PlainOpening → Option OpenFault
 names_fault opening = first_of (
-    first_fault (name_taken kind.Domain (λ row. row.id) (λ a b. same a.name b.name)) opening.domains ∷
-    first_fault (name_taken kind.Project (λ row. row.id) (λ a b. same a.domain b.domain && same a.name b.name)) opening.projects ∷
-    first_fault (name_taken kind.User (λ row. row.id) (λ a b. same a.domain b.domain && same a.name b.name)) opening.users ∷
-    first_fault (name_taken kind.Group (λ row. row.id) (λ a b. same a.domain b.domain && same a.name b.name)) opening.groups ∷
-    first_fault (name_taken kind.Role (λ row. row.id) (λ a b. same a.name b.name)) opening.roles ∷ [])
+    first_fault (name_taken kind.Domain (λ row. row.id) (λ row. is_domain_named row.name)) opening.domains ∷
+    first_fault (name_taken kind.Project (λ row. row.id) (λ row. is_project_named row.domain row.name)) opening.projects ∷
+    first_fault (name_taken kind.User (λ row. row.id) (λ row. is_user_named row.domain row.name)) opening.users ∷
+    first_fault (name_taken kind.Group (λ row. row.id) (λ row. is_group_named row.domain row.name)) opening.groups ∷
+    first_fault (name_taken kind.Role (λ row. row.id) (λ row. is_named row.name)) opening.roles ∷ [])
 
 -- what rows name
 
@@ -116,6 +121,7 @@ no_actor rows (actor.Group id) = no_group rows id
 abbrev pub no_target : Rows → Target → Option OpenFault
 no_target rows (target.Project id) = no_project rows id
 no_target rows (target.Domain id) = no_domain rows id
+no_target rows target.System = None
 
 -- a parent comes earlier, in the same domain
 abbrev pub no_parent : List ProjectRow → ProjectRow → Option OpenFault
@@ -132,14 +138,13 @@ absent_fault rows opening = first_of (
     first_alone (λ row. option_or (no_role rows row.prior) (no_role rows row.implied)) opening.implications ∷
     first_alone (λ row. first_of (no_actor rows row.actor ∷ no_target rows row.target ∷ no_role rows row.role ∷ [])) opening.assignments ∷ [])
 
--- the tree, roles, room and keys
+-- the tree, roles, room and keys: by the rules of the tables
 
 abbrev pub too_deep : Rows → ProjectRow → Option OpenFault
-too_deep rows row = fault_if (nat_lt 5 (level rows.projects row)) (fault.TooDeep row.id)
+too_deep rows row = fault_if (is_too_deep (trees rows) row) (fault.TooDeep row.id)
 
 abbrev pub disabled_above : Rows → ProjectRow → Option OpenFault
-disabled_above rows row =
-    option_map (λ ancestor. fault.DisabledAbove ancestor.id) (find (λ ancestor. not ancestor.enabled) (above rows.projects row))
+disabled_above rows row = option_map (λ ancestor. fault.DisabledAbove ancestor.id) (first_disabled (trees rows) row)
 
 abbrev pub prohibited : Rows → ImplyRow → Option OpenFault
 prohibited rows row = fault_if (is_admin (role_of row.implied rows.roles)) (fault.Prohibited row.implied)

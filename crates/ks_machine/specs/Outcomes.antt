@@ -1,4 +1,4 @@
--- What a command that is granted gives: a body, a change if it makes one, and the id that was drawn for a new row.
+-- What a command that is granted gives: a body, and a change if it makes one.
 use Rattle.std.specs.Prelude.{ℕ, ◌+◌, ◌%◌, List, [], ◌∷◌, ◌++◌, take, drop, Option, Some, None}
 use Rattle.hex.specs.Hex.{encode_lower}
 use Rattle.ks_base.specs.declared.receipt.Drawn.{Drawn}
@@ -11,18 +11,13 @@ use Rattle.ks_machine.specs.declared.change.Change.{Change}
 pub record Outcome : Type 0 where
   pub told : BodyOut
   pub change : Option Change
-  pub drawn : Option Id
 
 -- nothing changes
 abbrev pub tells : BodyOut → Outcome
-tells told = record { told = told; change = None; drawn = None }
+tells told = record { told = told; change = None }
 
 abbrev pub changes : Change → BodyOut → Outcome
-changes change told = record { told = told; change = Some change; drawn = None }
-
--- a row with a drawn id is new
-abbrev pub makes : Id → Change → BodyOut → Outcome
-makes id change told = record { told = told; change = Some change; drawn = Some id }
+changes change told = record { told = told; change = Some change }
 
 -- the 64 random bytes: 16 for an id, 16 for a salt or an iv, 32 for a key
 

@@ -1,5 +1,6 @@
 -- The ranges of fields (Identity API v3; own limits).
-use Rattle.std.specs.Prelude.{ℕ, ◌≤◌, ◌^◌, IfSome, length}
+use Rattle.std.specs.Prelude.{ℕ, ◌≤◌, IfSome, length}
+use Rattle.ks_base.specs.declared.limits.TheConstants.{DESCRIPTION_BYTES, KEYS, LAST_SECOND, LONGEST_LIFE, NAME_BYTES, PASSWORD_BYTES, REDELEGATIONS, ROUNDS, SHORTEST_LIFE, TRUST_ROLES, USES}
 use Rattle.ks_base.specs.declared.rows.DomainRow.{DomainRow}
 use Rattle.ks_base.specs.declared.rows.GroupRow.{GroupRow}
 use Rattle.ks_base.specs.declared.rows.ProjectRow.{ProjectRow}
@@ -10,16 +11,16 @@ use Rattle.ks_base.specs.Rows.{Text}
 use Rattle.ks_machine.specs.declared.settings.Settings.{Settings}
 
 abbrev pub IsName : Text → Type 0
-IsName name = (1 ≤ length name) × (length name ≤ 255)
+IsName name = (1 ≤ length name) × (length name ≤ NAME_BYTES)
 
 abbrev pub IsDescription : Text → Type 0
-IsDescription description = length description ≤ 4096
+IsDescription description = length description ≤ DESCRIPTION_BYTES
 
 abbrev pub IsPassword : Text → Type 0
-IsPassword password = (1 ≤ length password) × (length password ≤ 4096)
+IsPassword password = (1 ≤ length password) × (length password ≤ PASSWORD_BYTES)
 
 abbrev pub AreRounds : ℕ → Type 0
-AreRounds rounds = (1 ≤ rounds) × (rounds ≤ 100000)
+AreRounds rounds = (1 ≤ rounds) × (rounds ≤ ROUNDS)
 
 abbrev pub IsDomainInRange : DomainRow → Type 0
 IsDomainInRange row = IsName row.name × IsDescription row.description
@@ -36,12 +37,25 @@ IsGroupInRange row = IsName row.name × IsDescription row.description
 abbrev pub IsRoleInRange : RoleRow → Type 0
 IsRoleInRange row = IsName row.name × IsDescription row.description
 
-abbrev pub IsTrustInRange : TrustRow → Type 0
-IsTrustInRange row = (1 ≤ length row.roles) × (length row.roles ≤ 64) × IfSome row.remaining (λ left. left ≤ 2 ^ 53)
+-- an expiry has a text
+abbrev pub IsExpiry : ℕ → Type 0
+IsExpiry expires = expires ≤ LAST_SECOND
+
+-- how often a new trust may serve
+abbrev pub AreUses : ℕ → Type 0
+AreUses uses = (1 ≤ uses) × (uses ≤ USES)
+
+-- a new trust; the count of one with a parent follows from the parent's
+pub record IsTrustInRange (row : TrustRow) : Type 0 where
+  pub roles_least : 1 ≤ length row.roles
+  pub roles_most : length row.roles ≤ TRUST_ROLES
+  pub expires : IfSome row.expires IsExpiry
+  pub remaining : IfSome row.remaining AreUses
+  pub count : row.count ≤ REDELEGATIONS
 
 pub record IsSettings (settings : Settings) : Type 0 where
-  pub life_least : 60 ≤ settings.life
-  pub life_most : settings.life ≤ 604800
+  pub life_least : SHORTEST_LIFE ≤ settings.life
+  pub life_most : settings.life ≤ LONGEST_LIFE
   pub rounds : AreRounds settings.rounds
   pub keys_least : 2 ≤ settings.max_keys
-  pub keys_most : settings.max_keys ≤ 32
+  pub keys_most : settings.max_keys ≤ KEYS

@@ -1,11 +1,14 @@
 -- What rows are called, and where a body names them.
-use Rattle.std.specs.Prelude.{Bool, ◌&&◌, List, [], Option, find, map}
+use Rattle.std.specs.Prelude.{List, [], Option, find, map}
 use Rattle.std.specs.Option.{option_and_then, option_map_or}
 use Rattle.ks_base.specs.declared.rows.DomainRow.{DomainRow}
 use Rattle.ks_base.specs.declared.rows.ProjectRow.{ProjectRow}
 use Rattle.ks_base.specs.declared.rows.RoleRow.{RoleRow}
 use Rattle.ks_base.specs.declared.users.UserRow.{UserRow}
-use Rattle.ks_base.specs.Rows.{Id, Text, Rows, same, domain_of, project_of, role_of, user_of}
+use Rattle.ks_base.specs.People.{is_user_named}
+use Rattle.ks_base.specs.RoleLists.{is_named}
+use Rattle.ks_base.specs.Trees.{is_domain_named, is_project_named}
+use Rattle.ks_base.specs.Rows.{Id, Text, Rows, domain_of, project_of, role_of, user_of}
 use Rattle.ks_machine.specs.declared.bodies.Named.{Named}
 use Rattle.ks_machine.specs.declared.bodies.Named.TheVariants as named
 use Rattle.ks_machine.specs.declared.bodies.ProjectNamed.{ProjectNamed}
@@ -19,25 +22,19 @@ use Rattle.ks_machine.specs.declared.body_out.Titled.{Titled}
 
 abbrev pub domain_in : Rows → Named → Option DomainRow
 domain_in rows (named.Id id) = domain_of id rows.domains
-domain_in rows (named.Name name) = find (λ row. same row.name name) rows.domains
+domain_in rows (named.Name name) = find (is_domain_named name) rows.domains
 
 abbrev pub role_in : Rows → Named → Option RoleRow
 role_in rows (named.Id id) = role_of id rows.roles
-role_in rows (named.Name name) = find (λ row. same row.name name) rows.roles
-
-abbrev pub is_user_called : Text → DomainRow → UserRow → Bool
-is_user_called name domain row = same row.domain domain.id && same row.name name
+role_in rows (named.Name name) = find (is_named name) rows.roles
 
 abbrev pub user_in : Rows → UserNamed → Option UserRow
 user_in rows (user_named.Id id) = user_of id rows.users
-user_in rows (user_named.Name name domain) = option_and_then (λ d. find (is_user_called name d) rows.users) (domain_in rows domain)
-
-abbrev pub is_project_called : Text → DomainRow → ProjectRow → Bool
-is_project_called name domain row = same row.domain domain.id && same row.name name
+user_in rows (user_named.Name name domain) = option_and_then (λ d. find (is_user_named d.id name) rows.users) (domain_in rows domain)
 
 abbrev pub project_in : Rows → ProjectNamed → Option ProjectRow
 project_in rows (project_named.Id id) = project_of id rows.projects
-project_in rows (project_named.Name name domain) = option_and_then (λ d. find (is_project_called name d) rows.projects) (domain_in rows domain)
+project_in rows (project_named.Name name domain) = option_and_then (λ d. find (is_project_named d.id name) rows.projects) (domain_in rows domain)
 
 -- ids with their names
 

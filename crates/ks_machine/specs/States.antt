@@ -19,6 +19,10 @@ pub record State : Type 0 where
   -- how many changes were made
   pub made : ℕ
 
+-- the state with this as its highest moment
+abbrev pub raised : State → ℕ → State
+raised S moment = record S { high = moment }
+
 -- what stands, is enabled and lies in what is enabled
 
 abbrev pub is_domain_on : Rows → Id → Bool

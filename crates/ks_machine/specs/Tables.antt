@@ -1,5 +1,5 @@
 -- The tables of a state as their own definitions see them, and their refusals as causes.
-use Rattle.std.specs.Prelude.{Option, Some, None}
+use Rattle.std.specs.Prelude.{Option}
 use Rattle.ks_base.specs.declared.faults.RowFault.{RowFault}
 use Rattle.ks_base.specs.declared.faults.RowFault.TheVariants as row
 use Rattle.ks_base.specs.declared.faults.TreeFault.{TreeFault}
@@ -15,19 +15,29 @@ use Rattle.ks_base.specs.declared.users.UserRow.{UserRow}
 use Rattle.ks_base.specs.Rows.{Id, Rows, domain_of, group_of, project_of, role_of, trust_of, user_of}
 use Rattle.ks_machine.specs.declared.cause.Cause.{Cause}
 use Rattle.ks_machine.specs.declared.cause.Cause.TheVariants as cause
-use Rattle.ks_people.specs.State.{PeopleState}
-use Rattle.ks_roles.specs.State.{RolesState}
-use Rattle.ks_tree.specs.State.{TreeState}
-use Rattle.ks_machine.specs.Attempts.{Attempt, Go, Stop, found}
+use Rattle.ks_base.specs.People.{PeopleState}
+use Rattle.ks_base.specs.RoleLists.{RolesState}
+use Rattle.ks_base.specs.Trees.{TreeState}
+use Rattle.ks_machine.specs.Attempts.{Attempt, blame, found, unless}
 
 abbrev pub trees : Rows → TreeState
 trees rows = record { domains = rows.domains; projects = rows.projects }
 
+-- the rows with other trees
+abbrev pub put_trees : TreeState → Rows → Rows
+put_trees state rows = record rows { domains = state.domains; projects = state.projects }
+
 abbrev pub people : Rows → PeopleState
 people rows = record { users = rows.users; groups = rows.groups; members = rows.members }
 
+abbrev pub put_people : PeopleState → Rows → Rows
+put_people state rows = record rows { users = state.users; groups = state.groups; members = state.members }
+
 abbrev pub roles : Rows → RolesState
 roles rows = record { roles = rows.roles; implications = rows.implications }
+
+abbrev pub put_roles : RolesState → Rows → Rows
+put_roles state rows = record rows { roles = state.roles; implications = state.implications }
 
 -- the causes that have a place of their own are named there
 
@@ -45,15 +55,19 @@ of_tree (tree.NameTaken id) = cause.NameTaken id
 of_tree (tree.Full kind) = cause.Full kind
 of_tree (tree.IdTaken id) = cause.IdTaken id
 of_tree tree.Memory = cause.Memory
-of_tree other = cause.Tree other
+of_tree (tree.NoParent id) = cause.Tree (tree.NoParent id)
+of_tree tree.TooDeep = cause.Tree tree.TooDeep
+of_tree (tree.HasChildren id) = cause.Tree (tree.HasChildren id)
+of_tree (tree.EnabledBelow id) = cause.Tree (tree.EnabledBelow id)
+of_tree (tree.DisabledAbove id) = cause.Tree (tree.DisabledAbove id)
+of_tree tree.DomainEnabled = cause.Tree tree.DomainEnabled
 
+-- a refusal of a table, where it applies
 abbrev pub unless_row : Option RowFault → Attempt Cause (Unit {0})
-unless_row None = Go tt
-unless_row (Some fault) = Stop (of_row fault)
+unless_row fault = blame of_row (unless fault)
 
 abbrev pub unless_tree : Option TreeFault → Attempt Cause (Unit {0})
-unless_tree None = Go tt
-unless_tree (Some fault) = Stop (of_tree fault)
+unless_tree fault = blame of_tree (unless fault)
 
 -- rows that must stand
 

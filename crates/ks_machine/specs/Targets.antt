@@ -1,5 +1,5 @@
 -- What rules see of a caller and of what is asked for (oslo.policy; the names are those of Keystone's policies).
-use Rattle.std.specs.Prelude.{Bool, true, false, List, [], ◌∷◌, ◌++◌, Option, Some, None, codes, option_map, map}
+use Rattle.std.specs.Prelude.{Bool, true, false, if◌then◌else◌, List, [], ◌∷◌, ◌++◌, Option, Some, None, codes, option_map, map}
 use Rattle.ks_base.specs.declared.grants.Actor.{Actor}
 use Rattle.ks_base.specs.declared.grants.Actor.TheVariants as actor
 use Rattle.ks_base.specs.declared.grants.GrantRow.{GrantRow}
@@ -17,7 +17,7 @@ use Rattle.ks_machine.specs.declared.command.Command.TheVariants as command
 use Rattle.ks_rule.specs.declared.credentials.Credentials.{Credentials}
 use Rattle.ks_rule.specs.Kinds.{Fields, value_in}
 use Rattle.ks_machine.specs.Scopes.{titled_role}
-use Rattle.ks_machine.specs.Validity.{Valid, project_domain}
+use Rattle.ks_machine.specs.Validity.{Valid, is_system, project_domain}
 
 -- fields
 
@@ -48,7 +48,8 @@ credentials rows caller = record {
       ++ given (codes "project_id") caller.payload.project
       ++ given (codes "project_domain_id") (project_domain rows caller.payload.project)
       ++ given (codes "domain_id") caller.payload.domain
-      ++ given (codes "trust_id") caller.payload.trust;
+      ++ given (codes "trust_id") caller.payload.trust
+      ++ given (codes "system_scope") (if is_system caller.payload then Some (codes "all") else None);
 }
 
 -- the object that a path names
@@ -104,15 +105,31 @@ object rows kind.Group id =
 object rows kind.Role id =
     of_row (λ row. record { id = Some row.id; name = Some row.name; domain = None; enabled = None })
     role_fields (role_of id rows.roles)
-object rows other id = []
+object rows kind.Implication id = []
+object rows kind.Grant id = []
+object rows kind.Member id = []
+object rows kind.Trust id = []
+object rows kind.Event id = []
 
 -- the user of a path
 abbrev pub path_user : Id → Fields
 path_user id = field (codes "user_id") id
 
+-- a path that names a user gives rules its id under that name too
+abbrev pub user_of_path : Kind → Id → Fields
+user_of_path kind.User id = path_user id
+user_of_path kind.Domain id = []
+user_of_path kind.Project id = []
+user_of_path kind.Group id = []
+user_of_path kind.Role id = []
+user_of_path kind.Implication id = []
+user_of_path kind.Grant id = []
+user_of_path kind.Member id = []
+user_of_path kind.Trust id = []
+user_of_path kind.Event id = []
+
 abbrev pub object_of_path : Rows → Kind → Id → Fields
-object_of_path rows kind.User id = path_user id ++ object rows kind.User id
-object_of_path rows other id = object rows other id
+object_of_path rows kind id = user_of_path kind id ++ object rows kind id
 
 -- what a creation gives, without the id
 unfoldable pub of_body : Made → Fields
@@ -147,6 +164,7 @@ of_actor (actor.Group id) = field (codes "target.group.id") id
 abbrev pub of_target : Target → Fields
 of_target (target.Project id) = field (codes "target.project.id") id
 of_target (target.Domain id) = field (codes "target.domain.id") id
+of_target target.System = []
 
 abbrev pub of_grant : GrantRow → Fields
 of_grant row = of_actor row.actor ++ of_target row.target ++ field (codes "target.role.id") row.role
@@ -178,13 +196,17 @@ filter_names kind.Project = codes "name" ∷ codes "domain_id" ∷ codes "parent
 filter_names kind.User = codes "name" ∷ codes "domain_id" ∷ codes "enabled" ∷ []
 filter_names kind.Group = codes "name" ∷ codes "domain_id" ∷ []
 filter_names kind.Role = codes "name" ∷ []
-filter_names other = []
+filter_names kind.Implication = []
+filter_names kind.Grant = []
+filter_names kind.Member = []
+filter_names kind.Trust = []
+filter_names kind.Event = []
 
 -- the target of a command
 
 unfoldable pub target_of : Rows → Option Valid → Command → Fields
-target_of rows subject command.Validate = of_subject subject
-target_of rows subject command.Check = of_subject subject
+target_of rows subject (command.Validate late) = of_subject subject
+target_of rows subject (command.Check late) = of_subject subject
 target_of rows subject command.RevokeToken = of_subject subject
 target_of rows subject (command.Create made) = of_body made
 target_of rows subject (command.List kind filter) = of_filter (filter_names kind) filter.fields
@@ -211,4 +233,10 @@ target_of rows subject (command.Trusts filter) =
 target_of rows subject (command.Trust id) = of_trust rows id
 target_of rows subject (command.DeleteTrust id) = of_trust rows id
 target_of rows subject (command.TrustRoles id) = of_trust rows id
-target_of rows subject other = []
+target_of rows subject command.Version = []
+target_of rows subject (command.Login body) = []
+target_of rows subject (command.ChangePassword user original password) = []
+target_of rows subject (command.Assignments filter) = []
+target_of rows subject command.Events = []
+target_of rows subject command.RotateKeys = []
+target_of rows subject command.LoadKeys = []

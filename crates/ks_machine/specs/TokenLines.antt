@@ -1,6 +1,7 @@
 -- What a token must be, by the keys, its payload and the time alone: the first lines of its validity, in their order.
 use Rattle.std.specs.Prelude.{ℕ, ◌+◌, Bool, true, false, nat_lt, nat_le, List, [], ◌∷◌, Option, Some, None, is_some, Result, Ok, Err}
 use Rattle.ks_base.specs.declared.key.Key.{Key}
+use Rattle.ks_base.specs.Revocation.{window}
 use Rattle.ks_fernet.specs.Opening.{open_of}
 use Rattle.ks_fernet.specs.Token.{envelope_of}
 use Rattle.ks_fernet.specs.declared.opening.OpenAnswer.{OpenAnswer}
@@ -39,17 +40,23 @@ unfoldable pub first_opened : List Key → List ℕ → OpenAnswer
 first_opened [] text = unopened (is_some (envelope_of text))
 first_opened (key ∷ keys) text = or_else (open_of key text) (first_opened keys text)
 
--- the lines behind the opening, where `life` is how long a token may live, and `moment` is now
-unfoldable pub payload_lines : ℕ → ℕ → ℕ → List ℕ → Result Held Why
-payload_lines life moment issued plain = do
+-- the moment at which a token ends; who may ask for expired ones finds it for so much longer
+abbrev pub end_of : Bool → ℕ → ℕ
+end_of false expires = expires
+end_of true expires = expires + window
+
+-- the lines behind the opening, where `life` is how long a token may live, `moment` is now, and `late` says whether
+-- the request allows an expired token
+unfoldable pub payload_lines : ℕ → ℕ → Bool → ℕ → List ℕ → Result Held Why
+payload_lines life moment late issued plain = do
   payload ← found (payload_of plain) why.Payload
   _ ← need (nat_le issued moment) why.Future
-  _ ← need (nat_lt moment payload.expires) why.Expired
+  _ ← need (nat_lt moment (end_of late payload.expires)) why.Expired
   _ ← need (nat_le payload.expires (issued + life)) why.Span
   Ok (record { payload = payload; issued = issued; plain = plain })
 
 -- the first line that does not hold, or what the token holds
-abbrev pub token_lines : ℕ → ℕ → OpenAnswer → Result Held Why
-token_lines life moment NotText = Err why.Text
-token_lines life moment No = Err why.Key
-token_lines life moment (Yes issued plain) = payload_lines life moment issued plain
+abbrev pub token_lines : ℕ → ℕ → Bool → OpenAnswer → Result Held Why
+token_lines life moment late NotText = Err why.Text
+token_lines life moment late No = Err why.Key
+token_lines life moment late (Yes issued plain) = payload_lines life moment late issued plain

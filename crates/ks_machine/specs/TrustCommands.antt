@@ -1,17 +1,18 @@
 -- Trusts: making one, and what is told of them (OS-TRUST).
-use Rattle.std.specs.Prelude.{ℕ, ◌-◌, ◌==◌, Bool, true, false, not, ◌&&◌, if◌then◌else◌, nat_lt, List, [], ◌∷◌, ◌++◌, length, Option, Some, None, codes, filter, map, option_map, unwrap_or}
+use Rattle.std.specs.Prelude.{ℕ, ◌-◌, ◌==◌, Bool, true, false, ◌&&◌, if◌then◌else◌, nat_lt, nat_le, List, [], ◌∷◌, ◌++◌, length, Option, Some, None, codes, filter, map, option_map, unwrap_or}
 use Rattle.std.specs.Option.{option_and_then, option_map_or, option_or}
 use Rattle.ks_base.specs.declared.faults.TrustFault.{TrustFault}
 use Rattle.ks_base.specs.declared.faults.TrustFault.TheVariants as fault
 use Rattle.ks_base.specs.declared.grants.Target.TheVariants as target
 use Rattle.ks_base.specs.declared.kinds.Kind.TheVariants as kind
 use Rattle.ks_base.specs.declared.receipt.Drawn.{Drawn}
+use Rattle.ks_base.specs.declared.limits.TheConstants.{REDELEGATIONS}
 use Rattle.ks_base.specs.declared.rows.RoleRow.{RoleRow}
 use Rattle.ks_base.specs.declared.shapes.Filter.{Filter}
 use Rattle.ks_base.specs.declared.shapes.ShapeFault.TheVariants as shape
 use Rattle.ks_base.specs.declared.trusts.TrustRow.{TrustRow}
 use Rattle.ks_base.specs.Rows.{Id, Text, Rows, same, trust_of}
-use Rattle.ks_base.specs.Trusts.{first_missing, has_id, is_expired, under_fault}
+use Rattle.ks_base.specs.Trusts.{creation_fault, first_of_new, has_id}
 use Rattle.ks_machine.specs.declared.bodies.Named.{Named}
 use Rattle.ks_machine.specs.declared.bodies.Named.TheVariants as named
 use Rattle.ks_machine.specs.declared.bodies.TrustBody.{TrustBody}
@@ -23,16 +24,35 @@ use Rattle.ks_machine.specs.declared.cause.Cause.TheVariants as cause
 use Rattle.ks_machine.specs.declared.change.Change.TheVariants as change
 use Rattle.ks_rule.specs.Kinds.{Fields}
 use Rattle.ks_machine.specs.Assignments.{agrees}
-use Rattle.ks_machine.specs.Attempts.{Attempt, Go, Stop, ◌>>=◌, found, need}
+use Rattle.ks_machine.specs.Attempts.{Attempt, Go, ◌>>=◌, blame, found, need, unless}
 use Rattle.ks_machine.specs.Effective.{in_order, roles_at}
-use Rattle.ks_machine.specs.Outcomes.{Outcome, changes, made_id, makes, tells}
+use Rattle.ks_machine.specs.Outcomes.{Outcome, changes, made_id, tells}
 use Rattle.ks_machine.specs.Scopes.{role_in, titled_roles}
 use Rattle.ks_machine.specs.Tables.{standing_project, standing_trust, standing_user}
-use Rattle.ks_machine.specs.Validity.{Valid, first_of_chain}
+use Rattle.ks_machine.specs.Validity.{Valid}
+
+-- the causes that have a place of their own are named there
+abbrev pub of_trust : TrustFault → Cause
+of_trust (fault.Full kind) = cause.Full kind
+of_trust (fault.IdTaken id) = cause.IdTaken id
+of_trust fault.Memory = cause.Memory
+of_trust fault.NotTrustor = cause.Trust fault.NotTrustor
+of_trust fault.NotParent = cause.Trust fault.NotParent
+of_trust fault.NoRoles = cause.Trust fault.NoRoles
+of_trust fault.DepthOut = cause.Trust fault.DepthOut
+of_trust (fault.RoleNotInParent role) = cause.Trust (fault.RoleNotInParent role)
+of_trust fault.Impersonation = cause.Trust fault.Impersonation
+of_trust fault.UsesSet = cause.Trust fault.UsesSet
+of_trust fault.LaterThanParent = cause.Trust fault.LaterThanParent
+of_trust (fault.RoleLost role) = cause.Trust (fault.RoleLost role)
+of_trust fault.Expired = cause.Trust fault.Expired
+of_trust (fault.Absent id) = cause.Trust (fault.Absent id)
+of_trust fault.NotTrustee = cause.Trust fault.NotTrustee
+of_trust fault.Spent = cause.Trust fault.Spent
+of_trust (fault.UserOff id) = cause.Trust (fault.UserOff id)
 
 abbrev pub unless_trust : Option TrustFault → Attempt Cause (Unit {0})
-unless_trust None = Go tt
-unless_trust (Some why) = Stop (cause.Trust why)
+unless_trust why = blame of_trust (unless why)
 
 abbrev pub needs : Bool → TrustFault → Attempt Cause (Unit {0})
 needs holds why = need holds (cause.Trust why)
@@ -71,11 +91,12 @@ count_under asked parent = option_map_or (λ count. count == parent.count - 1) a
 
 abbrev pub count_for : TrustBody → Option TrustRow → ℕ
 count_for asked parent =
-    if asked.redelegate then option_map_or (λ above. above.count - 1) parent (unwrap_or asked.count 3) else 0
+    if asked.redelegate then option_map_or (λ above. above.count - 1) parent (unwrap_or asked.count REDELEGATIONS) else 0
 
-abbrev pub is_deep : TrustBody → Option TrustRow → Bool
-is_deep asked None = nat_lt 3 (count_for asked None)
-is_deep asked (Some parent) = not (count_under asked parent)
+-- the count that is asked for can be had
+abbrev pub may_count : TrustBody → Option TrustRow → Bool
+may_count asked None = nat_le (count_for asked None) REDELEGATIONS
+may_count asked (Some parent) = count_under asked parent
 
 -- the row
 
@@ -93,12 +114,9 @@ new_trust id asked parent roles = record {
   parent = option_map (λ above. above.id) parent;
 }
 
-abbrev pub first_trustor_of : Rows → TrustBody → Option TrustRow → Id
-first_trustor_of rows asked parent = option_map_or (first_of_chain rows) parent asked.trustor
-
-abbrev pub roles_lost : Rows → Id → TrustRow → Option TrustFault
-roles_lost rows first trust =
-    option_map (λ role. fault.RoleLost role) (first_missing trust.roles (roles_at rows first (target.Project trust.project)))
+-- the roles of the first trustor at the project of a new trust
+abbrev pub roles_to_give : Rows → TrustRow → List Id
+roles_to_give rows trust = roles_at rows (first_of_new rows.trusts trust) (target.Project trust.project)
 
 abbrev pub told_trust : Rows → TrustRow → Row
 told_trust rows trust = row.Trust trust (titled_roles rows trust.roles)
@@ -111,12 +129,10 @@ create_trust rows moment drawn caller asked = do
   parent ← parent_by rows asked caller.payload.trust
   _ ← needs (nat_lt 0 (length asked.roles)) fault.NoRoles
   roles ← roles_asked rows asked.roles
-  _ ← needs (not (is_deep asked parent)) fault.DepthOut
+  _ ← needs (may_count asked parent) fault.DepthOut
   let new : TrustRow = new_trust (made_id drawn) asked parent (in_order roles)
-  _ ← unless_trust (option_and_then (λ above. under_fault above new) parent)
-  _ ← unless_trust (roles_lost rows (first_trustor_of rows asked parent) new)
-  _ ← needs (not (is_expired new.expires moment)) fault.Expired
-  Go (makes new.id (change.PutTrust new) (body.One (told_trust rows new) true))
+  _ ← unless_trust (creation_fault rows.trusts (roles_to_give rows new) moment new)
+  Go (changes (change.PutTrust new) (body.One (told_trust rows new) true))
 
 -- what is told of trusts
 

@@ -16,9 +16,9 @@ use Rattle.ks_machine.specs.declared.body_out.Row.TheVariants as row
 use Rattle.ks_machine.specs.declared.cause.Cause.{Cause}
 use Rattle.ks_machine.specs.declared.cause.Cause.TheVariants as cause
 use Rattle.ks_machine.specs.declared.change.Change.TheVariants as change
-use Rattle.ks_people.specs.Faults.{other_group_named, other_user_named}
-use Rattle.ks_roles.specs.Faults.{other_named}
-use Rattle.ks_tree.specs.Faults.{disable_fault, enable_fault, other_domain_named, other_project_named}
+use Rattle.ks_base.specs.PeopleFaults.{set_group_fault, set_user_fault}
+use Rattle.ks_base.specs.RoleFaults.{set_fault}
+use Rattle.ks_base.specs.TreeFaults.{set_domain_fault, set_project_fault}
 use Rattle.ks_machine.specs.Attempts.{Attempt, Go, ◌>>=◌, Known, need}
 use Rattle.ks_machine.specs.Outcomes.{Outcome, changes}
 use Rattle.ks_machine.specs.Passwords.{derived_or}
@@ -38,7 +38,7 @@ update_domain rows id given name description enabled = do
     description = unwrap_or description old.description;
     enabled = unwrap_or enabled old.enabled;
   }
-  _ ← unless_tree (other_domain_named (trees rows) new)
+  _ ← unless_tree (set_domain_fault (trees rows) new)
   Go (changes (change.PutDomain new) (body.One (row.Domain new) false))
 
 unfoldable pub update_project : Rows → Id → Option Id → Option Text → Option Id → Option Id → Option Text → Option Bool → Attempt Cause Outcome
@@ -52,9 +52,7 @@ update_project rows id given name domain parent description enabled = do
     description = unwrap_or description old.description;
     enabled = unwrap_or enabled old.enabled;
   }
-  _ ← unless_tree (disable_fault (trees rows) new)
-  _ ← unless_tree (enable_fault (trees rows) new)
-  _ ← unless_tree (other_project_named (trees rows) new)
+  _ ← unless_tree (set_project_fault (trees rows) new)
   Go (changes (change.PutProject new) (body.One (row.Project new) false))
 
 unfoldable pub update_user : Known → State → Drawn → Id → Option Id → Option Text → Option Id → Option Text → Option Bool → Attempt Cause Outcome
@@ -63,7 +61,7 @@ update_user known S drawn id given name domain password enabled = do
   _ ← unchanged (codes "id") given id
   _ ← unchanged (codes "domain_id") domain old.domain
   let named : UserRow = record old { name = unwrap_or name old.name; enabled = unwrap_or enabled old.enabled }
-  _ ← unless_row (other_user_named (people S.rows) named)
+  _ ← unless_row (set_user_fault (people S.rows) named)
   kept ← derived_or known S drawn old.password password
   let new : UserRow = record named { password = kept }
   Go (changes (change.PutUser new) (body.One (row.User new) false))
@@ -74,7 +72,7 @@ update_group rows id given name domain description = do
   _ ← unchanged (codes "id") given id
   _ ← unchanged (codes "domain_id") domain old.domain
   let new : GroupRow = record old { name = unwrap_or name old.name; description = unwrap_or description old.description }
-  _ ← unless_row (other_group_named (people rows) new)
+  _ ← unless_row (set_group_fault (people rows) new)
   Go (changes (change.PutGroup new) (body.One (row.Group new) false))
 
 unfoldable pub update_role : Rows → Id → Option Id → Option Text → Option Text → Attempt Cause Outcome
@@ -82,7 +80,7 @@ update_role rows id given name description = do
   old ← standing_role rows id
   _ ← unchanged (codes "id") given id
   let new : RoleRow = record old { name = unwrap_or name old.name; description = unwrap_or description old.description }
-  _ ← unless_row (other_named (roles rows) new)
+  _ ← unless_row (set_fault (roles rows) new)
   Go (changes (change.PutRole new) (body.One (row.Role new) false))
 
 unfoldable pub update : Known → State → Drawn → Id → Made → Attempt Cause Outcome

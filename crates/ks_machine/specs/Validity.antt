@@ -1,5 +1,5 @@
 -- When the text of a token is valid: the lines of its validity, in their order.
-use Rattle.std.specs.Prelude.{ℕ, Bool, true, false, not, ◌&&◌, ◌||◌, if◌then◌else◌, nat_lt, List, [], ◌∷◌, length, Option, Some, None, is_some, option_map}
+use Rattle.std.specs.Prelude.{ℕ, ◌==◌, Bool, true, false, not, ◌&&◌, ◌||◌, if◌then◌else◌, nat_lt, List, [], ◌∷◌, length, Option, Some, None, is_some, option_map}
 use Rattle.std.specs.List.{list_all}
 use Rattle.std.specs.Option.{option_and_then, option_map_or, option_or}
 use Rattle.ks_base.specs.declared.events.Holder.{Holder}
@@ -7,10 +7,11 @@ use Rattle.ks_base.specs.declared.grants.Target.TheVariants as target
 use Rattle.ks_base.specs.declared.trusts.TrustRow.{TrustRow}
 use Rattle.ks_base.specs.Revocation.{is_revoked}
 use Rattle.ks_base.specs.Rows.{Id, Text, Rows, same, project_of, trust_of, user_of}
-use Rattle.ks_base.specs.Trusts.{first_within, is_expired}
+use Rattle.ks_base.specs.Trusts.{first_trustor, is_expired}
 use Rattle.ks_fernet.specs.declared.opening.OpenAnswer.{OpenAnswer}
 use Rattle.ks_fernet.specs.declared.opening.OpenAnswer.TheVariants.{NotText, No, Yes}
 use Rattle.ks_machine.specs.TokenLines.{token_lines}
+use Rattle.ks_machine.specs.declared.lines.Held.{Held}
 use Rattle.ks_machine.specs.declared.why.Why.{Why}
 use Rattle.ks_machine.specs.declared.why.Why.TheVariants as why
 use Rattle.ks_payload.specs.declared.payload.Payload.{Payload}
@@ -77,28 +78,33 @@ holder rows payload = record {
 
 -- lines
 
+-- a domain or project stands and is enabled; the system always is; an application credential does not hold yet
 abbrev pub is_scope_on : Rows → Payload → Bool
 is_scope_on rows payload =
-    option_map_or (is_domain_on rows) payload.domain true && option_map_or (is_project_on rows) payload.project true
+    option_map_or (is_domain_on rows) payload.domain true
+    && (option_map_or (is_project_on rows) payload.project true && not (is_some payload.credential))
 
--- the trustor at the end of the chain of a trust
-abbrev pub first_of_chain : Rows → TrustRow → Id
-first_of_chain rows trust = first_within (length rows.trusts) rows.trusts trust
-
--- with impersonation a token of the trust is the trustor's, else the trustee's
-abbrev pub user_by : TrustRow → Id
-user_by trust = if trust.impersonation then trust.trustor else trust.trustee
+-- whose a token of the trust is: with impersonation the trustor's, else the trustee's
+abbrev pub acts_as : TrustRow → Id
+acts_as trust = if trust.impersonation then trust.trustor else trust.trustee
 
 unfoldable pub is_trust_on : Rows → ℕ → Payload → TrustRow → Bool
 is_trust_on rows moment payload trust =
     not (is_expired trust.expires moment)
     && (option_map_or (same trust.project) payload.project false
     && (is_user_on rows trust.trustor && (is_user_on rows trust.trustee
-    && (is_user_on rows (first_of_chain rows trust) && same (user_by trust) payload.user))))
+    && (is_user_on rows (first_trustor rows.trusts trust) && same (acts_as trust) payload.user))))
 
 abbrev pub is_trust_line : Rows → ℕ → Payload → Bool
 is_trust_line rows moment payload =
     option_map_or (λ id. option_map_or (is_trust_on rows moment payload) (trust_of id rows.trusts) false) payload.trust true
+
+-- the kind of payloads that are for the whole system
+abbrev pub system_kind : ℕ
+system_kind = 4
+
+abbrev pub is_system : Payload → Bool
+is_system payload = payload.kind == system_kind
 
 -- the roles of a token: those of its trust and what these imply, those that the user has at its scope, or none
 abbrev pub trust_roles : Rows → Option TrustRow → List Id
@@ -112,14 +118,14 @@ roles_of rows payload = by_scope payload.trust payload.project payload.domain
     by_scope (Some trust) project domain = trust_roles rows (trust_of trust rows.trusts)
     by_scope None (Some project) domain = roles_at rows payload.user (target.Project project)
     by_scope None None (Some domain) = roles_at rows payload.user (target.Domain domain)
-    by_scope None None None = []
+    by_scope None None None = if is_system payload then roles_at rows payload.user target.System else []
 
 abbrev pub is_scoped : Payload → Bool
-is_scoped payload = is_some payload.domain || is_some payload.project
+is_scoped payload = is_some payload.domain || (is_some payload.project || is_system payload)
 
 -- the first trustor has this role at the project of the trust
 abbrev pub is_kept : Rows → TrustRow → Id → Bool
-is_kept rows trust role = is_effective rows (first_of_chain rows trust) (target.Project trust.project) role
+is_kept rows trust role = is_effective rows (first_trustor rows.trusts trust) (target.Project trust.project) role
 
 abbrev pub are_kept : Rows → Payload → Bool
 are_kept rows payload = option_map_or (λ trust. list_all (is_kept rows trust) trust.roles) (trust_named rows payload) true
@@ -134,14 +140,19 @@ pub record Valid : Type 0 where
   pub issued : ℕ
   pub roles : List Id
 
--- the first line that does not hold, or what the token holds
-unfoldable pub validity : Known → State → ℕ → Text → Attempt Why Valid
-validity known S moment text = do
-  answer ← opens known S.ring.held text
-  held ← decided (token_lines S.settings.life moment answer)
+-- the lines that the revocations and the rows decide
+unfoldable pub held_lines : State → ℕ → Held → Attempt Why Valid
+held_lines S moment held = do
   _ ← need (not (is_revoked S.events (holder S.rows held.payload) held.issued)) why.Revoked
   _ ← need (is_user_on S.rows held.payload.user) why.User
   _ ← need (is_scope_on S.rows held.payload) why.Scope
   _ ← need (is_trust_line S.rows moment held.payload) why.Trust
   _ ← need (has_roles S.rows held.payload) why.Roles
   Go (record { payload = held.payload; issued = held.issued; roles = roles_of S.rows held.payload })
+
+-- the first line that does not hold, or what the token holds; `late` says whether the request allows an expired one
+unfoldable pub validity : Known → State → ℕ → Bool → Text → Attempt Why Valid
+validity known S moment late text = do
+  answer ← opens known S.ring.held text
+  held ← decided (token_lines S.settings.life moment late answer)
+  held_lines S moment held

@@ -45,6 +45,8 @@ pub enum ScopeIn {
     Unscoped,
     Domain(Named),
     Project(ProjectNamed),
+    /// The whole system.
+    System,
     /// Where and as the trust says.
     Trust(Id),
 }

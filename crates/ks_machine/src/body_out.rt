@@ -53,6 +53,8 @@ pub struct TokenOut {
     pub trust: Option<TrustUse>,
     /// None exactly where the token has no scope.
     pub roles: Option<TitledList>,
+    /// Whether it is for the whole system.
+    pub system: bool,
 }
 
 /// A row of any kind that is told by itself or in a listing.

@@ -7,10 +7,11 @@ pub enum Command {
     /// The version document.
     Version,
     Login(LoginBody),
-    /// The subject token with all that is told of it.
-    Validate,
-    /// Whether the subject token is valid.
-    Check,
+    /// The subject token with all that is told of it. The truth value says whether the request allows one that
+    /// has expired.
+    Validate(bool),
+    /// Whether the subject token is valid; the truth value as for `Validate`.
+    Check(bool),
     /// The end of the subject token.
     RevokeToken,
     Create(Made),

@@ -1,11 +1,30 @@
 //! What holds of the definitions of fronts, and of the lists of roles. Each law is the contract of a function that does
 //! nothing.
-ghost use Rattle.ks_machine.specs.Laws.{GoesOn, IsReflexive, IsTransitive, ReplaysEachChange, RolesAreEffective, RolesAreImplied};
+ghost use Rattle.ks_machine.specs.FactLaws.{AllFactsSuffice, FewFactsSuffice};
+ghost use Rattle.ks_machine.specs.TokenLaws.{HasItsTrust, IsRefusedEverAfter, IsTrustBound};
+ghost use Rattle.ks_machine.specs.Laws.{AnswersAtCuts, AreComparable, AreOrderedByNumbers, AreSame, CutsComeBefore, CutsGoOn, EventsAreCutOff, EventsGoOn, EventsKeepSound, GoesOn, IsReflexive, IsTransitive, ReplaysEachChange, RolesAreEffective, RolesAreImplied};
 
-/// That one front goes on from another is an order.
+/// That one front goes on from another is an order; of two from which one goes on, one goes on from the other.
 pub fn fronts_are_ordered()
     ensures reflexive { IsReflexive }
     ensures transitive { IsTransitive }
+    ensures numbers { AreOrderedByNumbers }
+    ensures comparable { AreComparable }
+    ensures same { AreSame }
+{}
+
+/// The front after an event goes on from the one before, and no change of it is above its highest moment.
+pub fn journals_go_on()
+    ensures later { EventsGoOn }
+    ensures sound { EventsKeepSound }
+{}
+
+/// A front that is cut at an event is the one before it at the event's moment, and gives the same reply.
+pub fn cuts_are_fronts()
+    ensures events { EventsAreCutOff }
+    ensures after { CutsGoOn }
+    ensures before { CutsComeBefore }
+    ensures answers { AnswersAtCuts }
 {}
 
 /// The front after a call goes on from the one before it.
@@ -26,4 +45,29 @@ pub fn roles_are_effective()
 /// The machine's closure of some roles is the ascending list of exactly those to which walks lead from them.
 pub fn roles_are_implied()
     ensures { RolesAreImplied }
+{}
+
+/// What some true facts suffice for, the machine says with all of them; so no fact that is lacking changes an answer.
+#[tactic(auto, using(crate::proofs::FewFacts::few_facts))]
+pub fn few_facts_suffice()
+    ensures { FewFactsSuffice }
+{}
+
+/// With all facts the machine never asks for one: the plain machine's answer has no hole.
+#[tactic(auto, using(crate::proofs::AllFacts::all_facts))]
+pub fn all_facts_suffice()
+    ensures { AllFactsSuffice }
+{}
+
+/// The roles of a valid token of a trust are among those that are effective for the trust's first trustor at the
+/// trust's project.
+pub fn trusts_are_bounded()
+    ensures stands { HasItsTrust }
+    ensures bounded { IsTrustBound }
+{}
+
+/// A token that a revocation ends in a front is refused in each front that goes on from it, with and without the
+/// window for expired tokens; also where its user, project, domain or trust was deleted, and the id was drawn again.
+pub fn revoked_tokens_stay_refused()
+    ensures { IsRefusedEverAfter }
 {}

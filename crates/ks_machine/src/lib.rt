@@ -15,8 +15,6 @@ mod laws;
 mod lines;
 mod reply;
 mod settings;
-#[cfg(test)]
-mod tests;
 mod why;
 
 pub use bodies::{
@@ -30,7 +28,9 @@ pub use clock::moment;
 pub use command::Command;
 pub use derived::Derived;
 pub use laws::{
-    calls_go_on, changes_are_replayed, fronts_are_ordered, roles_are_effective, roles_are_implied,
+    all_facts_suffice, calls_go_on, changes_are_replayed, cuts_are_fronts, few_facts_suffice,
+    fronts_are_ordered, journals_go_on, revoked_tokens_stay_refused, roles_are_effective,
+    roles_are_implied, trusts_are_bounded,
 };
 pub use lines::{Held, first_answer, read_payload, token_lines};
 pub use reply::Reply;

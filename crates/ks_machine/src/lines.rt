@@ -1,7 +1,9 @@
-ghost use Rattle.std.specs.Prelude.{◌≡◌, [], IfOk, IfErr, Ok, Err};
-ghost use Rattle.ks_machine.specs.TokenLines.{first_opened, payload_lines, token_lines as lines_of};
+ghost use Rattle.std.specs.Prelude.{◌≡◌, ◌≤◌, [], IfOk, IfErr, Ok, Err};
+ghost use Rattle.ks_base.specs.declared.limits.TheConstants.{EXPIRED_WINDOW, LAST_SECOND};
+ghost use Rattle.ks_machine.specs.TokenLines.{end_of, first_opened, payload_lines, token_lines as lines_of};
 
 use crate::Why;
+use ks_base::limits::EXPIRED_WINDOW;
 use ks_base::{Bytes, Key, Memory};
 use ks_fernet::{Envelope, EnvelopeFault, OpenAnswer, answer};
 use ks_payload::Payload;
@@ -44,21 +46,21 @@ fn unopened(alloc: Global, text: &[u8]) -> Result<OpenAnswer, Memory>
 }
 
 /// What a token holds, or the first line up to `Span` that does not hold. `life` is how long a token may
-/// live and `moment` is now, both in seconds.
-pub fn token_lines(life: u64, moment: u64, answer: OpenAnswer) -> Result<Held, Why>
-    ensures { result ≡ lines_of life moment answer }
+/// live and `moment` is now, both in seconds; `late` says whether an expired token is allowed for two days.
+pub fn token_lines(life: u64, moment: u64, late: bool, answer: OpenAnswer) -> Result<Held, Why>
+    ensures { result ≡ lines_of life moment late answer }
 {
     match answer {
         OpenAnswer::NotText => Err(Why::Text),
         OpenAnswer::No => Err(Why::Key),
-        OpenAnswer::Yes { time, plain } => hold_payload(life, moment, time, plain),
+        OpenAnswer::Yes { time, plain } => hold_payload(life, moment, late, time, plain),
     }
 }
 
-fn hold_payload(life: u64, moment: u64, issued: u64, plain: Bytes) -> Result<Held, Why>
-    ensures { result ≡ payload_lines life moment issued plain }
+fn hold_payload(life: u64, moment: u64, late: bool, issued: u64, plain: Bytes) -> Result<Held, Why>
+    ensures { result ≡ payload_lines life moment late issued plain }
 {
-    let payload = read_payload(life, moment, issued, plain.as_slice())?;
+    let payload = read_payload(life, moment, late, issued, plain.as_slice())?;
     Ok(Held {
         payload,
         issued,
@@ -69,9 +71,15 @@ fn hold_payload(life: u64, moment: u64, issued: u64, plain: Bytes) -> Result<Hel
 /// The payload of an opened token that was issued at this second, or the first line from `Payload` to `Span` that
 /// does not hold. It takes no memory.
 #[tactic(auto, unfolding(crate::specs::TokenLines::payload_lines))]
-pub fn read_payload(life: u64, moment: u64, issued: u64, plain: &[u8]) -> Result<Payload, Why>
-    ensures held { IfOk result (λ payload. payload_lines life moment issued plain.now ≡ Ok (record { payload = payload; issued = issued; plain = plain.now })) }
-    ensures refused { IfErr result (λ why. payload_lines life moment issued plain.now ≡ Err why) }
+pub fn read_payload(
+    life: u64,
+    moment: u64,
+    late: bool,
+    issued: u64,
+    plain: &[u8],
+) -> Result<Payload, Why>
+    ensures held { IfOk result (λ payload. payload_lines life moment late issued plain.now ≡ Ok (record { payload = payload; issued = issued; plain = plain.now })) }
+    ensures refused { IfErr result (λ why. payload_lines life moment late issued plain.now ≡ Err why) }
 {
     let Ok(Some(payload)) = Payload::read(plain) else {
         return Err(Why::Payload);
@@ -79,11 +87,23 @@ pub fn read_payload(life: u64, moment: u64, issued: u64, plain: &[u8]) -> Result
     if issued > moment {
         return Err(Why::Future);
     }
-    if moment >= payload.expires {
+    if moment >= end_of(late, payload.expires) {
         return Err(Why::Expired);
     }
     if payload.expires.saturating_sub(issued) > life {
         return Err(Why::Span);
     }
     Ok(payload)
+}
+
+/// The moment from which a token that expires at this second is found no more.
+fn end_of(late: bool, expires: u64) -> u64
+    requires { expires ≤ LAST_SECOND }
+    ensures { result ≡ end_of late expires }
+{
+    if late {
+        expires + EXPIRED_WINDOW
+    } else {
+        expires
+    }
 }

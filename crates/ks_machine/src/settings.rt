@@ -22,7 +22,7 @@ pub struct Settings {
 pub enum OpenFault {
     /// Two rows of this kind have this id.
     IdRepeated(Kind, Id),
-    /// The name of the row of this kind with this id is taken.
+    /// The row of this kind with this id has the name of a later one.
     Name(Kind, Id),
     /// No row of this kind has this id, which another row names.
     Absent(Kind, Id),

@@ -1,0 +1,392 @@
+-- With all facts no check lacks one.
+use Rattle.std.proofs.Common.{◌≡◌, ℕ, Bool, true, false, List, [], ◌∷◌, Option, Some, None, Result, Ok, Err, sym, subst}
+use Rattle.ks_base.specs.declared.grants.Actor.{Actor}
+use Rattle.ks_base.specs.declared.grants.Actor.TheVariants as actor
+use Rattle.ks_base.specs.declared.grants.GrantRow.{GrantRow}
+use Rattle.ks_base.specs.declared.grants.Target.{Target}
+use Rattle.ks_base.specs.declared.grants.Target.TheVariants as target
+use Rattle.ks_base.specs.declared.kinds.Kind.{Kind}
+use Rattle.ks_base.specs.declared.kinds.Kind.TheVariants as kind
+use Rattle.ks_base.specs.declared.receipt.Drawn.{Drawn}
+use Rattle.ks_base.specs.declared.rows.ProjectRow.{ProjectRow}
+use Rattle.ks_base.specs.declared.rows.RoleRow.{RoleRow}
+use Rattle.ks_base.specs.declared.users.MemberRow.{MemberRow}
+use Rattle.ks_base.specs.declared.users.PasswordRow.{PasswordRow}
+use Rattle.ks_base.specs.declared.users.UserRow.{UserRow}
+use Rattle.ks_base.specs.Rows.{Id, Text, Rows}
+use Rattle.ks_machine.specs.declared.bodies.LoginBody.{LoginBody}
+use Rattle.ks_machine.specs.declared.bodies.Made.{Made}
+use Rattle.ks_machine.specs.declared.bodies.Made.TheVariants as made
+use Rattle.ks_machine.specs.declared.bodies.Named.{Named}
+use Rattle.ks_machine.specs.declared.bodies.Named.TheVariants as named
+use Rattle.ks_machine.specs.declared.bodies.Proof.{Proof}
+use Rattle.ks_machine.specs.declared.bodies.Proof.TheVariants as proof
+use Rattle.ks_machine.specs.declared.bodies.ScopeIn.{ScopeIn}
+use Rattle.ks_machine.specs.declared.bodies.ScopeIn.TheVariants as scope_in
+use Rattle.ks_machine.specs.declared.bodies.TrustBody.{TrustBody}
+use Rattle.ks_machine.specs.declared.call.Call.{Call}
+use Rattle.ks_machine.specs.declared.call.FolderRead.{FolderRead}
+use Rattle.ks_machine.specs.declared.call.FolderRead.TheVariants as folder
+use Rattle.ks_machine.specs.declared.cause.Cause.{Cause}
+use Rattle.ks_machine.specs.declared.change.Change.{Change}
+use Rattle.ks_machine.specs.declared.command.Command.{Command}
+use Rattle.ks_machine.specs.declared.command.Command.TheVariants as command
+use Rattle.ks_machine.specs.declared.lines.Held.{Held}
+use Rattle.ks_machine.specs.declared.why.Why.{Why}
+use Rattle.ks_machine.specs.Attempts.{Attempt, Go, Stop, Lacks, Lack, ◌>>=◌, blame, decided, each, everything, found, need, unless}
+use Rattle.ks_machine.specs.Creations.{create, create_domain, create_group, create_project, create_role, create_user}
+use Rattle.ks_machine.specs.Keys.{keys_read, load_keys, rotate_keys}
+use Rattle.ks_machine.specs.Listings.{delete, get, row_at}
+use Rattle.ks_machine.specs.Login.{by_password, is_password, login, project_on, scoped, shown, to_domain, to_project, to_system, to_trust, with_roles}
+use Rattle.ks_machine.specs.Members.{actor_stands, all_stand, grant, grants_of, groups_of, implication, implied, imply, is_granted, is_implied, is_in, join, leave, members_of, target_stands, ungrant, unimply}
+use Rattle.ks_machine.specs.Outcomes.{Outcome}
+use Rattle.ks_machine.specs.Passwords.{change_password, derived, derived_or}
+use Rattle.ks_machine.specs.Room.{room_for}
+use Rattle.ks_machine.specs.States.{State}
+use Rattle.ks_machine.specs.Steps.{Needs, allows, answered, as_caller, as_caller_about, caller_of, checked, step_at, stepped, subject_of}
+use Rattle.ks_machine.specs.TrustCommands.{create_trust, delete_trust, get_trust, parent_by, role_asked, roles_asked, roles_of_trust}
+use Rattle.ks_machine.specs.Updates.{update, update_domain, update_group, update_project, update_role, update_user}
+use Rattle.ks_machine.specs.Validity.{Valid, held_lines, opened, opens, unless_lacking, validity}
+use Rattle.ks_machine.proofs.FewFacts.{nothing_lacking}
+use Rattle.ks_ring.specs.declared.held_key.HeldKey.{HeldKey}
+
+-- it lacks no fact
+unfoldable pub IsWhole : {E A : Type 0} → Attempt E A → Type 0
+IsWhole (Go a) = Unit {0}
+IsWhole (Stop e) = Unit {0}
+IsWhole (Lacks l) = ⊥
+
+whole_bind : {E A B : Type 0} (a : Attempt E A) (f : A → Attempt E B) → IsWhole a → ((x : A) → IsWhole (f x)) → IsWhole (a >>= f)
+unfolding IsWhole
+whole_bind (Go x) f is each = each x
+whole_bind (Stop e) f is each = tt
+whole_bind (Lacks l) f is each = absurd is
+
+-- what it goes on to is given
+whole_map : {E A B : Type 0} (a : Attempt E A) (f : A → B) → IsWhole a → IsWhole (a >>= (λ x. Go (f x)))
+unfolding IsWhole
+whole_map a f is = whole_bind a (λ x. Go (f x)) is (λ x. tt)
+
+whole_need : {E : Type 0} (holds : Bool) (e : E) → IsWhole (need holds e)
+unfolding IsWhole
+whole_need true e = tt
+whole_need false e = tt
+
+whole_found : {E A : Type 0} (a : Option A) (e : E) → IsWhole (found a e)
+unfolding IsWhole
+whole_found (Some a) e = tt
+whole_found None e = tt
+
+whole_unless : {E : Type 0} (e : Option E) → IsWhole (unless e)
+unfolding IsWhole
+whole_unless None = tt
+whole_unless (Some e) = tt
+
+whole_decided : {E A : Type 0} (r : Result A E) → IsWhole (decided r)
+unfolding IsWhole
+whole_decided (Ok a) = tt
+whole_decided (Err e) = tt
+
+whole_blame : {E F A : Type 0} (f : E → F) (a : Attempt E A) → IsWhole a → IsWhole (blame f a)
+unfolding IsWhole
+whole_blame f (Go a) is = tt
+whole_blame f (Stop e) is = tt
+whole_blame f (Lacks l) is = absurd is
+
+whole_fault : {E F : Type 0} (f : E → F) (e : Option E) → IsWhole (blame f (unless e))
+whole_fault f e = whole_blame f (unless e) (whole_unless e)
+
+whole_each : {E A : Type 0} (check : A → Attempt E (Unit {0})) (items : List A) → ((a : A) → IsWhole (check a)) → IsWhole (each check items)
+unfolding IsWhole
+whole_each check [] is = tt
+whole_each check (a ∷ more) is = whole_bind (check a) _ (is a) (λ passed. whole_each check more is)
+
+-- what is given lacks nothing
+whole_go : (E : Type 0) {A : Type 0} (a : A) → IsWhole {E = E} (Go a)
+unfolding IsWhole
+whole_go E a = tt
+
+whole_stop : {E : Type 0} (A : Type 0) (e : E) → IsWhole {A = A} (Stop e)
+unfolding IsWhole
+whole_stop A e = tt
+
+-- tokens
+
+whole_opens : (keys : List HeldKey) (text : Text) → IsWhole {E = Why} (opens everything keys text)
+unfolding opens
+whole_opens keys text =
+    subst (λ (none : List HeldKey). IsWhole {E = Why} (unless_lacking none (opened everything text keys))) (sym (nothing_lacking text keys)) (whole_go Why _)
+
+whole_lines : (S : State) (moment : ℕ) (held : Held) → IsWhole (held_lines S moment held)
+unfolding held_lines
+whole_lines S moment held = search (whole_bind, whole_go, whole_need) depth 14
+
+whole_validity : (S : State) (moment : ℕ) (late : Bool) (text : Text) → IsWhole (validity everything S moment late text)
+unfolding validity
+whole_validity S moment late text = search (whole_bind, whole_opens, whole_decided, whole_lines)
+
+whole_caller : (S : State) (moment : ℕ) (given : Option Text) → IsWhole (caller_of everything S moment given)
+unfolding caller_of
+whole_caller S moment given = whole_bind _ _ (whole_found _ _) (λ (text : Text). whole_blame _ _ (whole_validity S moment false text))
+
+whole_subject : (S : State) (moment : ℕ) (late : Bool) (given : Option Text) → IsWhole (subject_of everything S moment late given)
+unfolding subject_of
+whole_subject S moment late given = whole_bind _ _ (whole_found _ _) (λ (text : Text). whole_blame _ _ (whole_validity S moment late text))
+
+whole_allows : (S : State) (caller : Valid) (subject : Option Valid) (asked : Command) (action : Option Text) → IsWhole (allows S caller subject asked action)
+whole_allows S caller subject asked None = whole_go Cause _
+whole_allows S caller subject asked (Some action) = whole_need _ _
+
+-- logins
+
+whole_password : (row : PasswordRow) (password : Text) → IsWhole {E = Cause} (is_password everything row password)
+unfolding is_password
+whole_password row password = whole_go Cause _
+
+whole_by_password : (rows : Rows) (named : Option UserRow) (password : Text) → IsWhole (by_password everything rows named password)
+unfolding by_password
+whole_by_password rows named password = search (whole_bind, whole_go, whole_found, whole_need, whole_password) depth 14
+
+whole_shown : (S : State) (moment : ℕ) (by : Proof) → IsWhole (shown everything S moment by)
+unfolding shown
+whole_shown S moment (proof.Password user password) = whole_map _ _ (whole_by_password S.rows _ password)
+whole_shown S moment (proof.Token text) =
+    whole_bind _ _ (whole_blame _ _ (whole_validity S moment false text)) (λ (token : Valid). whole_map _ _ (whole_need _ _))
+
+whole_with_roles : (rows : Rows) (user : Id) (at : Target) → IsWhole (with_roles rows user at)
+unfolding with_roles
+whole_with_roles rows user at = search (whole_bind, whole_go, whole_need) depth 14
+
+whole_project_on : (rows : Rows) (project : Option ProjectRow) → IsWhole (project_on rows project)
+unfolding project_on
+whole_project_on rows project = search (whole_bind, whole_go, whole_found, whole_need) depth 14
+
+whole_to_domain : (rows : Rows) (user : Id) (domain : Option Id) → IsWhole (to_domain rows user domain)
+unfolding to_domain
+whole_to_domain rows user domain = search (whole_bind, whole_go, whole_found, whole_need, whole_with_roles) depth 14
+
+whole_to_project : (rows : Rows) (user : Id) (project : Option ProjectRow) → IsWhole (to_project rows user project)
+unfolding to_project
+whole_to_project rows user project = search (whole_bind, whole_go, whole_project_on, whole_with_roles) depth 14
+
+whole_to_system : (rows : Rows) (user : Id) → IsWhole (to_system rows user)
+unfolding to_system
+whole_to_system rows user = whole_map _ _ (whole_with_roles rows user target.System)
+
+whole_to_trust : (rows : Rows) (moment : ℕ) (user id : Id) → IsWhole (to_trust rows moment user id)
+unfolding to_trust
+whole_to_trust rows moment user id = search (whole_bind, whole_go, whole_found, whole_need, whole_fault, whole_project_on, whole_each) depth 20
+
+whole_scoped : (rows : Rows) (moment : ℕ) (user : Id) (asked : ScopeIn) → IsWhole (scoped rows moment user asked)
+unfolding scoped
+whole_scoped rows moment user scope_in.Nothing = whole_go Cause _
+whole_scoped rows moment user scope_in.Unscoped = whole_go Cause _
+whole_scoped rows moment user (scope_in.Domain domain) = whole_to_domain rows user _
+whole_scoped rows moment user (scope_in.Project project) = whole_to_project rows user _
+whole_scoped rows moment user scope_in.System = whole_to_system rows user
+whole_scoped rows moment user (scope_in.Trust id) = whole_to_trust rows moment user id
+
+whole_login : (S : State) (moment : ℕ) (drawn : Drawn) (asked : LoginBody) → IsWhole (login everything S moment drawn asked)
+unfolding login
+whole_login S moment drawn asked = search (whole_bind, whole_go, whole_shown, whole_scoped) depth 14
+
+-- passwords
+
+whole_derived : (S : State) (drawn : Drawn) (password : Text) → IsWhole {E = Cause} (derived everything S drawn password)
+unfolding derived
+whole_derived S drawn password = whole_go Cause _
+
+whole_derived_or : (S : State) (drawn : Drawn) (kept : Option PasswordRow) (password : Option Text) → IsWhole {E = Cause} (derived_or everything S drawn kept password)
+unfolding derived_or
+whole_derived_or S drawn kept None = whole_go Cause _
+whole_derived_or S drawn kept (Some password) = whole_map _ _ (whole_derived S drawn password)
+
+whole_change_password : (S : State) (drawn : Drawn) (id : Id) (original password : Text) → IsWhole (change_password everything S drawn id original password)
+unfolding change_password
+whole_change_password S drawn id original password = search (whole_bind, whole_go, whole_by_password, whole_derived) depth 14
+
+-- rows
+
+whole_create_user : (S : State) (drawn : Drawn) (new : UserRow) (password : Option Text) → IsWhole (create_user everything S drawn new password)
+unfolding create_user
+whole_create_user S drawn new password = search (whole_bind, whole_go, whole_found, whole_fault, whole_derived_or) depth 14
+
+whole_create : (S : State) (drawn : Drawn) (caller : Valid) (asked : Made) → IsWhole (create everything S drawn caller asked)
+unfolding create create_domain create_project create_group create_role
+whole_create S drawn caller (made.Domain given name description enabled) = search (whole_bind, whole_go, whole_fault) depth 16
+whole_create S drawn caller (made.Project given name domain parent description enabled) = search (whole_bind, whole_go, whole_fault) depth 16
+whole_create S drawn caller (made.User given name domain password enabled) = whole_create_user S drawn _ password
+whole_create S drawn caller (made.Group given name domain description) = search (whole_bind, whole_go, whole_found, whole_fault) depth 16
+whole_create S drawn caller (made.Role given name description) = search (whole_bind, whole_go, whole_fault) depth 16
+
+whole_update : (S : State) (drawn : Drawn) (id : Id) (asked : Made) → IsWhole (update everything S drawn id asked)
+unfolding update update_domain update_project update_user update_group update_role
+whole_update S drawn id (made.Domain given name description enabled) = search (whole_bind, whole_go, whole_found, whole_need, whole_fault) depth 16
+whole_update S drawn id (made.Project given name domain parent description enabled) = search (whole_bind, whole_go, whole_found, whole_need, whole_fault) depth 16
+whole_update S drawn id (made.User given name domain password enabled) = search (whole_bind, whole_go, whole_found, whole_need, whole_fault, whole_derived_or) depth 16
+whole_update S drawn id (made.Group given name domain description) = search (whole_bind, whole_go, whole_found, whole_need, whole_fault) depth 16
+whole_update S drawn id (made.Role given name description) = search (whole_bind, whole_go, whole_found, whole_need, whole_fault) depth 16
+
+whole_row : (rows : Rows) (of : Kind) (id : Id) → IsWhole (row_at rows of id)
+unfolding row_at
+whole_row rows kind.Domain id = whole_map _ _ (whole_found _ _)
+whole_row rows kind.Project id = whole_map _ _ (whole_found _ _)
+whole_row rows kind.User id = whole_map _ _ (whole_found _ _)
+whole_row rows kind.Group id = whole_map _ _ (whole_found _ _)
+whole_row rows kind.Role id = whole_map _ _ (whole_found _ _)
+whole_row rows kind.Implication id = whole_stop _ _
+whole_row rows kind.Grant id = whole_stop _ _
+whole_row rows kind.Member id = whole_stop _ _
+whole_row rows kind.Trust id = whole_stop _ _
+whole_row rows kind.Event id = whole_stop _ _
+
+whole_get : (rows : Rows) (of : Kind) (id : Id) → IsWhole (get rows of id)
+unfolding get
+whole_get rows of id = whole_map _ _ (whole_row rows of id)
+
+whole_delete : (rows : Rows) (of : Kind) (id : Id) → IsWhole (delete rows of id)
+unfolding delete
+whole_delete rows kind.Domain id = whole_map _ _ (whole_fault _ _)
+whole_delete rows kind.Project id = whole_map _ _ (whole_fault _ _)
+whole_delete rows kind.User id = whole_map _ _ (whole_found _ _)
+whole_delete rows kind.Group id = whole_map _ _ (whole_found _ _)
+whole_delete rows kind.Role id = whole_map _ _ (whole_found _ _)
+whole_delete rows kind.Implication id = whole_stop _ _
+whole_delete rows kind.Grant id = whole_stop _ _
+whole_delete rows kind.Member id = whole_stop _ _
+whole_delete rows kind.Trust id = whole_stop _ _
+whole_delete rows kind.Event id = whole_stop _ _
+
+-- memberships, implications and grants
+
+whole_is_in : (rows : Rows) (member : MemberRow) → IsWhole (is_in rows member)
+unfolding is_in
+whole_is_in rows member = whole_map _ _ (whole_fault _ _)
+
+whole_target : (rows : Rows) (at : Target) → IsWhole (target_stands rows at)
+unfolding target_stands
+whole_target rows (target.Project id) = whole_map _ _ (whole_found _ _)
+whole_target rows (target.Domain id) = whole_map _ _ (whole_found _ _)
+whole_target rows target.System = whole_go Cause _
+
+whole_actor : (rows : Rows) (who : Actor) → IsWhole (actor_stands rows who)
+unfolding actor_stands
+whole_actor rows (actor.User id) = whole_map _ _ (whole_found _ _)
+whole_actor rows (actor.Group id) = whole_map _ _ (whole_found _ _)
+
+whole_all_stand : (rows : Rows) (row : GrantRow) → IsWhole (all_stand rows row)
+unfolding all_stand
+whole_all_stand rows row = search (whole_bind, whole_go, whole_found, whole_target, whole_actor) depth 14
+
+whole_is_granted : (rows : Rows) (row : GrantRow) → IsWhole (is_granted rows row)
+unfolding is_granted
+whole_is_granted rows row = search (whole_bind, whole_go, whole_fault, whole_all_stand) depth 14
+
+whole_grants_of : (rows : Rows) (who : Actor) (at : Target) (inherited : Bool) → IsWhole (grants_of rows who at inherited)
+unfolding grants_of
+whole_grants_of rows who at inherited = search (whole_bind, whole_go, whole_target, whole_actor) depth 14
+
+-- trusts
+
+whole_role : (rows : Rows) (name : Named) → IsWhole (role_asked rows name)
+whole_role rows (named.Id id) = whole_found _ _
+whole_role rows (named.Name name) = whole_found _ _
+
+whole_roles : (rows : Rows) (names : List Named) → IsWhole (roles_asked rows names)
+unfolding roles_asked
+whole_roles rows [] = whole_go Cause _
+whole_roles rows (name ∷ names) = whole_bind _ _ (whole_role rows name) (λ (role : RoleRow). whole_map _ _ (whole_roles rows names))
+
+whole_parent : (rows : Rows) (asked : TrustBody) (of : Option Id) → IsWhole (parent_by rows asked of)
+whole_parent rows asked None = search (whole_bind, whole_go, whole_need) depth 16
+whole_parent rows asked (Some id) = search (whole_bind, whole_go, whole_found, whole_need) depth 16
+
+whole_create_trust : (rows : Rows) (moment : ℕ) (drawn : Drawn) (caller : Valid) (asked : TrustBody) → IsWhole (create_trust rows moment drawn caller asked)
+unfolding create_trust
+whole_create_trust rows moment drawn caller asked = search (whole_bind, whole_go, whole_need, whole_found, whole_fault, whole_parent, whole_roles) depth 24
+
+-- keys
+
+whole_keys_read : (read : FolderRead) → IsWhole (keys_read read)
+whole_keys_read (folder.Keys keys) = whole_go Cause _
+whole_keys_read (folder.Fault why) = whole_stop _ _
+whole_keys_read folder.Unused = whole_stop _ _
+
+whole_rotate : (S : State) (drawn : Drawn) → IsWhole (rotate_keys S drawn)
+unfolding rotate_keys
+whole_rotate S drawn = search (whole_bind, whole_go, whole_need) depth 14
+
+whole_load : (S : State) (read : FolderRead) → IsWhole (load_keys S read)
+unfolding load_keys
+whole_load S read = search (whole_bind, whole_go, whole_need, whole_keys_read) depth 14
+
+-- commands
+
+whole_as_caller : (S : State) (moment : ℕ) (call : Call) (own : Valid → Attempt Cause Outcome) → ((caller : Valid) → IsWhole (own caller)) →
+    IsWhole (as_caller everything S moment call own)
+unfolding as_caller
+whole_as_caller S moment call own is =
+    whole_bind _ _ (whole_caller S moment call.caller) (λ caller. whole_bind _ _ (whole_allows S caller None call.command _) (λ allowed. is caller))
+
+whole_about : (S : State) (moment : ℕ) (call : Call) (late : Bool) (own : Text → Valid → Outcome) → IsWhole (as_caller_about everything S moment call late own)
+unfolding as_caller_about
+whole_about S moment call late own = search (whole_bind, whole_go, whole_found, whole_caller, whole_subject, whole_allows) depth 16
+
+whole_answered : (S : State) (moment : ℕ) (call : Call) (asked : Command) → IsWhole (answered everything S moment call asked)
+unfolding answered groups_of members_of join leave implied imply implication is_implied unimply grant ungrant get_trust delete_trust roles_of_trust
+whole_answered S moment call command.Version = whole_go Cause _
+whole_answered S moment call (command.Login body) = whole_login S moment call.draw body
+whole_answered S moment call (command.ChangePassword id original password) = whole_change_password S call.draw id original password
+whole_answered S moment call (command.Validate late) = whole_about S moment call late _
+whole_answered S moment call (command.Check late) = whole_about S moment call late _
+whole_answered S moment call command.RevokeToken = whole_about S moment call _ _
+whole_answered S moment call (command.Create body) = whole_as_caller S moment call _ (λ caller. whole_create S call.draw caller body)
+whole_answered S moment call (command.List of filters) = whole_as_caller S moment call _ (λ caller. whole_go Cause _)
+whole_answered S moment call (command.Get of id) = whole_as_caller S moment call _ (λ caller. whole_get S.rows of id)
+whole_answered S moment call (command.Update id body) = whole_as_caller S moment call _ (λ caller. whole_update S call.draw id body)
+whole_answered S moment call (command.Delete of id) = whole_as_caller S moment call _ (λ caller. whole_delete S.rows of id)
+whole_answered S moment call (command.GroupsOf id) = whole_as_caller S moment call _ (λ caller. whole_map _ _ (whole_found _ _))
+whole_answered S moment call (command.MembersOf id) = whole_as_caller S moment call _ (λ caller. whole_map _ _ (whole_found _ _))
+whole_answered S moment call (command.Join row) = whole_as_caller S moment call _ (λ caller. whole_map _ _ (whole_fault _ _))
+whole_answered S moment call (command.IsIn row) = whole_as_caller S moment call _ (λ caller. whole_is_in S.rows row)
+whole_answered S moment call (command.Leave row) = whole_as_caller S moment call _ (λ caller. whole_map _ _ (whole_is_in S.rows row))
+whole_answered S moment call (command.Implied id) = whole_as_caller S moment call _ (λ caller. whole_map _ _ (whole_found _ _))
+whole_answered S moment call (command.Imply row) = whole_as_caller S moment call _ (λ caller. whole_map _ _ (whole_fault _ _))
+whole_answered S moment call (command.Implication row) = whole_as_caller S moment call _ (λ caller. whole_map _ _ (whole_fault _ _))
+whole_answered S moment call (command.IsImplied row) = whole_as_caller S moment call _ (λ caller. whole_map _ _ (whole_fault _ _))
+whole_answered S moment call (command.Unimply row) = whole_as_caller S moment call _ (λ caller. whole_map _ _ (whole_fault _ _))
+whole_answered S moment call (command.GrantsOf who at inherited) = whole_as_caller S moment call _ (λ caller. whole_grants_of S.rows who at inherited)
+whole_answered S moment call (command.Grant row) =
+    whole_as_caller S moment call _ (λ caller. whole_bind _ _ (whole_all_stand S.rows row) (λ stand. whole_map _ _ (whole_fault _ _)))
+whole_answered S moment call (command.IsGranted row) = whole_as_caller S moment call _ (λ caller. whole_is_granted S.rows row)
+whole_answered S moment call (command.Ungrant row) = whole_as_caller S moment call _ (λ caller. whole_map _ _ (whole_is_granted S.rows row))
+whole_answered S moment call (command.Assignments filters) = whole_as_caller S moment call _ (λ caller. whole_go Cause _)
+whole_answered S moment call (command.CreateTrust body) = whole_as_caller S moment call _ (λ caller. whole_create_trust S.rows moment call.draw caller body)
+whole_answered S moment call (command.Trusts filters) = whole_as_caller S moment call _ (λ caller. whole_go Cause _)
+whole_answered S moment call (command.Trust id) = whole_as_caller S moment call _ (λ caller. whole_map _ _ (whole_found _ _))
+whole_answered S moment call (command.DeleteTrust id) = whole_as_caller S moment call _ (λ caller. whole_map _ _ (whole_found _ _))
+whole_answered S moment call (command.TrustRoles id) = whole_as_caller S moment call _ (λ caller. whole_map _ _ (whole_found _ _))
+whole_answered S moment call command.Events = whole_as_caller S moment call _ (λ caller. whole_go Cause _)
+whole_answered S moment call command.RotateKeys = whole_as_caller S moment call _ (λ caller. whole_rotate S call.draw)
+whole_answered S moment call command.LoadKeys = whole_as_caller S moment call _ (λ caller. whole_load S call.folder)
+
+whole_room : (S : State) (moment : ℕ) (what : Option Change) → IsWhole (room_for S moment what)
+unfolding room_for
+whole_room S moment None = whole_go Cause _
+whole_room S moment (Some what) = whole_need _ _
+
+whole_checked : (S : State) (moment : ℕ) (call : Call) → IsWhole (checked everything S moment call)
+unfolding checked
+whole_checked S moment call = search (whole_bind, whole_go, whole_unless, whole_need, whole_answered, whole_room) depth 16
+
+-- a step
+
+never_needs : (all : Attempt Cause Outcome) (lack : Lack) → IsWhole all → stepped all ≡ Needs lack → ⊥
+unfolding IsWhole
+never_needs (Go outcome) lack is says = cc
+never_needs (Stop why) lack is says = cc
+never_needs (Lacks l) lack is says = absurd is
+
+pub all_facts : (S : State) (moment : ℕ) (call : Call) (lack : Lack) → step_at everything S moment call ≡ Needs lack → ⊥
+unfolding step_at
+all_facts S moment call lack says = never_needs _ lack (whole_checked _ moment call) says
