@@ -1,0 +1,4 @@
+pub mod IdLists
+pub mod RowChanges
+pub mod UseLemmas
+pub mod WalkSteps

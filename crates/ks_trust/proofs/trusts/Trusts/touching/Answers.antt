@@ -1,0 +1,9 @@
+use Rattle.std.specs.Option.{option_copied}
+use Rattle.ks_trust.specs.State.{is_touched}
+use Rattle.ks_trust.proofs.IdLists.{some_ids_ascend}
+use Rattle.ks_trust.proofs.trusts.Trusts.touching.Goals as goal
+
+pub returns-clause-ascending : goal.returns-clause-ascending
+returns-clause-ascending c =
+    rw (c.from_vec.ensures, c.in_ok-ids.ensures, c.as_slice.ensures.value)
+    (some_ids_ascend (is_touched c.args.what.now (option_copied c.args.role)) c.self.inside.rows.items c.self.invariant.0)

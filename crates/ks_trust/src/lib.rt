@@ -1,0 +1,14 @@
+//! Trusts (OS-TRUST): how they are found, made, used and ended, and which of them hang on which.
+#![tactic(auto)]
+
+mod changes;
+mod checks;
+mod laws;
+mod lists;
+#[cfg(test)]
+mod tests;
+mod trusts;
+mod walk;
+
+pub use laws::{gone_by_their_ids, left_without_their_ids, named_by_their_ids};
+pub use trusts::Trusts;

@@ -1,0 +1,81 @@
+ghost use Rattle.std.specs.Prelude.{◌≡◌, [], length, option_copied};
+ghost use Rattle.std.specs.List.Sorted.{IsSearchInRange};
+ghost use Rattle.ks_base.specs.Places.{IsPlace};
+ghost use Rattle.ks_base.specs.Rows.{trust_of};
+ghost use Rattle.ks_base.specs.Tables.{id_cmp, IsAscending};
+ghost use Rattle.ks_base.specs.Trusts.{parent_trust, has_id, AreChained};
+
+use ks_base::{Id, IdList, TrustRow};
+use std::alloc::Global;
+use std::marker::Model;
+
+/// Trusts in the order of their ids. The parent of each redelegation stands.
+///
+/// A use is taken in place, since a copy of a row would take memory; so the rows stand in a vector and not in a
+/// table.
+#[derive(Drop)]
+pub struct Trusts {
+    pub(crate) rows: Vec<TrustRow>,
+}
+
+impl Model for Trusts {
+    ghost use Rattle.std.specs.Prelude.{List};
+    ghost use Rattle.ks_base.specs.declared.trusts.TrustRow.{TrustRow};
+    ghost use Rattle.ks_base.specs.Tables.{id_cmp, IsAscending};
+    ghost use Rattle.ks_base.specs.Trusts.{AreChained};
+
+    ghost Value = { List TrustRow };
+
+    ghost view = { λ trusts. trusts.rows.items };
+
+    ghost invariant = { λ trusts. IsAscending id_cmp (λ row. row.id) trusts.rows.items × AreChained trusts.rows.items };
+}
+
+/// The place of the trust with this id, or the one where it belongs.
+pub(crate) fn place(rows: &[TrustRow], id: &Id) -> Result<usize, usize>
+    requires { IsAscending id_cmp (λ row. row.id) rows.now }
+    ensures bound { IsSearchInRange result (length rows.now) }
+    ensures place { IsPlace id_cmp (λ row. row.id) id.now rows.now result }
+{
+    rows.binary_search_by(|row| row.id.cmp(id))
+}
+
+/// Whether the list has this id.
+pub(crate) fn has_id(ids: &IdList, id: &Id) -> bool
+    ensures { result ≡ has_id ids.now id.now }
+{
+    ids.as_slice().iter().any(|other| other == id)
+}
+
+impl Trusts {
+    /// No trusts, which take no memory yet.
+    pub fn new(alloc: Global) -> Trusts
+        ensures { result ≡ [] }
+    {
+        Trusts {
+            rows: Vec::new(alloc),
+        }
+    }
+
+    /// The trust with this id.
+    pub fn trust(&self, id: &Id) -> Option<&TrustRow>
+        ensures found { option_copied result ≡ trust_of id.now self.now }
+        ensures ascending { IsAscending id_cmp (λ row. row.id) self.now }
+        ensures chained { AreChained self.now }
+    {
+        match place(self.rows.as_slice(), id) {
+            Ok(at) => Some(&self.rows[at]),
+            Err(_) => None,
+        }
+    }
+
+    /// The trust of which this one is a redelegation.
+    pub(crate) fn parent(&self, trust: &TrustRow) -> Option<&TrustRow>
+        ensures { option_copied result ≡ parent_trust self.now trust.now.parent }
+    {
+        match &trust.parent {
+            Some(id) => self.trust(id),
+            None => None,
+        }
+    }
+}
