@@ -1,0 +1,23 @@
+-- What is true of the fields of a `Revoked`.
+use Rattle.std.specs.Prelude.{◌≡◌, ℕ, ◌-◌, ◌≤◌, min, List, [], ◌∷◌, length}
+use Rattle.std.specs.List.{AllByRecursion}
+use Rattle.ks_base.specs.declared.limits.TheConstants.{EVENTS}
+use Rattle.ks_base.specs.declared.events.EventRow.{EventRow}
+use Rattle.ks_base.specs.Revocation.{live}
+use Rattle.ks_revoke.specs.Marks.{AreMarks}
+
+-- the moments never go back, and none is above the greatest
+abbrev pub AreInOrder : ℕ → List EventRow → Type 0
+AreInOrder high [] = Unit {0}
+AreInOrder high (event ∷ events) =
+    (event.moment ≤ high) × AllByRecursion (λ later. event.moment ≤ later.moment) events × AreInOrder high events
+
+pub record IsHeld (life high : ℕ) (events marks : List EventRow) : Type 0 where
+  pub within : length events ≤ EVENTS
+  pub in_order : AreInOrder high events
+  pub all_live : live life high events ≡ events
+  pub marks_are : AreMarks events marks
+
+-- how many events more may be added: as many as both lists have places for, and at most 262,144 in all
+abbrev pub room_of : ℕ → ℕ → ℕ → ℕ → ℕ
+room_of events event_places marks mark_places = min (EVENTS - events) (min (event_places - events) (mark_places - marks))

@@ -1,0 +1,4 @@
+pub mod Things
+pub mod Marks
+pub mod Histories
+pub mod Holding

@@ -1,0 +1,29 @@
+ghost use Rattle.std.specs.Prelude.{◌≡◌};
+
+use ks_base::{Kind, Memory, TryCopy};
+use std::alloc::AllocError;
+
+/// Why there is no room for more events.
+#[derive(Clone, Copy, Debug, PartialEq, Eq)]
+pub enum RevokeFault {
+    /// The live events and those that are to be added would together be more than 262,144. The kind is `Event`.
+    Full(Kind),
+    /// There was no memory.
+    Memory,
+}
+
+impl TryCopy for RevokeFault {
+    fn copy(&self) -> Result<RevokeFault, Memory> {
+        Ok(*self)
+    }
+}
+
+impl From<AllocError> for RevokeFault {
+    ghost use Rattle.ks_revoke.specs.declared.fault.RevokeFault.TheVariants as variants;
+
+    ghost from_gives = { λ _ e. e ≡ variants.Memory };
+
+    fn from(_error: AllocError) -> RevokeFault {
+        RevokeFault::Memory
+    }
+}

@@ -1,0 +1,106 @@
+//! The greatest moments, a row a thing.
+ghost use Rattle.std.specs.Prelude.{◌≡◌, ◌+◌, ◌<◌, ◌≤◌, length, vec_len, vec_capacity};
+ghost use Rattle.std.specs.List.{list_any};
+ghost use Rattle.std.specs.List.Sorted.{IsSearchInRange};
+ghost use Rattle.ks_base.specs.Places.{IsPlace};
+ghost use Rattle.ks_base.specs.Tables.{IsAscending, put_row};
+ghost use Rattle.ks_revoke.specs.Marks.{ends_if};
+ghost use Rattle.ks_revoke.specs.Things.{rank_of, bytes_of, thing_cmp, thing_of, things_of};
+
+use ks_base::{EventRow, Holder, Revoke};
+use std::cmp::Ordering;
+
+fn rank(thing: &Revoke) -> u8
+    ensures { result ≡ rank_of thing.now }
+{
+    match thing {
+        Revoke::Audit(_) => 0,
+        Revoke::User(_) => 1,
+        Revoke::Project(_) => 2,
+        Revoke::Domain(_) => 3,
+        Revoke::Trust(_) => 4,
+    }
+}
+
+fn bytes(thing: &Revoke) -> &[u8]
+    ensures { result.now ≡ bytes_of thing.now }
+{
+    match thing {
+        Revoke::Audit(audit) => audit.as_slice(),
+        Revoke::User(id) | Revoke::Project(id) | Revoke::Domain(id) | Revoke::Trust(id) => {
+            id.as_slice()
+        }
+    }
+}
+
+/// Which of two things comes first.
+fn compare(a: &Revoke, b: &Revoke) -> Ordering
+    ensures { result ≡ thing_cmp a.now b.now }
+{
+    rank(a).cmp(&rank(b)).then_with(|| bytes(a).cmp(bytes(b)))
+}
+
+/// The place of the row of this thing, or the one where it belongs.
+fn place(marks: &[EventRow], thing: &Revoke) -> Result<usize, usize>
+    requires { IsAscending thing_cmp thing_of marks.now }
+    ensures bound { IsSearchInRange result (length marks.now) }
+    ensures place { IsPlace thing_cmp thing_of thing.now marks.now result }
+{
+    marks.binary_search_by(|mark| compare(&mark.what, thing))
+}
+
+/// Puts the row in the place of its thing, over the one that stands there. There is room for it.
+pub(crate) fn put(marks: &mut Vec<EventRow>, row: &EventRow)
+    requires ascending { IsAscending thing_cmp thing_of marks.old.items }
+    requires room { vec_len marks.old < vec_capacity marks.old }
+    ensures rows { marks.new.items ≡ put_row thing_cmp thing_of row.now marks.old.items }
+    ensures len { vec_len marks.new ≤ vec_len marks.old + 1 }
+    ensures capacity { vec_capacity marks.new ≡ vec_capacity marks.old }
+{
+    match place(marks.as_slice(), &row.what) {
+        Ok(at) => marks[at] = *row,
+        Err(at) => {
+            let _inserted = marks.insert(at, *row);
+        }
+    }
+}
+
+/// The things of a holder that an event may name.
+fn things(holder: &Holder) -> [Option<Revoke>; 8]
+    ensures { result ≡ things_of holder.now }
+{
+    [
+        Some(Revoke::Audit(holder.audit)),
+        Some(Revoke::User(holder.user)),
+        holder.trustor.map(Revoke::User),
+        holder.trustee.map(Revoke::User),
+        holder.project.map(Revoke::Project),
+        holder.trust.map(Revoke::Trust),
+        holder.user_domain.map(Revoke::Domain),
+        holder.scope_domain.map(Revoke::Domain),
+    ]
+}
+
+/// Whether the row of this thing, if there is one, ends the tokens that were issued then.
+fn ends(marks: &[EventRow], thing: &Option<Revoke>, issued: u64) -> bool
+    requires { IsAscending thing_cmp thing_of marks.now }
+    ensures { result ≡ ends_if issued marks.now thing.now }
+{
+    let Some(thing) = thing else {
+        return false;
+    };
+    match place(marks, thing) {
+        Ok(at) => issued <= marks[at].moment,
+        Err(_) => false,
+    }
+}
+
+/// Whether the row of some thing of the holder ends the tokens that were issued then.
+pub(crate) fn any_ends(marks: &[EventRow], holder: &Holder, issued: u64) -> bool
+    requires { IsAscending thing_cmp thing_of marks.now }
+    ensures { result ≡ list_any (ends_if issued marks.now) (things_of holder.now) }
+{
+    things(holder)
+        .iter()
+        .any(|thing| ends(marks, thing, issued))
+}
