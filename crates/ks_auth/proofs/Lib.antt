@@ -2,3 +2,4 @@ pub mod FactLemmas
 pub mod OpeningLemmas
 pub mod LineLemmas
 pub mod RoleLemmas
+pub mod TimeLemmas

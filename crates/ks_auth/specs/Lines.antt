@@ -1,12 +1,15 @@
--- The lines of validity in two parts: those that the facts, the payload and the time decide, and those that the rows decide.
-use Rattle.std.specs.Prelude.{◌≡◌, ℕ, Bool, true, false, List, Option, Some, None, Result, Ok, Err}
+-- The lines of validity in two parts: those that the facts, the payload and the time decide, and those that the revocations and the
+-- rows decide.
+use Rattle.std.specs.Prelude.{◌≡◌, ℕ, Bool, true, false, not, List, Option, Some, None, Result, Ok, Err}
+use Rattle.ks_base.specs.declared.events.EventRow.{EventRow}
+use Rattle.ks_base.specs.Revocation.{is_revoked}
 use Rattle.ks_base.specs.Rows.{Text, Rows}
 use Rattle.ks_fernet.specs.declared.opening.OpenAnswer.{OpenAnswer}
 use Rattle.ks_fernet.specs.declared.opening.OpenAnswer.TheVariants.{NotText, No, Yes}
 use Rattle.ks_machine.specs.Attempts.{Attempt, Go, Stop, Lacks, Keys, ◌>>=◌, Known, decided, need}
 use Rattle.ks_machine.specs.States.{is_user_on}
 use Rattle.ks_machine.specs.TokenLines.{token_lines}
-use Rattle.ks_machine.specs.Validity.{Valid, opens, has_roles, is_scope_on, is_trust_line, roles_of}
+use Rattle.ks_machine.specs.Validity.{Valid, holder, opens, has_roles, is_scope_on, is_trust_line, roles_of}
 use Rattle.ks_machine.specs.declared.lines.Held.{Held}
 use Rattle.ks_machine.specs.declared.why.Why.{Why}
 use Rattle.ks_machine.specs.declared.why.Why.TheVariants as why
@@ -16,14 +19,15 @@ use Rattle.ks_auth.specs.declared.opening.Halt.{Halt}
 use Rattle.ks_auth.specs.declared.opening.Halt.TheVariants as halt
 
 -- what the token holds
-unfoldable pub token_held : Known → List HeldKey → ℕ → ℕ → Text → Attempt Why Held
-token_held known keys life moment text = do
+unfoldable pub token_held : Known → List HeldKey → ℕ → ℕ → Bool → Text → Attempt Why Held
+token_held known keys life moment late text = do
   answer ← opens known keys text
-  decided (token_lines life moment answer)
+  decided (token_lines life moment late answer)
 
 -- what a token is that holds this payload
-unfoldable pub row_lines : Rows → ℕ → Payload → ℕ → Attempt Why Valid
-row_lines rows moment payload issued = do
+unfoldable pub row_lines : Rows → List EventRow → ℕ → Payload → ℕ → Attempt Why Valid
+row_lines rows events moment payload issued = do
+  _ ← need (not (is_revoked events (holder rows payload) issued)) why.Revoked
   _ ← need (is_user_on rows payload.user) why.User
   _ ← need (is_scope_on rows payload) why.Scope
   _ ← need (is_trust_line rows moment payload) why.Trust

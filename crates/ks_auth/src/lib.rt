@@ -4,12 +4,11 @@
 #![tactic(auto)]
 
 mod facts;
+mod holder;
 mod opening;
 mod roles;
 mod scope;
 mod tables;
-#[cfg(test)]
-mod tests;
 mod validity;
 mod verdict;
 

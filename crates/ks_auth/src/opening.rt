@@ -26,12 +26,13 @@ pub fn held(
     tables: &Tables,
     moment: u64,
     text: &Text,
+    late: bool,
     facts: &Facts,
 ) -> Result<(Payload, u64), Halt>
-    ensures { IsHeld (token_held (told facts.now) tables.now.ring.now.held tables.now.settings.now.life moment text.now) result }
+    ensures { IsHeld (token_held (told facts.now) tables.now.ring.now.held tables.now.settings.now.life moment late text.now) result }
 {
     let (issued, plain) = opening(facts, tables.ring.held(), text)?;
-    match read_payload(tables.settings.life, moment, issued, plain.as_slice()) {
+    match read_payload(tables.settings.life, moment, late, issued, plain.as_slice()) {
         Ok(payload) => Ok((payload, issued)),
         Err(why) => Err(Halt::Refused(why)),
     }

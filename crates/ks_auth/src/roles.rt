@@ -1,41 +1,125 @@
 //! The roles of a token, and the line that it has some.
-ghost use Rattle.std.specs.Prelude.{◌≡◌, length, IsNone, IfOk};
+ghost use Rattle.std.specs.Prelude.{◌≡◌, ◌↔◌, ℕ, List, Some, IfOk};
+ghost use Rattle.std.specs.List.{list_all, list_any};
+ghost use Rattle.ks_base.specs.Roles.{Effective};
+ghost use Rattle.ks_base.specs.Rows.{same, trust_of};
+ghost use Rattle.ks_base.specs.Tables.{Among};
 ghost use Rattle.ks_auth.specs.Answers.{rows_told};
-ghost use Rattle.ks_machine.specs.Effective.{roles_at};
-ghost use Rattle.ks_machine.specs.Validity.{has_roles, roles_of};
+ghost use Rattle.ks_machine.specs.Effective.{closure, roles_at};
+ghost use Rattle.ks_machine.specs.Validity.{are_kept, has_roles, is_kept, is_system, roles_of, trust_roles};
 
 use crate::Tables;
-use ks_base::{Id, IdList, Memory, Target};
-use ks_machine::roles_are_effective;
+use ks_base::{Id, IdList, Memory, Target, TrustRow};
+use ks_machine::{roles_are_effective, roles_are_implied};
 use ks_payload::Payload;
 use std::alloc::Global;
 
-/// The roles of a token without a trust: those that the user has at its scope, or none where it has no scope.
+/// The kind of payloads that are for the whole system.
+const SYSTEM: u8 = 4;
+
+/// The roles of a token: those of its trust and what these imply, those that the user has at its scope, or none where
+/// it has no scope.
 #[tactic(auto, unfolding(ks_machine::specs::Validity::roles_of))]
 pub fn roles_of(alloc: Global, tables: &Tables, payload: &Payload) -> Result<IdList, Memory>
-    requires { IsNone payload.now.trust }
     ensures { IfOk result (λ ids. ids ≡ roles_of (rows_told tables.now) payload.now) }
 {
+    if let Some(id) = &payload.trust {
+        return trust_roles(alloc, tables, id);
+    }
     match (payload.project, payload.domain) {
         (Some(project), _) => roles_at(alloc, tables, &payload.user, &Target::Project(project)),
         (None, Some(domain)) => roles_at(alloc, tables, &payload.user, &Target::Domain(domain)),
+        (None, None) if is_system(payload) => {
+            roles_at(alloc, tables, &payload.user, &Target::System)
+        }
         (None, None) => Ok(IdList::new(alloc)),
     }
 }
 
-/// Whether a token without a trust has these roles, which are its own, or needs none.
-pub fn has_roles(tables: &Tables, payload: &Payload, roles: &[Id]) -> bool
-    requires trust { IsNone payload.now.trust }
-    requires roles { roles.now ≡ roles_of (rows_told tables.now) payload.now }
-    ensures { result ≡ has_roles (rows_told tables.now) payload.now }
+/// The roles of a trust and what they imply; none where it does not stand.
+fn trust_roles(alloc: Global, tables: &Tables, id: &Id) -> Result<IdList, Memory>
+    ensures { IfOk result (λ ids. ids ≡ trust_roles (rows_told tables.now) (trust_of id.now tables.now.trusts.now)) }
 {
-    let is_scoped = payload.domain.is_some() || payload.project.is_some();
-    !is_scoped || !roles.is_empty()
+    match tables.trusts.trust(id) {
+        Some(trust) => closure(tables, &trust.roles),
+        None => Ok(IdList::new(alloc)),
+    }
+}
+
+/// The roles that these imply, themselves included.
+fn closure(tables: &Tables, roles: &IdList) -> Result<IdList, Memory>
+    ensures { IfOk result (λ ids. ids ≡ closure (rows_told tables.now) roles.now) }
+{
+    roles_are_implied();
+    tables.roles.closure(roles)
+}
+
+/// Whether the token has these roles, which are its own, or needs none, and each role of its trust is effective for
+/// the trust's first trustor at the trust's project.
+pub fn has_roles(
+    alloc: Global,
+    tables: &Tables,
+    payload: &Payload,
+    roles: &[Id],
+) -> Result<bool, Memory>
+    requires { roles.now ≡ roles_of (rows_told tables.now) payload.now }
+    ensures { IfOk result (λ holds. holds ≡ has_roles (rows_told tables.now) payload.now) }
+{
+    let is_scoped = payload.domain.is_some() || payload.project.is_some() || is_system(payload);
+    if is_scoped && roles.is_empty() {
+        return Ok(false);
+    }
+    are_kept(alloc, tables, payload)
+}
+
+fn are_kept(alloc: Global, tables: &Tables, payload: &Payload) -> Result<bool, Memory>
+    ensures { IfOk result (λ holds. holds ≡ are_kept (rows_told tables.now) payload.now) }
+{
+    let Some(id) = &payload.trust else {
+        return Ok(true);
+    };
+    match tables.trusts.trust(id) {
+        Some(trust) => keeps_roles(alloc, tables, id, trust),
+        None => Ok(true),
+    }
+}
+
+/// Whether the first trustor still has each role of the trust.
+fn keeps_roles(alloc: Global, tables: &Tables, id: &Id, trust: &TrustRow) -> Result<bool, Memory>
+    requires { trust_of id.now tables.now.trusts.now ≡ Some trust.now }
+    ensures { IfOk result (λ holds. holds ≡ list_all (is_kept (rows_told tables.now) trust.now) trust.now.roles) }
+{
+    let Some(first) = tables.trusts.first_trustor(id) else {
+        unreachable!()
+    };
+    let at = Target::Project(trust.project);
+    let held = roles_at(alloc, tables, &first, &at)?;
+    Ok(have_all(held.as_slice(), trust.roles.as_slice()))
+}
+
+/// Whether the list has all of these.
+fn have_all(held: &[Id], roles: &[Id]) -> bool
+    ensures { result ≡ list_all (λ role. list_any (λ id. same id role) held.now) roles.now }
+{
+    for role in roles {
+        if !held.contains(role) {
+            return false;
+        }
+    }
+    true
+}
+
+/// Whether the token is for the whole system.
+fn is_system(payload: &Payload) -> bool
+    ensures { result ≡ is_system payload.now }
+{
+    payload.kind == SYSTEM
 }
 
 /// The roles that are effective for the user at the target.
 fn roles_at(alloc: Global, tables: &Tables, user: &Id, target: &Target) -> Result<IdList, Memory>
-    ensures { IfOk result (λ ids. ids ≡ roles_at (rows_told tables.now) user.now target.now) }
+    ensures list { IfOk result (λ ids. ids ≡ roles_at (rows_told tables.now) user.now target.now) }
+    ensures members { IfOk result (λ ids. (role : List ℕ) → Among ids role ↔ Effective (rows_told tables.now) user.now target.now role) }
 {
     roles_are_effective();
     ks_effective::roles_of(

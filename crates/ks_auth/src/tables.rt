@@ -1,9 +1,11 @@
 use ks_assign::Grants;
 use ks_machine::Settings;
 use ks_people::People;
+use ks_revoke::Revoked;
 use ks_ring::Ring;
 use ks_roles::Roles;
 use ks_tree::Tree;
+use ks_trust::Trusts;
 
 /// The tables that a validation looks at.
 #[derive(Clone, Copy)]
@@ -12,6 +14,8 @@ pub struct Tables<'a> {
     pub people: &'a People,
     pub roles: &'a Roles,
     pub grants: &'a Grants,
+    pub trusts: &'a Trusts,
+    pub revoked: &'a Revoked,
     pub ring: &'a Ring,
     pub settings: &'a Settings,
 }

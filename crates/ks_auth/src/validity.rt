@@ -1,9 +1,14 @@
-ghost use Rattle.std.specs.Prelude.{◌≡◌, ℕ, List};
-ghost use Rattle.ks_auth.specs.Answers.{IsVerdict, rows_told, state_of};
+ghost use Rattle.std.specs.Prelude.{◌≡◌, ◌<◌, ◌≤◌, ◌+◌, ℕ, List};
+ghost use Rattle.ks_auth.specs.Answers.{IsVerdict, Tells, rows_told};
 ghost use Rattle.ks_auth.specs.Facts.{told};
 ghost use Rattle.ks_auth.specs.Lines.{row_lines};
+ghost use Rattle.ks_base.specs.declared.events.EventRow.{EventRow};
+ghost use Rattle.ks_base.specs.Revocation.{window};
+ghost use Rattle.ks_machine.specs.States.{State};
 ghost use Rattle.ks_machine.specs.Validity.{validity};
+ghost use Rattle.ks_revoke.specs.Histories.{Stands};
 
+use crate::holder::holder;
 use crate::opening::{Halt, held};
 use crate::roles::{has_roles, roles_of};
 use crate::scope::{is_scope_on, is_trust_line, is_user_on};
@@ -14,25 +19,29 @@ use ks_payload::Payload;
 use std::alloc::Global;
 
 /// What the text is at this moment, by the lines of a token's validity in their order (OpenStack Identity API v3,
-/// tokens). It needs a fact exactly where a key above the first that is known to open the text has none about it.
-/// Only the roles take memory.
+/// tokens), in each state that the tables tell. It needs a fact exactly where a key above the first that is known to
+/// open the text has none about it. `late` says whether the request allows an expired token, for two days. Only the
+/// roles take memory.
 pub fn validate(
     alloc: Global,
     tables: &Tables,
     moment: u64,
     text: &Text,
+    late: bool,
     facts: &Facts,
 ) -> Result<Verdict, Memory>
-    ensures { IsVerdict (validity (told facts.now) (state_of tables.now) moment text.now) result }
+    requires moment { tables.now.revoked.now.high ≤ moment }
+    requires life { tables.now.revoked.now.life ≡ tables.now.settings.now.life }
+    ensures { (S : State) → Tells tables.now S → IsVerdict (validity (told facts.now) S moment late text.now) result }
 {
-    match held(tables, moment, text, facts) {
+    match held(tables, moment, text, late, facts) {
         Ok((payload, issued)) => judge(alloc, tables, moment, payload, issued),
         Err(Halt::Refused(why)) => Ok(Verdict::Refused(why)),
         Err(Halt::Needs) => Ok(Verdict::Needs),
     }
 }
 
-/// What a token is whose first lines hold.
+/// What a token is whose first lines hold, so that revocations are asked of it while they are live.
 #[tactic(auto, unfolding(crate::specs::Lines::row_lines))]
 fn judge(
     alloc: Global,
@@ -41,8 +50,12 @@ fn judge(
     payload: Payload,
     issued: u64,
 ) -> Result<Verdict, Memory>
-    ensures { IsVerdict (row_lines (rows_told tables.now) moment payload issued) result }
+    requires { tables.now.revoked.now.high < issued + tables.now.revoked.now.life + window }
+    ensures { (events : List EventRow) → Stands tables.now.revoked.now (record { life = tables.now.revoked.now.life; high = tables.now.revoked.now.high; events = events }) → IsVerdict (row_lines (rows_told tables.now) events moment payload issued) result }
 {
+    if tables.revoked.test(&holder(tables, &payload), issued) {
+        return Ok(Verdict::Refused(Why::Revoked));
+    }
     if !is_user_on(tables, &payload.user) {
         return Ok(Verdict::Refused(Why::User));
     }
@@ -53,7 +66,7 @@ fn judge(
         return Ok(Verdict::Refused(Why::Trust));
     }
     let roles = roles_of(alloc, tables, &payload)?;
-    if !has_roles(tables, &payload, roles.as_slice()) {
+    if !has_roles(alloc, tables, &payload, roles.as_slice())? {
         return Ok(Verdict::Refused(Why::Roles));
     }
     Ok(Verdict::Valid(payload, issued, roles))

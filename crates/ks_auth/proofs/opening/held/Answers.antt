@@ -11,6 +11,6 @@ returns-in-Ok c =
     let P : List ℕ → Type 0 = λ plain. IsOpened (opens (told c.args.facts.now) c.args.tables.now.ring.now.held c.args.text.now) c.in_ok-issued.issued plain in
     let Q : List HeldKey → Type 0 = λ keys. IsOpened (opens (told c.args.facts.now) keys c.args.text.now) c.in_ok-issued.issued c.in_ok-issued.plain.now in (
       c.as_slice.result.now,
-      held_of (told c.args.facts.now) c.args.tables.now.ring.now.held c.args.tables.now.settings.now.life c.args.moment c.args.text.now c.in_ok-issued.issued
+      held_of (told c.args.facts.now) c.args.tables.now.ring.now.held c.args.tables.now.settings.now.life c.args.moment c.args.late c.args.text.now c.in_ok-issued.issued
           c.as_slice.result.now _ (subst P (sym c.as_slice.ensures) (subst Q c.held.ensures.held c.in_ok-issued.ensures.opened)) c.in-Ok.ensures.held,
     )
