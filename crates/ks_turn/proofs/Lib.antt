@@ -1,0 +1,5 @@
+pub mod SumLemmas
+pub mod ViewLemmas
+pub mod StepLemmas
+pub mod CallLemmas
+pub mod PassLemmas

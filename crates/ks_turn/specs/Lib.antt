@@ -1,0 +1,5 @@
+pub mod Sums
+pub mod Unnamed
+pub mod Views
+pub mod Rule
+pub mod Passes

@@ -1,0 +1,302 @@
+ghost use Rattle.std.specs.Prelude.{◌≡◌, ℕ, ◌≤◌, ◌<◌, false, true, [], ◌∷◌, length, Ok, Some, IfOk, IfErr};
+ghost use Rattle.ks_machine.specs.Fronts.{Front, IsSound, ◌⊑◌};
+ghost use Rattle.std.specs.Borrow.{Lends, sem};
+ghost use Rattle.ks_turn.specs.Passes.{Ends, IsPass, Lands, Met, Took, first_pass, keeping, passed, released, splitting};
+ghost use Rattle.ks_turn.specs.Rule.{Told};
+ghost use Rattle.ks_turn.specs.Views.{front_at, given};
+
+use crate::first::{First, Journaled};
+use crate::pass::{NoSplit, Pass};
+use crate::view::{Cut, Give, Law, Meet, Take, View};
+use atomic_table::{Refused, Seat, Table};
+use std::alloc::Global;
+use std::marker::{Model, PhantomData};
+use std::sync::Wait;
+
+// The word that tells whether the turn is taken. The other is loaded where a pass is split and where two meet.
+const TURN: usize = 1;
+
+const FREE: u64 = 0;
+
+const HELD: u64 = 1;
+// It is held, and somebody may sleep until it is given back.
+const WAITED_FOR: u64 = 2;
+
+/// A value that many callers use, one at a time.
+#[derive(Drop)]
+pub struct Turn<S: Journaled, N: First> {
+    table: Table<Option<S>, View, (), Law<N>, Global>,
+}
+
+impl<S: Journaled, N: First> Model for Turn<S, N> {
+    ghost use Rattle.std.specs.Prelude.{◌≡◌};
+    ghost use Rattle.atomic_table.specs.Seated.{TableId, table_id_coded};
+
+    ghost Value = { TableId };
+
+    ghost coded = { table_id_coded };
+
+    ghost view = { λ t. t.table.shared.table_id };
+
+    ghost invariant = { λ t. (t.table.shared.table_id.words ≡ 2) × (t.table.shared.table_id.slots ≡ 1) };
+}
+
+/// The turn, taken, with its value.
+pub struct Held<S: Journaled, N: First> {
+    seat: Seat<Option<S>, View>,
+    value: S,
+    of: PhantomData<N>,
+}
+
+impl<S: Journaled, N: First> Model for Held<S, N> {
+    ghost use Rattle.std.specs.Prelude.{◌≡◌, None, true, [], ◌∷◌, ◌<◌};
+    ghost use Rattle.std.specs.Coded.{codes};
+    ghost use Rattle.ks_rule.specs.TreeCodes.{tree_code};
+    ghost use Rattle.ks_turn.specs.Passes.{Holding, passed};
+
+    ghost Value = { Holding S };
+
+    ghost coded = { Prim.hlevel (codes, tree_code, S.code) };
+
+    ghost view = { λ h. record { pass = passed N.front h.seat.table_id h.seat.me.0; value = h.value } };
+
+    ghost invariant = { λ h. (h.seat.me.1 ≡ (0, None) ∷ []) × (h.seat.me.0.holds ≡ true) × (0 < h.seat.me.0.weight) };
+}
+
+/// There was no memory for a turn. The state comes back.
+#[derive(Drop)]
+pub struct NoRoom<S> {
+    pub state: S,
+}
+
+impl<S: Journaled, N: First> Turn<S, N> {
+    /// Puts the state into a new turn. The first pass has seen the front of `N` and has all the weight.
+    pub fn new(alloc: Global, state: S) -> Result<(Turn<S, N>, Pass<N>), NoRoom<S>>
+        requires { S.stands state N.front }
+        ensures made { IfOk result (λ t. t.1 ≡ first_pass t.0 N.front) }
+        ensures back { IfErr result (λ e. e.state ≡ state) }
+    {
+        let (changes, moment) = state.front();
+        let mut slots = Vec::new(alloc);
+        if slots.reserve(1).is_err() {
+            slots.destroy_empty();
+            return Err(NoRoom { state });
+        }
+        slots.push_reserved(Some(state));
+        match Table::new(alloc, &[FREE, FREE], slots, &()) {
+            Ok((table, seat)) => {
+                let pass = Pass {
+                    changes,
+                    moment,
+                    badge: seat.into_badge(),
+                    of: PhantomData,
+                };
+                Ok((Turn { table }, pass))
+            }
+            Err(Refused { mut slots }) => {
+                let Some(Some(state)) = slots.pop() else {
+                    unreachable!()
+                };
+                slots.destroy_empty();
+                Err(NoRoom { state })
+            }
+        }
+    }
+
+    /// Splits a pass of weight 2 or more. Takes no memory, so it never fails.
+    pub fn split(&self, pass: Pass<N>) -> Result<(Pass<N>, Pass<N>), NoSplit<N>>
+        requires own { pass.turn ≡ self.now }
+        requires weight { 2 ≤ pass.weight }
+        ensures { result ≡ Ok (keeping pass, splitting pass) }
+    {
+        let Pass {
+            changes,
+            moment,
+            badge,
+            of,
+        } = pass;
+        let mut seat = badge.into_seat();
+        let second = self.table.shared.split_seat::<Cut>(&mut seat);
+        let keeping = Pass {
+            changes,
+            moment,
+            badge: seat.into_badge(),
+            of,
+        };
+        let splitting = Pass {
+            changes,
+            moment,
+            badge: second.into_badge(),
+            of: PhantomData,
+        };
+        Ok((keeping, splitting))
+    }
+
+    // Takes the turn. A caller that finds it taken sleeps until it is given back.
+    fn seize<R: Wait>(&self, rt: &R, seat: &mut Seat<Option<S>, View>)
+        requires own { seat.old.table_id ≡ self.now }
+        requires free { seat.old.me.1 ≡ [] }
+        requires can { (0 < seat.old.me.0.weight) × (seat.old.me.0.holds ≡ false) }
+        ensures own { seat.new.table_id ≡ seat.old.table_id }
+        ensures took { (x : S) × (seat.new.me.1 ≡ (0, Some x) ∷ []) × Told N.front S.stands seat.old.me.0 seat.new.me.0 x }
+    {
+        if self
+            .table
+            .shared
+            .compare_exchange::<Take<N>>(seat, TURN, FREE, HELD)
+            == FREE
+        {
+            return;
+        }
+        for _ in rt.forever() {
+            if self.table.shared.swap::<Take<N>>(seat, TURN, WAITED_FOR) == FREE {
+                return;
+            }
+            self.table.shared.park(rt, TURN, WAITED_FOR as u32);
+        }
+        unreachable!()
+    }
+
+    // Takes the turn and the value.
+    fn take<R: Wait>(&self, rt: &R, seat: &mut Seat<Option<S>, View>) -> S
+        requires own { seat.old.table_id ≡ self.now }
+        requires free { seat.old.me.1 ≡ [] }
+        requires can { (0 < seat.old.me.0.weight) × (seat.old.me.0.holds ≡ false) }
+        ensures own { seat.new.table_id ≡ seat.old.table_id }
+        ensures lifted { seat.new.me.1 ≡ (0, None) ∷ [] }
+        ensures took { Told N.front S.stands seat.old.me.0 seat.new.me.0 result }
+    {
+        self.seize(rt, seat);
+        let taken = self.table.shared.exchange(seat, 0, None);
+        let Some(value) = taken else { unreachable!() };
+        value
+    }
+
+    // Gives the value and the turn back.
+    fn put(&self, seat: &mut Seat<Option<S>, View>, value: S)
+        requires own { seat.old.table_id ≡ self.now }
+        requires held { (seat.old.me.1 ≡ (0, None) ∷ []) × (seat.old.me.0.holds ≡ true) × (0 < seat.old.me.0.weight) }
+        requires lands { (f : Front) × IsSound f × Lands S.stands value (front_at N.front seat.old.me.0.seen) f }
+        ensures own { seat.new.table_id ≡ seat.old.table_id }
+        ensures gave { (f : Front) → front_at N.front seat.old.me.0.seen ⊑ f → S.stands value f → seat.new.me ≡ (given f seat.old.me.0, []) }
+    {
+        let taken = self.table.shared.exchange(seat, 0, Some(value));
+        let None = taken else { unreachable!() };
+        if self.table.shared.swap::<Give<N>>(seat, TURN, FREE) == WAITED_FOR {
+            self.table.shared.wake_one(TURN);
+        }
+    }
+
+    // Lets a seat see all that happened.
+    fn renew<R: Wait>(&self, rt: &R, mut seat: Seat<Option<S>, View>) -> Pass<N>
+        requires own { seat.table_id ≡ self.now }
+        requires free { seat.me.1 ≡ [] }
+        requires can { (0 < seat.me.0.weight) × (seat.me.0.holds ≡ false) }
+        ensures { (w : View) × (x : S) × Told N.front S.stands seat.me.0 w x × (result ≡ passed N.front seat.table_id (given (front_at N.front w.seen) w)) }
+    {
+        let value = self.take(rt, &mut seat);
+        let (changes, moment) = value.front();
+        self.put(&mut seat, value);
+        Pass {
+            changes,
+            moment,
+            badge: seat.into_badge(),
+            of: PhantomData,
+        }
+    }
+
+    /// Takes the turn, as soon as nobody holds it.
+    pub fn hold<R: Wait>(&self, rt: &R, pass: Pass<N>) -> Held<S, N>
+        requires { pass.turn ≡ self.now }
+        ensures { Took N.front S.stands pass result.pass result.value }
+    {
+        let Pass {
+            changes: _,
+            moment: _,
+            badge,
+            of,
+        } = pass;
+        let mut seat = badge.into_seat();
+        let value = self.take(rt, &mut seat);
+        Held { seat, value, of }
+    }
+
+    /// Gives the turn back with its value, which stands for one front alone of those that go on from what was held.
+    pub fn release(&self, held: Held<S, N>) -> Pass<N>
+        requires own { held.pass.turn ≡ self.now }
+        requires lands { (f : Front) × Lands S.stands held.value held.pass.seen f }
+        ensures { (f : Front) → held.pass.seen ⊑ f → S.stands held.value f → result ≡ released held.pass f }
+    {
+        let Held {
+            mut seat,
+            value,
+            of,
+        } = held;
+        let (changes, moment) = value.front();
+        self.put(&mut seat, value);
+        Pass {
+            changes,
+            moment,
+            badge: seat.into_badge(),
+            of,
+        }
+    }
+
+    /// Makes one pass of two, once nobody holds the turn. It has seen all that happened.
+    pub fn meet<R: Wait>(&self, rt: &R, first: Pass<N>, second: Pass<N>) -> Pass<N>
+        requires own { (first.turn ≡ self.now) × (second.turn ≡ self.now) }
+        ensures { Met N.front first second result }
+    {
+        let Pass {
+            changes: _,
+            moment: _,
+            badge,
+            of: _,
+        } = first;
+        let mut seat = badge.into_seat();
+        let Pass {
+            changes: _,
+            moment: _,
+            badge,
+            of: _,
+        } = second;
+        self.table
+            .shared
+            .join_seat::<Meet<N>>(&mut seat, badge.into_seat());
+        self.renew(rt, seat)
+    }
+
+    /// Ends the turn, for the only pass.
+    pub fn close(self, pass: Pass<N>) -> S
+        requires own { pass.turn ≡ self }
+        requires weight { pass.weight ≡ 1000000 }
+        ensures stands { S.stands result pass.seen }
+        ensures ends { Ends N.front pass }
+    {
+        let Turn { table } = self;
+        let Pass {
+            changes: _,
+            moment: _,
+            badge,
+            of: _,
+        } = pass;
+        let mut closed = table.close_with(badge.into_seat());
+        let left = closed.take(0);
+        closed.free();
+        let Some(value) = left else { unreachable!() };
+        value
+    }
+}
+
+impl<S: Journaled, N: First> Held<S, N> {
+    ghost use Rattle.ks_turn.specs.contracts.turn.Held.{the_row};
+    ghost use Rattle.ks_turn.specs.Passes.{with_value};
+
+    /// The value, which may be changed until the turn is given back.
+    pub fn value(&mut self) -> &mut S
+        ensures* writes_back { sem 𝓛 (Lends (the_row S.row N.row S.Journaled N.First) S.row self.entry result (with_value self.old)) }
+        ensures shows { result.now ≡ self.old.value }
+    {
+        &mut self.value
+    }
+}
