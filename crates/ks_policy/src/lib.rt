@@ -15,8 +15,6 @@ mod order;
 mod place;
 mod rules;
 mod table;
-#[cfg(test)]
-mod tests;
 mod texts;
 
 pub use fault::PolicyFault;

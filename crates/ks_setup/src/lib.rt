@@ -6,23 +6,15 @@ mod derive;
 mod entries;
 mod file;
 mod folder;
-#[cfg(test)]
-mod form_shown;
-#[cfg(test)]
-mod form_tests;
 mod grants;
 mod key_texts;
 mod keys;
 mod laws;
 mod opening;
-#[cfg(test)]
-mod opening_tests;
 mod policy;
 mod reader;
 mod rows;
 mod settings;
-#[cfg(test)]
-mod tests;
 mod words;
 mod written;
 

@@ -6,7 +6,6 @@ use Rattle.serde_json.specs.Data.{Data}
 use Rattle.serde_json.specs.Find.{get, as_object}
 use Rattle.ks_base.specs.declared.shapes.ShapeFault.TheVariants as fault
 use Rattle.ks_shape.specs.Places.{names_in, member_path, path_below, value_below}
-use Rattle.ks_shape.specs.Readings.{◌>>=◌}
 
 path_more : (path : List ℕ) (xs : List (Bor (List ℕ))) (i : ℕ) (x : Bor (List ℕ)) → i < length xs
     → path_below path (names_in (drop i xs)) ≡ path_below (member_path path (get_or xs i x).now) (names_in (drop (suc i) xs))

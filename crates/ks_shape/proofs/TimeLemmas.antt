@@ -6,7 +6,6 @@ use Rattle.std.proofs.lemmas.Bool.Decides.{nat_tests}
 use Rattle.std.proofs.lemmas.Slice.Eq.{bytes_eq-Decides}
 use Rattle.std.specs.Prelude.{Option, Err, Ok, nat_lt, nat_le, if◌then◌else◌, codes}
 use Rattle.std.specs.Int.{IsInRange, is_in_range}
-use Rattle.std.specs.Str.{bytes_eq}
 use Rattle.ks_time.specs.Calendar.{Civil, IsCivil, days_in_month, moment_of}
 use Rattle.ks_time.specs.TimeTexts.{IsTimeText, clock_text, date_text, is_fraction}
 use Rattle.ks_shape.specs.declared.misfit.Misfit.TheVariants.{Kind}

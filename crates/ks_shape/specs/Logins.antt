@@ -15,7 +15,7 @@ use Rattle.ks_shape.specs.declared.method.LoginMethod.TheVariants as method
 use Rattle.ks_shape.specs.declared.misfit.Misfit.TheVariants as misfit
 use Rattle.ks_shape.specs.Places.{Place, names, place_at}
 use Rattle.ks_shape.specs.Fields.{FieldType, judged, needed, unless_null}
-use Rattle.ks_shape.specs.Types.{any_text, id_text, one_method, password_text}
+use Rattle.ks_shape.specs.Types.{affirmation, any_text, id_text, one_method, password_text}
 use Rattle.ks_shape.specs.Names.{named_at, project_at, user_at}
 use Rattle.ks_shape.specs.Readings.{◌>>=◌, need}
 
@@ -59,21 +59,27 @@ trust_scope place = do
   id ← needed id_text (names (codes "OS-TRUST:trust.id")) place
   Ok (scope.Trust id)
 
+unfoldable pub system_scope : Place → Result ScopeIn ShapeFault
+system_scope place = do
+  _ ← needed affirmation (names (codes "system.all")) place
+  Ok scope.System
+
 abbrev pub is_given : List ℕ → Data → Bool
 is_given name value = is_some (unless_null (get name value))
 
--- which of `unscoped`, `domain`, `project` and `OS-TRUST:trust` are given: exactly one may be
-abbrev pub scope_by : Bool → Bool → Bool → Bool → Place → Result ScopeIn ShapeFault
-scope_by true false false false place = Ok scope.Unscoped
-scope_by false true false false place = domain_scope place
-scope_by false false true false place = project_scope place
-scope_by false false false true place = trust_scope place
-scope_by _ _ _ _ place = Err (fault.Range place.path)
+-- which of `unscoped`, `domain`, `project`, `system` and `OS-TRUST:trust` are given: exactly one may be
+abbrev pub scope_by : Bool → Bool → Bool → Bool → Bool → Place → Result ScopeIn ShapeFault
+scope_by true false false false false place = Ok scope.Unscoped
+scope_by false true false false false place = domain_scope place
+scope_by false false true false false place = project_scope place
+scope_by false false false true false place = system_scope place
+scope_by false false false false true place = trust_scope place
+scope_by _ _ _ _ _ place = Err (fault.Range place.path)
 
 unfoldable pub object_scope : Data → Place → Result ScopeIn ShapeFault
 object_scope value place = scope_by
     (is_given (codes "unscoped") value) (is_given (codes "domain") value)
-    (is_given (codes "project") value) (is_given (codes "OS-TRUST:trust") value) place
+    (is_given (codes "project") value) (is_given (codes "system") value) (is_given (codes "OS-TRUST:trust") value) place
 
 abbrev pub scope_from : Option Data → Place → Result ScopeIn ShapeFault
 scope_from None place = Ok scope.Nothing

@@ -1,5 +1,6 @@
 -- The body that makes a trust (OS-TRUST).
 use Rattle.std.specs.Prelude.{ℕ, ◌-◌, ◌^◌, false, List, Result, Ok, codes, unwrap_or}
+use Rattle.ks_base.specs.declared.limits.TheConstants.{TRUST_ROLES, USES}
 use Rattle.ks_base.specs.declared.shapes.ShapeFault.{ShapeFault}
 use Rattle.ks_machine.specs.declared.bodies.Named.{Named}
 use Rattle.ks_machine.specs.declared.bodies.TrustBody.{TrustBody}
@@ -13,14 +14,14 @@ use Rattle.ks_shape.specs.Readings.{◌>>=◌}
 -- a role has the path of the list
 unfoldable pub roles_at : List (List ℕ) → Place → Result (List Named) ShapeFault
 roles_at names body = do
-  roles ← needed (list_of 64) names body
+  roles ← needed (list_of TRUST_ROLES) names body
   all_named (path_at names body) roles
 
 -- how long, how often and how far down a trust serves
 unfoldable pub limits_of : Place → Result Limits ShapeFault
 limits_of body = do
   expires ← optional time_text (names (codes "trust.expires_at")) body
-  remaining ← optional (whole 1 (2 ^ 53)) (names (codes "trust.remaining_uses")) body
+  remaining ← optional (whole 1 USES) (names (codes "trust.remaining_uses")) body
   redelegate ← optional truth (names (codes "trust.allow_redelegation")) body
   count ← optional (whole 0 (2 ^ 32 - 1)) (names (codes "trust.redelegation_count")) body
   parent ← optional id_text (names (codes "trust.redelegated_trust_id")) body

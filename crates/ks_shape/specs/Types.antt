@@ -5,6 +5,7 @@ use Rattle.std.specs.List.{list_all}
 use Rattle.std.specs.Str.{bytes_eq}
 use Rattle.serde_json.specs.Data.{Items, no_items, item}
 use Rattle.serde_json.specs.Find.{as_array, as_bool, as_number, as_str, as_u64}
+use Rattle.ks_base.specs.declared.limits.TheConstants.{DESCRIPTION_BYTES, NAME_BYTES, PASSWORD_BYTES}
 use Rattle.ks_base.specs.Ids.{is_id_byte}
 use Rattle.ks_shape.specs.declared.method.LoginMethod.{LoginMethod}
 use Rattle.ks_shape.specs.declared.method.LoginMethod.TheVariants as method
@@ -25,13 +26,13 @@ text_of least most value = do
   Ok text
 
 abbrev pub name_text : FieldType (List ℕ)
-name_text = text_of 1 255
+name_text = text_of 1 NAME_BYTES
 
 abbrev pub description_text : FieldType (List ℕ)
-description_text = text_of 0 4096
+description_text = text_of 0 DESCRIPTION_BYTES
 
 abbrev pub password_text : FieldType (List ℕ)
-password_text = text_of 1 4096
+password_text = text_of 1 PASSWORD_BYTES
 
 -- 1 to 64 bytes of 0-9, A-Z, a-z, _ and -
 abbrev pub is_id : List ℕ → Bool
@@ -55,6 +56,13 @@ unfoldable pub falsehood : FieldType Bool
 falsehood value = do
   holds ← truth value
   _ ← need (not holds) misfit.Range
+  Ok holds
+
+-- a truth value that is true
+unfoldable pub affirmation : FieldType Bool
+affirmation value = do
+  holds ← truth value
+  _ ← need holds misfit.Range
   Ok holds
 
 -- a whole number within these bounds; none below 0 or from 2^64 on, and none with a point or an exponent

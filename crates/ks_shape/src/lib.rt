@@ -3,31 +3,17 @@
 #![tactic(auto)]
 
 mod body;
-#[cfg(test)]
-mod document_tests;
 mod fields;
 mod form;
 mod laws;
-#[cfg(test)]
-mod limit_tests;
 mod login;
-#[cfg(test)]
-mod login_tests;
 mod method;
 mod misfit;
 mod names;
 mod node;
-#[cfg(test)]
-mod node_tests;
-#[cfg(test)]
-mod row_tests;
 mod rows;
 mod scope;
-#[cfg(test)]
-mod shown;
 mod trust;
-#[cfg(test)]
-mod trust_tests;
 mod types;
 
 pub use body::{read_body, read_document};

@@ -5,25 +5,26 @@ ghost use Rattle.ks_shape.specs.Rows.{domain_of, group_of, has_body, id_at, made
 
 use crate::node::Node;
 use crate::types::{Falsehood, IdText, TextOf, Truth};
+use ks_base::limits::{DESCRIPTION_BYTES, NAME_BYTES, PASSWORD_BYTES};
 use ks_base::{Id, Kind, ShapeRefusal, Text};
 use ks_machine::Made;
 
 /// A name: 1 to 255 bytes.
 pub const NAME: TextOf = TextOf {
     least: 1,
-    most: 255,
+    most: NAME_BYTES,
 };
 
 /// A description: at most 4,096 bytes.
 pub const DESCRIPTION: TextOf = TextOf {
     least: 0,
-    most: 4096,
+    most: DESCRIPTION_BYTES,
 };
 
 /// A password: 1 to 4,096 bytes.
 pub const PASSWORD: TextOf = TextOf {
     least: 1,
-    most: 4096,
+    most: PASSWORD_BYTES,
 };
 
 /// The name, which a creation needs.

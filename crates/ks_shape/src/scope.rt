@@ -1,6 +1,6 @@
 ghost use Rattle.std.specs.Prelude.{◌≡◌};
 ghost use Rattle.serde_json.specs.View.{view};
-ghost use Rattle.ks_shape.specs.Logins.{domain_scope, is_given, object_scope, project_scope, scope_at, trust_scope, unscoped_text};
+ghost use Rattle.ks_shape.specs.Logins.{domain_scope, is_given, object_scope, project_scope, scope_at, system_scope, trust_scope, unscoped_text};
 ghost use Rattle.ks_shape.specs.Places.{place_of};
 ghost use Rattle.ks_shape.specs.Readings.{Fits, Reads};
 
@@ -8,7 +8,7 @@ use crate::fields::unless_null;
 use crate::misfit::{Misfit, Unread};
 use crate::names::{named, project};
 use crate::node::Node;
-use crate::types::{IdText, any_text, need};
+use crate::types::{Affirmation, IdText, any_text, need};
 use ks_base::ShapeRefusal;
 use ks_machine::ScopeIn;
 use serde_json::Value;
@@ -48,13 +48,21 @@ fn trust_scope(node: &Node) -> Result<ScopeIn, ShapeRefusal>
     Ok(ScopeIn::Trust(id))
 }
 
+#[tactic(auto, unfolding(crate::specs::Logins::system_scope))]
+fn system_scope(node: &Node) -> Result<ScopeIn, ShapeRefusal>
+    ensures { Reads result (system_scope (place_of node.now)) }
+{
+    let _all = node.needed(&["system", "all"], &Affirmation)?;
+    Ok(ScopeIn::System)
+}
+
 fn is_given(name: &str, value: &Value) -> bool
     ensures { result ≡ is_given name.now (view value.now) }
 {
     unless_null(value.get(name)).is_some()
 }
 
-/// The scope that an object at the node says, by exactly one of its four members.
+/// The scope that an object at the node says, by exactly one of its five members.
 #[tactic(auto, using(crate::proofs::RefusalLemmas::refused), unfolding(crate::specs::Logins::object_scope, crate::specs::Places::path_below))]
 fn object_scope(value: &Value, node: &Node) -> Result<ScopeIn, ShapeRefusal>
     ensures { Reads result (object_scope (view value.now) (place_of node.now)) }
@@ -62,12 +70,14 @@ fn object_scope(value: &Value, node: &Node) -> Result<ScopeIn, ShapeRefusal>
     let unscoped = is_given("unscoped", value);
     let domain = is_given("domain", value);
     let project = is_given("project", value);
+    let system = is_given("system", value);
     let trust = is_given("OS-TRUST:trust", value);
-    match (unscoped, domain, project, trust) {
-        (true, false, false, false) => Ok(ScopeIn::Unscoped),
-        (false, true, false, false) => domain_scope(node),
-        (false, false, true, false) => project_scope(node),
-        (false, false, false, true) => trust_scope(node),
+    match (unscoped, domain, project, system, trust) {
+        (true, false, false, false, false) => Ok(ScopeIn::Unscoped),
+        (false, true, false, false, false) => domain_scope(node),
+        (false, false, true, false, false) => project_scope(node),
+        (false, false, false, true, false) => system_scope(node),
+        (false, false, false, false, true) => trust_scope(node),
         _ => node.refuse(&[], Misfit::Range),
     }
 }

@@ -5,14 +5,13 @@ ghost use Rattle.ks_shape.specs.Trusts.{limits_of, roles_at, trust_of};
 use crate::names::all_named;
 use crate::node::Node;
 use crate::types::{Count, IdText, TimeText, Truth, Whole};
+use ks_base::limits::{self, TRUST_ROLES};
 use ks_base::{Id, ShapeRefusal};
 use ks_machine::{NamedList, TrustBody};
 
-const MOST_ROLES: usize = 64;
-
 const USES: Whole = Whole {
     least: 1,
-    most: 1 << 53,
+    most: limits::USES,
 };
 
 #[derive(Drop)]
@@ -28,7 +27,7 @@ pub struct Limits {
 fn roles(names: &[&str], body: &Node) -> Result<NamedList, ShapeRefusal>
     ensures { Reads result (roles_at (names_in names.now) (place_of body.now)) }
 {
-    let values = body.needed_list(names, MOST_ROLES)?;
+    let values = body.needed_list(names, TRUST_ROLES)?;
     let path = body.path_at(names)?;
     all_named(body.alloc, &path, values)
 }

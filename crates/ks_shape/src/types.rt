@@ -3,7 +3,7 @@ ghost use Rattle.serde_json.specs.Find.{as_number, as_u64};
 ghost use Rattle.serde_json.specs.View.{view};
 ghost use Rattle.ks_shape.specs.declared.misfit.Misfit.TheVariants as misfit;
 ghost use Rattle.ks_shape.specs.Times.{time_of};
-ghost use Rattle.ks_shape.specs.Types.{any_text, falsehood, id_in, id_text, text_of, time_text, truth, whole};
+ghost use Rattle.ks_shape.specs.Types.{affirmation, any_text, falsehood, id_in, id_text, text_of, time_text, truth, whole};
 ghost use Rattle.ks_shape.specs.Readings.{found, need, same_text};
 
 use crate::fields::FieldType;
@@ -35,6 +35,10 @@ pub struct Truth;
 /// A truth value that is not true.
 #[derive(Clone, Copy)]
 pub struct Falsehood;
+
+/// A truth value that is true.
+#[derive(Clone, Copy)]
+pub struct Affirmation;
 
 /// A whole number within these bounds.
 #[derive(Clone, Copy)]
@@ -163,6 +167,19 @@ impl FieldType for Falsehood {
     fn read(&self, _alloc: Global, value: &Value) -> Result<bool, Unread> {
         let holds = any_truth(value)?;
         need(!holds, Misfit::Range)?;
+        Ok(holds)
+    }
+}
+
+impl FieldType for Affirmation {
+    type Field = bool;
+
+    ghost reads = { λ _. affirmation };
+
+    #[tactic(auto, unfolding(crate::specs::Types::affirmation))]
+    fn read(&self, _alloc: Global, value: &Value) -> Result<bool, Unread> {
+        let holds = any_truth(value)?;
+        need(holds, Misfit::Range)?;
         Ok(holds)
     }
 }
