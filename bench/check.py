@@ -31,10 +31,10 @@ START = 1700000000
 
 def payload(rng, expires):
     """A payload of a token for a project, mostly. Of users a quarter have the long ids of other directories."""
-    kind = rng.choice((2, 2, 2, 2, 2, 2, 0, 1, 3, 3))
-    fields = [bytes((1, kind, 1))]
+    kind = rng.choice((2, 2, 2, 2, 2, 2, 0, 1, 3, 4))
+    fields = [bytes((2, kind, 1))]
     fields.append(b"\x40" + rng.randbytes(32).hex().encode() if rng.random() < 0.25 else b"\0" + rng.randbytes(16))
-    for _ in range((0, 1, 1, 2)[kind]):
+    for _ in range(IDS[kind] - 1):
         fields.append(b"\x07default" if kind == 1 else b"\0" + rng.randbytes(16))
     fields.append(expires.to_bytes(8, "big"))
     fields.append(b"\x01" + rng.randbytes(16) if rng.random() < 0.5 else b"\x02" + rng.randbytes(32))
@@ -87,7 +87,7 @@ is_id = re.compile(rb"[0-9A-Za-z_-]{1,64}").fullmatch
 is_hex_id = re.compile(rb"[0-9a-f]{32}").fullmatch
 
 # How many ids stand in a payload of each kind.
-IDS = (1, 2, 2, 3)
+IDS = (1, 2, 2, 3, 1, 3)
 # The unused bits of the last digit are zero: the digits for which they are, where 4 or 2 are unused.
 LAST_OF_TWO = frozenset(b"AQgw")
 LAST_OF_THREE = frozenset(b"AEIMQUYcgkosw048")
@@ -110,7 +110,7 @@ def read_base64(text):
 def read_expiry(plain):
     """When a payload's token expires; None where the bytes are no payload."""
     size = len(plain)
-    if size < 3 or plain[0] != 1 or plain[1] > 3 or not 1 <= plain[2] <= 15:
+    if size < 3 or not 1 <= plain[0] <= 2 or plain[1] > (3, 5)[plain[0] - 1] or not 1 <= plain[2] <= 15:
         return None
     place = 3
     for _ in range(IDS[plain[1]]):

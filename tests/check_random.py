@@ -39,6 +39,9 @@ LAST_MOMENT = 253370764799
 LAST_EXPIRY = 253402300799
 LAST_NUMBER = 2**64 - 1
 
+# How many ids of its scope a payload of each kind has; version 1 has the first four kinds.
+SCOPE_IDS = (0, 1, 1, 2, 0, 2)
+
 DIGITS = b"ABCDEFGHIJKLMNOPQRSTUVWXYZabcdefghijklmnopqrstuvwxyz0123456789-_"
 
 
@@ -102,10 +105,10 @@ def read_expiry(plain):
     """When the token of this payload expires; None where the bytes are no payload."""
     fields = Fields(plain)
     try:
-        fields.number(1, 1)
-        kind = fields.number(0, 3)
+        version = fields.number(1, 2)
+        kind = fields.number(0, (3, 5)[version - 1])
         fields.number(1, 15)
-        for _ in range(1 + (0, 1, 1, 2)[kind]):
+        for _ in range(1 + SCOPE_IDS[kind]):
             fields.id()
         expires = fields.number(0, LAST_EXPIRY, 8)
         fields.take(16 * fields.number(1, 2))
@@ -215,16 +218,17 @@ def wrong_id(rng):
 
 
 def payload(rng, expires, defect=None):
-    kind = rng.randint(0, 3)
-    fields = [bytes([1]), bytes([kind]), bytes([rng.randint(1, 15)])]
-    fields += [random_id(rng) for _ in range(1 + (0, 1, 1, 2)[kind])]
+    version = rng.choice((1, 2, 2))
+    kind = rng.randint(0, (3, 5)[version - 1])
+    fields = [bytes([version]), bytes([kind]), bytes([rng.randint(1, 15)])]
+    fields += [random_id(rng) for _ in range(1 + SCOPE_IDS[kind])]
     fields.append(expires.to_bytes(8, "big"))
     audits = rng.randint(1, 2)
     fields += [bytes([audits]), rng.randbytes(16 * audits)]
     if defect == "version":
-        fields[0] = bytes([rng.choice((0, 2, 0x80, 255))])
+        fields[0] = bytes([rng.choice((0, 1, 2, 3, 0x80, 255))])
     elif defect == "kind":
-        fields[1] = bytes([rng.choice((4, 5, 255, (kind + 1) % 4))])
+        fields[1] = bytes([rng.choice((4, 5, 6, 255, (kind + 1) % 4, (kind + 1) % 6))])
     elif defect == "methods":
         fields[2] = bytes([rng.choice((0, 16, 17, 255))])
     elif defect == "id":
