@@ -21,7 +21,7 @@ fi
 "$ks" talk o1.json keys < /dev/null
 
 # The program itself, since bin/ks is a script that becomes it.
-program=${KS:-$top/crates/ks_top/out/ks_top}
+program=${KS:-$top/crates/ks/out/ks}
 
 python3 "$top/bench/talk.py" make "$requests" > "$work/input"
 python3 "$top/bench/talk.py" pipelined "$work/input" "$requests" "$program"

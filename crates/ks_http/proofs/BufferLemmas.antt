@@ -18,10 +18,10 @@ use Rattle.ks_http.specs.declared.look.Look.{Look}
 use Rattle.ks_http.specs.declared.look.Look.TheVariants.{Whole, Refused, More}
 use Rattle.ks_http.specs.declared.opening.Opening.{Opening}
 use Rattle.ks_http.specs.Heads.{opening_of}
-use Rattle.ks_http.specs.Says.{Refuses}
+use Rattle.ks_http.specs.steps.Says.{Refuses}
 use Rattle.ks_http.specs.Next.{BeginsWith, IsRefused, headless, by_head, in_body, Ends, Comes, request_of}
 use Rattle.ks_http.proofs.WaitLemmas.{begun}
-use Rattle.ks_http.specs.Buffers.{Fills, Filled, Finds, Looks, Glances, IsHeadAt, IsUndecided, FindsHead, Stands, FillsTo, OpensAt, Taken, TakesBody}
+use Rattle.ks_http.specs.steps.Buffers.{Fills, Filled, Finds, Looks, Glances, IsHeadAt, IsUndecided, FindsHead, Stands, FillsTo, OpensAt, Taken, TakesBody}
 
 window_seam : (held rest : List ℕ) → take 16384 held ++ (drop 16384 held ++ rest) ≡ held ++ rest
 window_seam held rest = sym (append_assoc (take 16384 held) (drop 16384 held) rest) ∙ ap (λ l. l ++ rest) (take-append-drop 16384 held)

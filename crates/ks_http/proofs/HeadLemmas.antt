@@ -9,7 +9,7 @@ use Rattle.httparse.specs.declared.spans.RequestSpans.{RequestSpans}
 use Rattle.ks_http.specs.declared.look.Look.{Look}
 use Rattle.ks_http.specs.declared.look.Look.TheVariants.{Whole, Refused, More}
 use Rattle.ks_http.specs.Next.{HasNoHead}
-use Rattle.ks_http.specs.Buffers.{IsHeadAt, Finds, Judged}
+use Rattle.ks_http.specs.steps.Buffers.{IsHeadAt, Finds, Judged}
 use Rattle.ks_http.proofs.ScanLemmas.{unsettled_short, settled_stays}
 use Rattle.ks_http.proofs.WaitLemmas.{front_of, none_settled}
 

@@ -9,7 +9,7 @@ use Rattle.ks_http.specs.declared.ending.Ending.TheVariants.{End, Bad, ReadFault
 use Rattle.ks_http.specs.declared.opening.Opening.{Opening}
 use Rattle.ks_http.specs.Fields.{Named, values_of}
 use Rattle.ks_http.specs.Heads.{behind, text_of, path_text, token_of, body_length, said_of, with_path, with_auth, with_subject, with_length}
-use Rattle.ks_http.specs.Says.{Refuses, Says}
+use Rattle.ks_http.specs.steps.Says.{Refuses, Says}
 use Rattle.ks_http.proofs.Basics.{is_utf8_false}
 
 behind_err : {A B : Type 0} (f : A → Result B HttpCause) (cause : HttpCause) → behind f (Err cause) ≡ Err cause

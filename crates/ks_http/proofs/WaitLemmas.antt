@@ -11,7 +11,7 @@ use Rattle.ks_http.specs.declared.lines.Place.{Place}
 use Rattle.ks_http.specs.declared.lines.Place.TheVariants.{Start, Fields, Refused}
 use Rattle.ks_http.specs.Lines.{Reached, start, behind_byte, reached, most, cause_behind, settled_cause, full_cause}
 use Rattle.ks_http.specs.Next.{HasNoHead, IsCut, in_head}
-use Rattle.ks_http.specs.Buffers.{IsUndecided}
+use Rattle.ks_http.specs.steps.Buffers.{IsUndecided}
 use Rattle.ks_http.proofs.ScanLemmas.{clear_line, stays_refused, short_refused, full_short, settled_is}
 use Rattle.ks_http.proofs.HeadPlaces.{but_last, ends_with_feed, place_before_last}
 

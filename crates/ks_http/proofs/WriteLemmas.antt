@@ -2,8 +2,8 @@
 use Rattle.std.proofs.Common.{◌≡◌, ℕ, suc, ◌+◌, ◌<◌, List, [], ◌∷◌, ◌++◌, length, take, drop, get_or, flat_map, drop-cons, Option, Some, Result, Ok, Err, IsErr, OnOk, OnErr, refl, sym, ap, ap₂, ◌∙◌, subst, append_assoc, append-nil}
 use Rattle.std.proofs.lemmas.List.{take-append-drop, take_more}
 use Rattle.std.proofs.lemmas.List.Concat.{flat_map-append}
-use Rattle.ks_outside.specs.Streams.{Begins}
-use Rattle.ks_http.specs.Writes.{Passes, Puts}
+use Rattle.ks_outside.specs.Streams.{Begins, Wrote}
+use Rattle.ks_http.specs.steps.Writes.{Passes, Puts}
 
 -- front ++ h' is what was pending, and so is what stands before more
 whole_on : (front part rest h h' a b : List ℕ) → front ++ h' ≡ h ++ a → part ++ rest ≡ h' ++ b → (front ++ part) ++ rest ≡ h ++ (a ++ b)
@@ -43,15 +43,12 @@ pub holds : {T E : Type 0} (done : T) (h a : List ℕ) (w : Option (List ℕ)) �
 holds done h a w = record { told = λ written is. ([], refl, is ∙ ap Some (sym (append-nil written))) }
 
 -- what was held and the bytes behind it were written in one
-pub wrote : {T E : Type 0} (r : Result T E) (h a all : List ℕ) (w w' : Option (List ℕ)) → all ≡ h ++ a →
-    OnOk r ((before : List ℕ) → w ≡ Some before → w' ≡ Some (before ++ all)) →
-    OnErr r ((before : List ℕ) → w ≡ Some before → (part : List ℕ) × Begins part all × (w' ≡ Some (before ++ part))) →
-    Puts h a [] w w' r
-wrote (Ok done) h a all w w' e ok err = record {
-  told = λ written is. (all, append-nil all ∙ e, ok written is);
+pub wrote : {T E : Type 0} (r : Result T E) (h a all : List ℕ) (w w' : Option (List ℕ)) → all ≡ h ++ a → Wrote all w w' r → Puts h a [] w w' r
+wrote (Ok done) h a all w w' e is = record {
+  told = λ written told. (all, append-nil all ∙ e, is written told);
 }
-wrote (Err fault) h a all w w' e ok err = record {
-  told = λ written is. let f = err written is in (f.0, (f.1.0, f.1.1 ∙ e), f.2);
+wrote (Err fault) h a all w w' e is = record {
+  told = λ written told. let f = is written told in (f.0, (f.1.0, f.1.1 ∙ e), f.2);
 }
 
 -- a piece was cut in two

@@ -1,6 +1,6 @@
 -- The fields of a head that say how a request is framed and who asks (RFC 9110, sections 5 and 7.6.1;
 -- RFC 9112, section 6). A field is given as its name and its value.
-use Rattle.std.specs.Prelude.{ℕ, min, ◌+◌, ◌-◌, ◌*◌, ◌==◌, nat_le, Bool, false, not, ◌&&◌, ◌||◌, if◌then◌else◌, List, [], ◌∷◌, length, take, drop, codes}
+use Rattle.std.specs.Prelude.{ℕ, ◌+◌, ◌-◌, ◌*◌, ◌==◌, nat_le, Bool, false, not, ◌&&◌, ◌||◌, if◌then◌else◌, List, [], ◌∷◌, length, take, drop, codes}
 use Rattle.std.specs.List.{list_all, list_any, slice_split, fold}
 use Rattle.std.specs.Str.{str_eq_ignore_ascii_case}
 use Rattle.std.specs.Char.{is_ascii_digit}
@@ -58,7 +58,3 @@ has_field name fields = list_any (has_name name) fields
 -- the body comes in chunks, or in another coding, wherever the field is there
 abbrev pub is_chunked : List Named → Bool
 is_chunked fields = has_field (codes "Transfer-Encoding") fields
-
--- a number of bytes, or one more than a body may have
-abbrev pub capped : ℕ → ℕ
-capped number = min number 114689

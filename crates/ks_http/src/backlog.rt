@@ -4,7 +4,7 @@ use ks_base::Memory;
 use std::alloc::Global;
 use std::marker::Model;
 
-/// Bytes that come in behind and are let go in front. Letting go moves no byte: those that are kept move
+/// Bytes that come in behind and are dropped in front. Dropping moves no byte: those that are kept move
 /// to the front of the memory only as more come.
 #[derive(Drop)]
 pub struct Backlog {
@@ -56,7 +56,7 @@ impl Backlog {
         self.as_slice().is_empty()
     }
 
-    /// Moves the bytes that are kept over those that were let go.
+    /// Moves the bytes that are kept over those that were dropped.
     fn compact(&mut self)
         ensures { self.new ≡ self.old }
     {
@@ -80,8 +80,8 @@ impl Backlog {
         Ok(())
     }
 
-    /// Lets so many bytes go in front.
-    pub fn let_go(&mut self, count: usize)
+    /// Drops so many bytes in front.
+    pub fn advance(&mut self, count: usize)
         requires { count ≤ length self.old }
         ensures { self.new ≡ drop count self.old }
     {

@@ -36,10 +36,10 @@ impl Buffer {
     ghost use Rattle.std.specs.Prelude.{◌≡◌, ◌≢◌, ◌+◌, ◌<◌, ◌≤◌, ◌++◌, ℕ, List, [], Some, length, take, drop, IfOk, OnOk, OnErr, IsErrOf, All, ◌==◌, false};
     ghost use Rattle.httparse.specs.Grammar.{RequestHead};
     ghost use Rattle.httparse.specs.Spans.{IsRequestWithin, IsRequestAt};
-    ghost use Rattle.ks_outside.specs.Counts.{Rose};
-    ghost use Rattle.ks_http.specs.Buffers.{Fills, FillsTo, IsUndecided, Looks, Glances, FindsWithin, FindsHead, OpensAt, TakesBody};
+    ghost use Rattle.ks_outside.specs.Streams.{OnlyReads};
+    ghost use Rattle.ks_http.specs.steps.Buffers.{Fills, FillsTo, IsUndecided, Looks, Glances, FindsWithin, FindsHead, OpensAt, TakesBody};
     ghost use Rattle.ks_http.specs.Heads.{opening_of};
-    ghost use Rattle.ks_http.specs.Says.{Says};
+    ghost use Rattle.ks_http.specs.steps.Says.{Says};
     ghost use Rattle.ks_http.specs.Next.{Ends, Comes};
 
     /// Before the first byte.
@@ -62,22 +62,17 @@ impl Buffer {
 
     /// Reads a piece behind the bytes in hand, and says how many bytes came.
     fn fill<S: Source>(&mut self, source: &mut S) -> Result<usize, Ending>
-        ensures told { (left : List ℕ) → S.left source.old ≡ Some left → Fills self.old left self.new (S.left source.new) result }
+        ensures told { (left : List ℕ) → (S.stream source.old).left ≡ Some left → Fills self.old left self.new (S.stream source.new).left result }
         ensures longer { IfOk result (λ count. length self.new ≡ length self.old + count) }
         ensures kept { IfOk result (λ _. take (length self.old) self.new ≡ self.old) }
-        ensures count { S.read_faults source.old ≤ S.read_faults source.new }
-        ensures written_kept { S.written source.new ≡ S.written source.old }
-        ensures writes_kept { S.write_faults source.new ≡ S.write_faults source.old }
-        ensures fault { IsErrOf result Ending.ReadFault → Rose (S.read_faults source.old) (S.read_faults source.new) }
+        ensures reads { OnlyReads (IsErrOf result Ending.ReadFault) (S.stream source.old) (S.stream source.new) }
     {
         let mut piece = [0; PIECE];
         let Ok(count) = source.read(piece.as_mut_slice()) else {
             return Err(Ending::ReadFault);
         };
         let came = piece.as_slice().split_at(count).0;
-        if self.bytes.push(came).is_err() {
-            return Err(Ending::Memory);
-        }
+        self.bytes.push(came)?;
         Ok(count)
     }
 
@@ -144,12 +139,9 @@ impl Buffer {
         source: &mut S,
         headers: &mut [HeaderSpan; MOST_FIELDS],
     ) -> Result<RequestSpans, Ending>
-        ensures told { (left : List ℕ) → S.left source.old ≡ Some left → FindsHead (self.old ++ left) self.new (S.left source.new) headers.new result }
+        ensures told { (left : List ℕ) → (S.stream source.old).left ≡ Some left → FindsHead (self.old ++ left) self.new (S.stream source.new).left headers.new result }
         ensures within { IfOk result (λ head. IsRequestWithin (take 16384 self.new) headers.new head) }
-        ensures count { S.read_faults source.old ≤ S.read_faults source.new }
-        ensures written_kept { S.written source.new ≡ S.written source.old }
-        ensures writes_kept { S.write_faults source.new ≡ S.write_faults source.old }
-        ensures fault { IsErrOf result Ending.ReadFault → Rose (S.read_faults source.old) (S.read_faults source.new) }
+        ensures reads { OnlyReads (IsErrOf result Ending.ReadFault) (S.stream source.old) (S.stream source.new) }
     {
         let mut before = 0;
         'looks: loop {
@@ -168,12 +160,9 @@ impl Buffer {
 
     /// Reads until there are so many bytes in hand.
     fn fill_to<S: Source>(&mut self, source: &mut S, size: usize) -> Result<(), Ending>
-        ensures told { (left : List ℕ) → S.left source.old ≡ Some left → FillsTo (self.old ++ left) size self.new (S.left source.new) result }
+        ensures told { (left : List ℕ) → (S.stream source.old).left ≡ Some left → FillsTo (self.old ++ left) size self.new (S.stream source.new).left result }
         ensures enough { OnOk result (size ≤ length self.new) }
-        ensures count { S.read_faults source.old ≤ S.read_faults source.new }
-        ensures written_kept { S.written source.new ≡ S.written source.old }
-        ensures writes_kept { S.write_faults source.new ≡ S.write_faults source.old }
-        ensures fault { IsErrOf result Ending.ReadFault → Rose (S.read_faults source.old) (S.read_faults source.new) }
+        ensures reads { OnlyReads (IsErrOf result Ending.ReadFault) (S.stream source.old) (S.stream source.new) }
     {
         'fills: while self.bytes.len() < size {
             let count = self.fill(source)?;
@@ -191,17 +180,12 @@ impl Buffer {
         source: &mut S,
         size: usize,
     ) -> Result<Bytes, Ending>
-        ensures told { (left : List ℕ) → S.left source.old ≡ Some left → TakesBody (self.old ++ left) size self.new (S.left source.new) result }
-        ensures count { S.read_faults source.old ≤ S.read_faults source.new }
-        ensures written_kept { S.written source.new ≡ S.written source.old }
-        ensures writes_kept { S.write_faults source.new ≡ S.write_faults source.old }
-        ensures fault { IsErrOf result Ending.ReadFault → Rose (S.read_faults source.old) (S.read_faults source.new) }
+        ensures told { (left : List ℕ) → (S.stream source.old).left ≡ Some left → TakesBody (self.old ++ left) size self.new (S.stream source.new).left result }
+        ensures reads { OnlyReads (IsErrOf result Ending.ReadFault) (S.stream source.old) (S.stream source.new) }
     {
         self.fill_to(source, size)?;
-        let Ok(body) = Bytes::of(alloc, self.bytes.as_slice().split_at(size).0) else {
-            return Err(Ending::Memory);
-        };
-        self.bytes.let_go(size);
+        let body = Bytes::of(alloc, self.bytes.as_slice().split_at(size).0)?;
+        self.bytes.advance(size);
         Ok(body)
     }
 
@@ -228,26 +212,20 @@ impl Buffer {
 
     /// Takes the head of the first request.
     fn opening<S: Source>(&mut self, alloc: Global, source: &mut S) -> Result<Opening, Ending>
-        ensures told { (left : List ℕ) → S.left source.old ≡ Some left → OpensAt (self.old ++ left) self.new (S.left source.new) result }
-        ensures count { S.read_faults source.old ≤ S.read_faults source.new }
-        ensures written_kept { S.written source.new ≡ S.written source.old }
-        ensures writes_kept { S.write_faults source.new ≡ S.write_faults source.old }
-        ensures fault { IsErrOf result Ending.ReadFault → Rose (S.read_faults source.old) (S.read_faults source.new) }
+        ensures told { (left : List ℕ) → (S.stream source.old).left ≡ Some left → OpensAt (self.old ++ left) self.new (S.stream source.new).left result }
+        ensures reads { OnlyReads (IsErrOf result Ending.ReadFault) (S.stream source.old) (S.stream source.new) }
     {
         let mut headers = [EMPTY_HEADER_SPAN; MOST_FIELDS];
         let head = self.head(source, &mut headers)?;
         let opening = self.said(alloc, head, &headers)?;
-        self.bytes.let_go(head.len);
+        self.bytes.advance(head.len);
         Ok(opening)
     }
 
     /// Takes the first request of the bytes in hand and of those that the source has left.
     pub fn request<S: Source>(&mut self, alloc: Global, source: &mut S) -> Result<Request, Ending>
-        ensures told { (left : List ℕ) → S.left source.old ≡ Some left → Comes (self.old ++ left) self.new (S.left source.new) result }
-        ensures count { S.read_faults source.old ≤ S.read_faults source.new }
-        ensures written_kept { S.written source.new ≡ S.written source.old }
-        ensures writes_kept { S.write_faults source.new ≡ S.write_faults source.old }
-        ensures fault { IsErrOf result Ending.ReadFault → Rose (S.read_faults source.old) (S.read_faults source.new) }
+        ensures told { (left : List ℕ) → (S.stream source.old).left ≡ Some left → Comes (self.old ++ left) self.new (S.stream source.new).left result }
+        ensures reads { OnlyReads (IsErrOf result Ending.ReadFault) (S.stream source.old) (S.stream source.new) }
     {
         let opening = self.opening(alloc, source)?;
         let body = self.body(alloc, source, opening.length)?;

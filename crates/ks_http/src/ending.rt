@@ -3,6 +3,7 @@ ghost use Rattle.ks_http.specs.Next.{next_of};
 
 use crate::cause::HttpCause;
 use crate::next::Next;
+use ks_base::Memory;
 
 /// Why no more requests come.
 #[derive(Clone, Copy, Debug, PartialEq, Eq)]
@@ -15,6 +16,16 @@ pub enum Ending {
     ReadFault,
     /// There was no memory.
     Memory,
+}
+
+impl From<Memory> for Ending {
+    ghost use Rattle.ks_http.specs.declared.ending.Ending.TheVariants as variants;
+
+    ghost from_gives = { λ _ e. e ≡ variants.Memory };
+
+    fn from(_error: Memory) -> Ending {
+        Ending::Memory
+    }
 }
 
 impl Ending {

@@ -24,7 +24,7 @@ pub enum Only<'a> {
 
 impl<'a> Only<'a> {
     ghost use Rattle.std.specs.Prelude.{◌∷◌, ℕ, List};
-    ghost use Rattle.ks_http.specs.Says.{Begun};
+    ghost use Rattle.ks_http.specs.steps.Says.{Begun};
 
     fn and(self, value: &'a [u8]) -> Only<'a>
         ensures { (rest values : List (List ℕ)) → Begun (value.now ∷ rest) self.entry values → Begun rest result values }
@@ -40,7 +40,7 @@ impl<'a> Fields<'a> {
     ghost use Rattle.std.specs.Prelude.{◌≡◌, codes};
     ghost use Rattle.ks_http.specs.Fields.{values_of, has_field, connection_has, closes};
     ghost use Rattle.ks_http.specs.Heads.{body_length};
-    ghost use Rattle.ks_http.specs.Says.{named, IsOnly, Says, SaysCapped};
+    ghost use Rattle.ks_http.specs.steps.Says.{named, IsOnly, Says, SaysCapped};
 
     /// The value of the field of this name.
     #[tactic(auto, unfolding(crate::specs::Fields::values_of), using(crate::proofs::FieldLemmas::only_from))]

@@ -29,6 +29,3 @@ pub use response::Response;
 pub use status::reason;
 pub use write_fault::WriteFault;
 pub use writer::{write_memory, write_response};
-
-#[cfg(test)]
-mod tests;

@@ -1,6 +1,6 @@
 ghost use Rattle.std.specs.Prelude.{◌≤◌, length};
 ghost use Rattle.httparse.specs.Spans.{IsRequestWithin};
-ghost use Rattle.ks_http.specs.Buffers.{Finds, FindsWithin, Judged};
+ghost use Rattle.ks_http.specs.steps.Buffers.{Finds, FindsWithin, Judged};
 
 use crate::cause::HttpCause;
 use crate::lines::MOST_FIELDS;

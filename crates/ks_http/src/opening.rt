@@ -1,7 +1,7 @@
 ghost use Rattle.std.specs.Prelude.{◌≡◌, IfOk};
 ghost use Rattle.ks_http.specs.Fields.{values_of};
 ghost use Rattle.ks_http.specs.Heads.{method_of, path_of, query_of, text_of, path_text, token_of, said_of};
-ghost use Rattle.ks_http.specs.Says.{Says, named};
+ghost use Rattle.ks_http.specs.steps.Says.{Says, named};
 
 use crate::cause::HttpCause;
 use crate::ending::Ending;
@@ -52,10 +52,9 @@ fn method_of(text: &[u8]) -> Method
 fn text_of(alloc: Global, bytes: &[u8]) -> Result<Text, Ending>
     ensures { Says (text_of bytes.now) result }
 {
-    match Text::read(alloc, bytes) {
-        Ok(Some(text)) => Ok(text),
-        Ok(None) => Err(Ending::Bad(HttpCause::Malformed)),
-        Err(_) => Err(Ending::Memory),
+    match Text::read(alloc, bytes)? {
+        Some(text) => Ok(text),
+        None => Err(Ending::Bad(HttpCause::Malformed)),
     }
 }
 
@@ -103,7 +102,7 @@ fn path_text(alloc: Global, target: &[u8]) -> Result<Text, Ending>
 
 impl Opening {
     ghost use Rattle.ks_http.specs.Heads.{said_of};
-    ghost use Rattle.ks_http.specs.Says.{Says, named};
+    ghost use Rattle.ks_http.specs.steps.Says.{Says, named};
 
     /// Reads what a head with this method, target and minor version says.
     #[tactic(auto, unfolding(crate::specs::Heads::behind))]
@@ -120,9 +119,7 @@ impl Opening {
         let auth = token(alloc, fields, b"X-Auth-Token")?;
         let subject = token(alloc, fields, b"X-Subject-Token")?;
         let length = fields.body_length()?;
-        let Ok(query) = Bytes::of(alloc, query_of(target)) else {
-            return Err(Ending::Memory);
-        };
+        let query = Bytes::of(alloc, query_of(target))?;
         Ok(Opening {
             method: method_of(method),
             path,

@@ -26,9 +26,9 @@ impl Model for Outgoing {
 
 impl Outgoing {
     ghost use Rattle.std.specs.Prelude.{◌≡◌, ◌+◌, ◌≤◌, [], length, flat_map, IsErr};
-    ghost use Rattle.ks_outside.specs.Counts.{Rose};
+    ghost use Rattle.ks_outside.specs.Streams.{OnlyWrites};
     ghost use Rattle.ks_http.specs.Responses.{status_line, length_line, field_line, field_lines, head_of};
-    ghost use Rattle.ks_http.specs.Writes.{Puts};
+    ghost use Rattle.ks_http.specs.steps.Writes.{Puts};
 
     /// Before the first byte.
     pub fn new() -> Outgoing
@@ -49,11 +49,8 @@ impl Outgoing {
     /// Puts these bytes behind those that are held.
     #[inline]
     pub fn put<K: Sink>(&mut self, sink: &mut K, bytes: &[u8]) -> Result<(), Failed>
-        ensures told { Puts self.old bytes.now self.new (K.written sink.old) (K.written sink.new) result }
-        ensures count { K.write_faults sink.old ≤ K.write_faults sink.new }
-        ensures fault { IsErr result → Rose (K.write_faults sink.old) (K.write_faults sink.new) }
-        ensures left_kept { K.left sink.new ≡ K.left sink.old }
-        ensures reads_kept { K.read_faults sink.new ≡ K.read_faults sink.old }
+        ensures told { Puts self.old bytes.now self.new (K.stream sink.old).written (K.stream sink.new).written result }
+        ensures writes { OnlyWrites (IsErr result) (K.stream sink.old) (K.stream sink.new) }
     {
         if self.held.try_extend_from_slice(bytes).is_ok() {
             return Ok(());
@@ -66,11 +63,8 @@ impl Outgoing {
     #[inline(never)]
     fn put_long<K: Sink>(&mut self, sink: &mut K, bytes: &[u8]) -> Result<(), Failed>
         requires { HELD ≤ length self.old + length bytes.now }
-        ensures told { Puts self.old bytes.now self.new (K.written sink.old) (K.written sink.new) result }
-        ensures count { K.write_faults sink.old ≤ K.write_faults sink.new }
-        ensures fault { IsErr result → Rose (K.write_faults sink.old) (K.write_faults sink.new) }
-        ensures left_kept { K.left sink.new ≡ K.left sink.old }
-        ensures reads_kept { K.read_faults sink.new ≡ K.read_faults sink.old }
+        ensures told { Puts self.old bytes.now self.new (K.stream sink.old).written (K.stream sink.new).written result }
+        ensures writes { OnlyWrites (IsErr result) (K.stream sink.old) (K.stream sink.new) }
     {
         let (front, rest) = bytes.split_at(self.held.remaining_capacity());
         let Ok(()) = self.held.try_extend_from_slice(front) else {
@@ -86,11 +80,8 @@ impl Outgoing {
 
     /// Puts these pieces, one behind the other.
     fn put_all<K: Sink>(&mut self, sink: &mut K, pieces: &[&[u8]]) -> Result<(), Failed>
-        ensures told { Puts self.old (flat_map (λ piece. piece.now) pieces.now) self.new (K.written sink.old) (K.written sink.new) result }
-        ensures count { K.write_faults sink.old ≤ K.write_faults sink.new }
-        ensures fault { IsErr result → Rose (K.write_faults sink.old) (K.write_faults sink.new) }
-        ensures left_kept { K.left sink.new ≡ K.left sink.old }
-        ensures reads_kept { K.read_faults sink.new ≡ K.read_faults sink.old }
+        ensures told { Puts self.old (flat_map (λ piece. piece.now) pieces.now) self.new (K.stream sink.old).written (K.stream sink.new).written result }
+        ensures writes { OnlyWrites (IsErr result) (K.stream sink.old) (K.stream sink.new) }
     {
         for piece in pieces {
             self.put(sink, piece)?;
@@ -100,11 +91,8 @@ impl Outgoing {
 
     /// Puts the status line (RFC 9112, section 4).
     fn put_status<K: Sink>(&mut self, sink: &mut K, status: u16) -> Result<(), Failed>
-        ensures told { Puts self.old (status_line status) self.new (K.written sink.old) (K.written sink.new) result }
-        ensures count { K.write_faults sink.old ≤ K.write_faults sink.new }
-        ensures fault { IsErr result → Rose (K.write_faults sink.old) (K.write_faults sink.new) }
-        ensures left_kept { K.left sink.new ≡ K.left sink.old }
-        ensures reads_kept { K.read_faults sink.new ≡ K.read_faults sink.old }
+        ensures told { Puts self.old (status_line status) self.new (K.stream sink.old).written (K.stream sink.new).written result }
+        ensures writes { OnlyWrites (IsErr result) (K.stream sink.old) (K.stream sink.new) }
     {
         let mut digits = itoa::Buffer::new();
         self.put_all(
@@ -121,11 +109,8 @@ impl Outgoing {
 
     /// Puts a field line (RFC 9112, section 5).
     fn put_field<K: Sink>(&mut self, sink: &mut K, name: &[u8], value: &[u8]) -> Result<(), Failed>
-        ensures told { Puts self.old (field_line (name.now, value.now)) self.new (K.written sink.old) (K.written sink.new) result }
-        ensures count { K.write_faults sink.old ≤ K.write_faults sink.new }
-        ensures fault { IsErr result → Rose (K.write_faults sink.old) (K.write_faults sink.new) }
-        ensures left_kept { K.left sink.new ≡ K.left sink.old }
-        ensures reads_kept { K.read_faults sink.new ≡ K.read_faults sink.old }
+        ensures told { Puts self.old (field_line (name.now, value.now)) self.new (K.stream sink.old).written (K.stream sink.new).written result }
+        ensures writes { OnlyWrites (IsErr result) (K.stream sink.old) (K.stream sink.new) }
     {
         self.put_all(sink, &[name, b": ".as_slice(), value, b"\r\n".as_slice()])
     }
@@ -133,11 +118,8 @@ impl Outgoing {
     /// Puts the field of the body's length, which a 204 does not have (RFC 9110, section 8.6).
     #[tactic(auto, unfolding(crate::specs::Responses::length_line))]
     fn put_length<K: Sink>(&mut self, sink: &mut K, status: u16, body: &[u8]) -> Result<(), Failed>
-        ensures told { Puts self.old (length_line status body.now) self.new (K.written sink.old) (K.written sink.new) result }
-        ensures count { K.write_faults sink.old ≤ K.write_faults sink.new }
-        ensures fault { IsErr result → Rose (K.write_faults sink.old) (K.write_faults sink.new) }
-        ensures left_kept { K.left sink.new ≡ K.left sink.old }
-        ensures reads_kept { K.read_faults sink.new ≡ K.read_faults sink.old }
+        ensures told { Puts self.old (length_line status body.now) self.new (K.stream sink.old).written (K.stream sink.new).written result }
+        ensures writes { OnlyWrites (IsErr result) (K.stream sink.old) (K.stream sink.new) }
     {
         if status == 204 {
             return Ok(());
@@ -151,11 +133,8 @@ impl Outgoing {
     }
 
     fn put_fields<K: Sink>(&mut self, sink: &mut K, fields: &[(Text, Text)]) -> Result<(), Failed>
-        ensures told { Puts self.old (field_lines fields.now) self.new (K.written sink.old) (K.written sink.new) result }
-        ensures count { K.write_faults sink.old ≤ K.write_faults sink.new }
-        ensures fault { IsErr result → Rose (K.write_faults sink.old) (K.write_faults sink.new) }
-        ensures left_kept { K.left sink.new ≡ K.left sink.old }
-        ensures reads_kept { K.read_faults sink.new ≡ K.read_faults sink.old }
+        ensures told { Puts self.old (field_lines fields.now) self.new (K.stream sink.old).written (K.stream sink.new).written result }
+        ensures writes { OnlyWrites (IsErr result) (K.stream sink.old) (K.stream sink.new) }
     {
         for (name, value) in fields {
             self.put_field(sink, name.as_slice(), value.as_slice())?;
@@ -165,11 +144,8 @@ impl Outgoing {
 
     /// Puts what stands before the body.
     pub fn put_head<K: Sink>(&mut self, sink: &mut K, response: &Response) -> Result<(), Failed>
-        ensures told { Puts self.old (head_of response.now) self.new (K.written sink.old) (K.written sink.new) result }
-        ensures count { K.write_faults sink.old ≤ K.write_faults sink.new }
-        ensures fault { IsErr result → Rose (K.write_faults sink.old) (K.write_faults sink.new) }
-        ensures left_kept { K.left sink.new ≡ K.left sink.old }
-        ensures reads_kept { K.read_faults sink.new ≡ K.read_faults sink.old }
+        ensures told { Puts self.old (head_of response.now) self.new (K.stream sink.old).written (K.stream sink.new).written result }
+        ensures writes { OnlyWrites (IsErr result) (K.stream sink.old) (K.stream sink.new) }
     {
         self.put_status(sink, response.status)?;
         self.put_length(sink, response.status, response.body.as_slice())?;

@@ -24,8 +24,8 @@ impl Model for Reader {
 }
 
 impl Reader {
-    ghost use Rattle.std.specs.Prelude.{◌≡◌, ◌≤◌, ◌++◌, ℕ, List, [], Some, None, IfOk};
-    ghost use Rattle.ks_outside.specs.Counts.{Rose};
+    ghost use Rattle.std.specs.Prelude.{◌≡◌, ◌++◌, ℕ, List, [], Some, None, IfOk};
+    ghost use Rattle.ks_outside.specs.Streams.{OnlyReads};
     ghost use Rattle.ks_http.specs.Next.{Comes, answer_of, ending_of, next_of};
 
     /// Before the first byte.
@@ -41,11 +41,8 @@ impl Reader {
     /// Reads the next request, in as many pieces as it comes in. After an answer that is no request the
     /// reader reads no more, and answers the same for ever. Any call may find no memory.
     pub fn next_request<S: Source>(&mut self, alloc: Global, source: &mut S) -> Next
-        ensures told { (left : List ℕ) → S.left source.old ≡ Some left → self.old.over ≡ None → Comes (self.old.held ++ left) self.new.held (S.left source.new) (answer_of result) }
-        ensures count { S.read_faults source.old ≤ S.read_faults source.new }
-        ensures written_kept { S.written source.new ≡ S.written source.old }
-        ensures writes_kept { S.write_faults source.new ≡ S.write_faults source.old }
-        ensures fault { self.old.over ≡ None → result ≡ Next.ReadFault → Rose (S.read_faults source.old) (S.read_faults source.new) }
+        ensures told { (left : List ℕ) → (S.stream source.old).left ≡ Some left → self.old.over ≡ None → Comes (self.old.held ++ left) self.new.held (S.stream source.new).left (answer_of result) }
+        ensures reads { OnlyReads ((self.old.over ≡ None) × (result ≡ Next.ReadFault)) (S.stream source.old) (S.stream source.new) }
         ensures ending { self.old.over ≡ None → self.new.over ≡ ending_of result }
 
         // For ever the same, and nothing more is read.

@@ -3,9 +3,9 @@ ghost use Rattle.std.specs.Str.{str_eq_ignore_ascii_case};
 ghost use Rattle.std.specs.Char.{is_ascii_digit};
 ghost use Rattle.std.specs.List.{list_all};
 ghost use Rattle.httparse.specs.Grammar.{is_ows, skip_ows};
-ghost use Rattle.ks_http.specs.Fields.{is_number, is_word_and_space, is_option, lists_option, capped, number_of};
+ghost use Rattle.ks_http.specs.Fields.{is_number, is_word_and_space, is_option, lists_option, number_of};
 ghost use Rattle.ks_http.specs.Heads.{allowed};
-ghost use Rattle.ks_http.specs.Says.{Says};
+ghost use Rattle.ks_http.specs.steps.Says.{Says, capped};
 
 use crate::cause::HttpCause;
 use crate::ending::Ending;
@@ -50,7 +50,7 @@ pub fn is_number(value: &[u8]) -> bool
     }
 }
 
-fn behind_space(text: &[u8]) -> &[u8]
+fn trim_start(text: &[u8]) -> &[u8]
     ensures { result.now ≡ skip_ows text.now }
 {
     let mut rest = text;
@@ -87,7 +87,7 @@ fn is_word_and_space(word: &[u8], text: &[u8]) -> bool
 fn is_option(word: &[u8], text: &[u8]) -> bool
     ensures { result ≡ is_option word.now text.now }
 {
-    is_word_and_space(word, behind_space(text))
+    is_word_and_space(word, trim_start(text))
 }
 
 /// The word is an option of a list with commas.

@@ -1,6 +1,5 @@
-ghost use Rattle.std.specs.Prelude.{◌≡◌, ◌≤◌, ◌++◌, ℕ, List, Some, IsErr, OnOk, OnErr, codes};
-ghost use Rattle.ks_outside.specs.Counts.{Rose};
-ghost use Rattle.ks_outside.specs.Streams.{Begins};
+ghost use Rattle.std.specs.Prelude.{◌≡◌, IsErr, codes};
+ghost use Rattle.ks_outside.specs.Streams.{OnlyWrites, Wrote};
 ghost use Rattle.ks_http.specs.Responses.{content, message, memory_response};
 
 use crate::outgoing::Outgoing;
@@ -31,13 +30,8 @@ fn content(response: &Response) -> &[u8]
 /// are, so that they must hold no line end. After a fault a front of the response was written, and
 /// nothing may follow over the same connection.
 pub fn write_response<K: Sink>(sink: &mut K, response: &Response) -> Result<(), WriteFault>
-    ensures ok { OnOk result ((before : List ℕ) → K.written sink.old ≡ Some before → K.written sink.new ≡ Some (before ++ message response.now)) }
-    ensures err { OnErr result ((before : List ℕ) → K.written sink.old ≡ Some before →
-        (part : List ℕ) × Begins part (message response.now) × (K.written sink.new ≡ Some (before ++ part))) }
-    ensures count { K.write_faults sink.old ≤ K.write_faults sink.new }
-    ensures fault { IsErr result → Rose (K.write_faults sink.old) (K.write_faults sink.new) }
-    ensures left_kept { K.left sink.new ≡ K.left sink.old }
-    ensures reads_kept { K.read_faults sink.new ≡ K.read_faults sink.old }
+    ensures told { Wrote (message response.now) (K.stream sink.old).written (K.stream sink.new).written result }
+    ensures writes { OnlyWrites (IsErr result) (K.stream sink.old) (K.stream sink.new) }
 {
     let mut outgoing = Outgoing::new();
     outgoing.put_head(sink, response)?;
@@ -49,13 +43,8 @@ pub fn write_response<K: Sink>(sink: &mut K, response: &Response) -> Result<(), 
 /// Writes the response for want of memory, which ends the connection, and takes none itself. After a
 /// fault a front of it was written.
 pub fn write_memory<K: Sink>(sink: &mut K) -> Result<(), WriteFault>
-    ensures ok { OnOk result ((before : List ℕ) → K.written sink.old ≡ Some before → K.written sink.new ≡ Some (before ++ memory_response)) }
-    ensures err { OnErr result ((before : List ℕ) → K.written sink.old ≡ Some before →
-        (part : List ℕ) × Begins part memory_response × (K.written sink.new ≡ Some (before ++ part))) }
-    ensures count { K.write_faults sink.old ≤ K.write_faults sink.new }
-    ensures fault { IsErr result → Rose (K.write_faults sink.old) (K.write_faults sink.new) }
-    ensures left_kept { K.left sink.new ≡ K.left sink.old }
-    ensures reads_kept { K.read_faults sink.new ≡ K.read_faults sink.old }
+    ensures told { Wrote memory_response (K.stream sink.old).written (K.stream sink.new).written result }
+    ensures writes { OnlyWrites (IsErr result) (K.stream sink.old) (K.stream sink.new) }
 {
     write_all(sink, MEMORY_RESPONSE)?;
     Ok(())

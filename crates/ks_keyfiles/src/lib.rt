@@ -7,6 +7,3 @@ mod reading;
 
 pub use laws::file_is_key;
 pub use reading::read_dir;
-
-#[cfg(test)]
-mod tests;

@@ -1,7 +1,6 @@
 ghost use Rattle.std.specs.Prelude.{◌≡◌, ◌≤◌, ◌↔◌, ℕ, List, Option, Some, None, Err, length, map, IfOk, IfErr};
 ghost use Rattle.ks_base.specs.declared.faults.KeysFault.{KeysFault};
-ghost use Rattle.ks_outside.specs.Counts.{Rose};
-ghost use Rattle.ks_outside.specs.Files.{KeyFile, AreIndices, indices_of};
+ghost use Rattle.ks_outside.specs.Files.{KeyFile, OnlyLooks, AreIndices, indices_of};
 ghost use Rattle.ks_keyfiles.specs.Folders.{ReadsAs, AreFolderKeys, IsReadingFault, folder_of, keys_in, key_in_file, line_of};
 ghost use Rattle.ks_keyfiles.specs.Readings.{IsCallFault, key_at};
 
@@ -20,12 +19,10 @@ const MOST_KEYS: usize = 32;
 /// lowest index whose file is missing, has more than 64 bytes or is no key. A fault of the folder is
 /// `Failed`, and want of memory `Memory`. The list of keys takes its memory where the folder's list did.
 pub fn read_dir<D: KeyDir>(dir: &mut D) -> Result<KeyList, KeysFault>
-    ensures told { (files : List KeyFile) → D.files dir.old ≡ Some files → ReadsAs (folder_of files) result }
+    ensures told { (files : List KeyFile) → (D.dir dir.old).files ≡ Some files → ReadsAs (folder_of files) result }
     ensures keys { IfOk result AreFolderKeys }
     ensures causes { IfErr result IsReadingFault }
-    ensures kept { D.files dir.new ≡ D.files dir.old }
-    ensures count { D.faults dir.old ≤ D.faults dir.new }
-    ensures failed { result ≡ Err KeysFault.Failed → Rose (D.faults dir.old) (D.faults dir.new) }
+    ensures looks { OnlyLooks (result ≡ Err KeysFault.Failed) (D.dir dir.old) (D.dir dir.new) }
 {
     let indices = match dir.list() {
         Ok(indices) => indices,
@@ -44,13 +41,11 @@ pub fn read_dir<D: KeyDir>(dir: &mut D) -> Result<KeyList, KeysFault>
 /// The keys of the files of these indices, which are those of the folder.
 fn read_files<D: KeyDir>(alloc: Global, dir: &mut D, indices: &[u32]) -> Result<KeyList, KeysFault>
     requires rising { AreIndices 0 indices.now }
-    requires listed { (files : List KeyFile) → D.files dir.old ≡ Some files → indices.now ≡ indices_of files }
-    ensures told { (files : List KeyFile) → D.files dir.old ≡ Some files → ReadsAs (keys_in files) result }
+    requires listed { (files : List KeyFile) → (D.dir dir.old).files ≡ Some files → indices.now ≡ indices_of files }
+    ensures told { (files : List KeyFile) → (D.dir dir.old).files ≡ Some files → ReadsAs (keys_in files) result }
     ensures keys { IfOk result (λ keys. map (λ entry. entry.0) keys ≡ indices.now) }
     ensures causes { IfErr result IsReadingFault }
-    ensures kept { D.files dir.new ≡ D.files dir.old }
-    ensures count { D.faults dir.old ≤ D.faults dir.new }
-    ensures failed { result ≡ Err KeysFault.Failed → Rose (D.faults dir.old) (D.faults dir.new) }
+    ensures looks { OnlyLooks (result ≡ Err KeysFault.Failed) (D.dir dir.old) (D.dir dir.new) }
 {
     let mut keys = KeyList::new(alloc);
     'files: for index in indices {
@@ -64,11 +59,9 @@ fn read_files<D: KeyDir>(alloc: Global, dir: &mut D, indices: &[u32]) -> Result<
 
 /// The key in the file of this index.
 fn read_file<D: KeyDir>(dir: &mut D, index: u32) -> Result<Option<Key>, KeysFault>
-    ensures told { IfOk result (λ found. (files : List KeyFile) → D.files dir.old ≡ Some files → found ≡ key_at index files) }
+    ensures told { IfOk result (λ found. (files : List KeyFile) → (D.dir dir.old).files ≡ Some files → found ≡ key_at index files) }
     ensures causes { IfErr result IsCallFault }
-    ensures kept { D.files dir.new ≡ D.files dir.old }
-    ensures count { D.faults dir.old ≤ D.faults dir.new }
-    ensures failed { result ≡ Err KeysFault.Failed → Rose (D.faults dir.old) (D.faults dir.new) }
+    ensures looks { OnlyLooks (result ≡ Err KeysFault.Failed) (D.dir dir.old) (D.dir dir.new) }
 {
     let mut piece = [0; 64];
     match dir.read(index, &mut piece) {

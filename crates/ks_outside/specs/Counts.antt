@@ -2,13 +2,17 @@
 -- still at its end.
 use Rattle.std.specs.Prelude.{ℕ, ◌+◌, ◌-◌, ◌^◌, ◌≤◌, min}
 
--- a count that has not begun
-abbrev pub no_faults : ℕ
-no_faults = 0
-
 -- the count after one more
 abbrev pub next_count : ℕ → ℕ
 next_count count = min (count + 1) (2 ^ 64 - 1)
 
+-- there was one more at least
 abbrev pub Rose : ℕ → ℕ → Type 0
 Rose before after = next_count before ≤ after
+
+-- what a call does to a count of faults, where `failed` says that the call failed
+pub record Counts (failed : Type 0) (before after : ℕ) : Type 0 where
+  -- it does not fall
+  pub kept : before ≤ after
+  -- it rises where the call failed
+  pub rose : failed → Rose before after

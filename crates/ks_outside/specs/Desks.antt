@@ -1,7 +1,6 @@
 -- What a worker's desk gives and takes.
 use Rattle.std.specs.Prelude.{◌≡◌, ℕ, ◌≤◌, List, [], ◌∷◌, length, take, drop, Option, Some, None, Result, Ok, Err}
 use Rattle.ks_base.specs.declared.receipt.Receipt.{Receipt}
-use Rattle.ks_outside.specs.States.{LinkFaults, LinkState}
 
 -- a desk, of which each part is told or not: the links still to come, the links given back, the readings
 -- of the clock and the random bytes still to come, and the receipts; for how many links given back and
@@ -38,54 +37,3 @@ later_readings (_ ∷ reading ∷ readings) = reading ∷ readings
 abbrev pub Fills : {T E : Type 0} → List ℕ → Option (List ℕ) → List ℕ → Result T E → Type 0
 Fills bytes now piece (Ok _) = (length piece ≤ length bytes) × (piece ≡ take (length piece) bytes) × (now ≡ Some (drop (length piece) bytes))
 Fills bytes now piece (Err _) = now ≡ Some bytes
-
--- a desk in memory: what it holds, how many accepts and fills there were, and the numbers of those that
--- are to fail, counted from 1
-pub record MemoryDeskState : Type 0 where
-  pub coming : List LinkState
-  pub returned : List LinkState
-  pub readings : List ℕ
-  pub random : List ℕ
-  pub receipts : List Receipt
-  pub link_room : ℕ
-  pub receipt_room : ℕ
-  pub accepts : ℕ
-  pub failing_accepts : List ℕ
-  pub accept_faults : ℕ
-  pub fills : ℕ
-  pub failing_fills : List ℕ
-  pub fill_faults : ℕ
-
--- it tells everything
-abbrev pub told_desk : MemoryDeskState → DeskState LinkState
-told_desk desk = record {
-  coming = Some desk.coming;
-  returned = Some desk.returned;
-  readings = Some desk.readings;
-  random = Some desk.random;
-  receipts = Some desk.receipts;
-  link_room = desk.link_room;
-  receipt_room = desk.receipt_room;
-  accept_faults = desk.accept_faults;
-  fill_faults = desk.fill_faults;
-}
-
--- a real desk: the last reading of its clock, and its counts of faults
-pub record RealDeskState : Type 0 where
-  pub last : ℕ
-  pub accept_faults : ℕ
-  pub fill_faults : ℕ
-
--- it tells nothing, and has always room, since it keeps neither links nor receipts
-abbrev pub untold_desk : RealDeskState → DeskState LinkFaults
-untold_desk desk = record {
-  coming = None;
-  returned = None;
-  readings = None;
-  random = None;
-  receipts = None;
-  link_room = 1;
-  receipt_room = 1;
-  accept_faults = desk.accept_faults;
-  fill_faults = desk.fill_faults;
-}

@@ -1,11 +1,24 @@
 -- Key files as a folder holds them: a finite map from an index to a content, kept as its pairs by rising
 -- index.
-use Rattle.std.specs.Prelude.{◌≡◌, ◌≢◌, ℕ, suc, ◌+◌, ◌<◌, ◌≤◌, slice_index_or, drop, nat_lt, nat_le, ◌==◌, List, [], ◌∷◌, ◌++◌, length, take, map, filter, find, Option, Some, None, Result, Ok, Err, ◌⊎◌, if◌then◌else◌}
+use Rattle.std.specs.Prelude.{◌≡◌, ℕ, ◌+◌, ◌≤◌, nat_lt, nat_le, ◌==◌, List, [], ◌∷◌, ◌++◌, length, take, map, filter, find, Option, Some, None, Result, Ok, Err, ◌⊎◌, if◌then◌else◌}
 use Rattle.std.specs.Option.{option_map}
+use Rattle.ks_outside.specs.Counts.{Counts}
 
 -- an index and its content
 abbrev pub KeyFile : Type 0
 KeyFile = ℕ × List ℕ
+
+-- a key folder: its files by rising index, where it tells them, and how often a call to it failed
+pub record DirState : Type 0 where
+  pub files : Option (List KeyFile)
+  pub faults : ℕ
+
+-- what a call does that changes no file, where `failed` says that it failed
+pub record OnlyLooks (failed : Type 0) (old new : DirState) : Type 0 where
+  -- the files stay
+  pub files : new.files ≡ old.files
+  -- the count of failed calls
+  pub faults : Counts failed old.faults new.faults
 
 abbrev pub IsIndex : ℕ → Type 0
 IsIndex index = index ≤ 999999999
@@ -66,20 +79,3 @@ Gives (Some content) into found = (found ≡ Some (length content)) × (take (le
 unfoldable pub filed_from : List KeyFile → List KeyFile → List KeyFile
 filed_from held [] = held
 filed_from held (file ∷ files) = filed_from (with_file file.0 file.1 held) files
-
--- a file with this index stands at this place
-pub record StandsAt (index : ℕ) (files : List KeyFile) (place : ℕ) : Type 0 where
-  pub content : List ℕ
-  pub within : place < length files
-  pub is : content_at index files ≡ Some content
-  pub here : (d : KeyFile) → slice_index_or files place d ≡ (index, content)
-  pub front : take place files ≡ files_below index files
-  pub back : drop (suc place) files ≡ files_above index files
-
--- none with this index stands, and this is the place for one
-pub record BelongsAt (index : ℕ) (files : List KeyFile) (place : ℕ) : Type 0 where
-  pub within : place ≤ length files
-  pub is : content_at index files ≡ None
-  pub here : (d : KeyFile) → place < length files → (slice_index_or files place d).0 ≢ index
-  pub front : take place files ≡ files_below index files
-  pub back : drop place files ≡ files_above index files

@@ -1,6 +1,6 @@
-ghost use Rattle.std.specs.Prelude.{◌≡◌, ◌+◌, ◌<◌, ◌≤◌, ◌++◌, ◌∷◌, [], ℕ, List, Some, IsErr, IfOk, IfSome, OnOk};
-ghost use Rattle.ks_base.specs.declared.receipt.Receipt.{Receipt};
-ghost use Rattle.ks_outside.specs.Counts.{Rose};
+ghost use Rattle.std.specs.Prelude.{◌≡◌, ◌+◌, ◌<◌, ◌≤◌, ◌∷◌, [], ℕ, List, Some, IsErr, IfOk, IfSome, OnOk};
+ghost use Rattle.ks_outside.specs.Counts.{Counts};
+ghost use Rattle.ks_outside.specs.Streams.{Appends};
 ghost use Rattle.ks_outside.specs.Desks.{DeskState, Accepts, Fills, next_reading, later_readings};
 
 use crate::{Failed, Sink, Source};
@@ -23,14 +23,13 @@ pub trait Desk {
           link_room = (desk self.new).link_room;
           accept_faults = (desk self.new).accept_faults;
         } }
-        ensures count { (desk self.old).accept_faults ≤ (desk self.new).accept_faults }
-        ensures failed { IsErr result → Rose (desk self.old).accept_faults (desk self.new).accept_faults };
+        ensures faults { Counts (IsErr result) (desk self.old).accept_faults (desk self.new).accept_faults };
 
     /// Takes back a link that is done with. Each accept that hands out a link leaves room for one, so
     /// that this takes no memory.
     fn give_back(&mut self, link: Self::Link)
         requires { 0 < (desk self.old).link_room }
-        ensures told { (returned : List Self.Link) → (desk self.old).returned ≡ Some returned → (desk self.new).returned ≡ Some (returned ++ link ∷ []) }
+        ensures told { Appends (link ∷ []) (desk self.old).returned (desk self.new).returned }
         ensures room { (desk self.old).link_room ≤ (desk self.new).link_room + 1 }
         ensures kept { desk self.new ≡ record (desk self.old) { returned = (desk self.new).returned; link_room = (desk self.new).link_room } };
 
@@ -44,8 +43,7 @@ pub trait Desk {
     fn fill(&mut self, into: &mut [u8]) -> Result<(), Failed>
         ensures told { (bytes : List ℕ) → (desk self.old).random ≡ Some bytes → Fills bytes (desk self.new).random into.new result }
         ensures kept { desk self.new ≡ record (desk self.old) { random = (desk self.new).random; fill_faults = (desk self.new).fill_faults } }
-        ensures count { (desk self.old).fill_faults ≤ (desk self.new).fill_faults }
-        ensures failed { IsErr result → Rose (desk self.old).fill_faults (desk self.new).fill_faults };
+        ensures faults { Counts (IsErr result) (desk self.old).fill_faults (desk self.new).fill_faults };
 
     /// Makes room for one receipt.
     fn ready(&mut self) -> Result<(), Memory>
@@ -56,7 +54,7 @@ pub trait Desk {
     /// Notes a receipt, for which there is room, so that this takes no memory.
     fn note(&mut self, receipt: Receipt)
         requires { 0 < (desk self.old).receipt_room }
-        ensures told { (receipts : List Receipt) → (desk self.old).receipts ≡ Some receipts → (desk self.new).receipts ≡ Some (receipts ++ receipt ∷ []) }
+        ensures told { Appends (receipt ∷ []) (desk self.old).receipts (desk self.new).receipts }
         ensures room { (desk self.old).receipt_room ≤ (desk self.new).receipt_room + 1 }
         ensures kept { desk self.new ≡ record (desk self.old) { receipts = (desk self.new).receipts; receipt_room = (desk self.new).receipt_room } };
 }

@@ -1,7 +1,6 @@
 ghost use Rattle.std.specs.Prelude.{◌≡◌};
 
 use crate::Failed;
-use std::alloc::AllocError;
 use std::error::Error;
 use std::io::ErrorKind;
 use std::{fmt, io};
@@ -42,16 +41,6 @@ impl From<ks_base::Memory> for DirFault {
     ghost from_gives = { λ _ e. e ≡ variants.Memory };
 
     fn from(_error: ks_base::Memory) -> DirFault {
-        DirFault::Memory
-    }
-}
-
-impl From<AllocError> for DirFault {
-    ghost use Rattle.ks_outside.specs.declared.dir_fault.DirFault.TheVariants as variants;
-
-    ghost from_gives = { λ _ e. e ≡ variants.Memory };
-
-    fn from(_error: AllocError) -> DirFault {
         DirFault::Memory
     }
 }

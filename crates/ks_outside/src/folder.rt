@@ -1,6 +1,7 @@
-ghost use Rattle.std.specs.Prelude.{◌≡◌, ◌≤◌, None, length, IfOk, IfSome};
+ghost use Rattle.std.specs.Prelude.{◌≡◌, ◌≤◌, length, IfOk, IfSome};
 ghost use Rattle.ks_outside.specs.Counts.{next_count};
 ghost use Rattle.ks_outside.specs.Files.{AreIndices, IsIndex};
+ghost use Rattle.ks_outside.specs.Real.{untold_dir};
 
 use crate::files::{indices, put};
 use crate::real_source::read_uninterrupted;
@@ -26,9 +27,9 @@ pub struct Folder<'a, R> {
 }
 
 impl<'a, R> Model for Folder<'a, R> {
-    ghost use Rattle.ks_outside.specs.States.{FolderState};
+    ghost use Rattle.ks_outside.specs.Real.{RealDirState};
 
-    ghost Value = { FolderState };
+    ghost Value = { RealDirState };
 
     ghost view = { λ d. record { faults = d.faults } };
 }
@@ -62,9 +63,7 @@ impl<'a, R> Folder<'a, R> {
 }
 
 impl<R: Files + AllocGlobal + Clone + Drop> KeyDir for Folder<'_, R> {
-    ghost files = { λ _. None };
-
-    ghost faults = { λ d. d.faults };
+    ghost dir = { untold_dir };
 
     fn list(&mut self) -> Result<Vec<u32>, DirFault> {
         let answer = list(self.rt, self.path.as_str());
@@ -161,7 +160,7 @@ fn write_new<R: Files + AllocGlobal>(
     content: &[u8],
 ) -> Result<(), DirFault> {
     let name = name_of(rt.alloc(), path, index)?;
-    let fresh = format!(in rt.alloc(); "{name}.new")?;
+    let fresh = fresh_name(rt.alloc(), name.as_str())?;
     if index > LAST_INDEX || stands(rt, name.as_str())? {
         return Err(DirFault::Failed);
     }
@@ -194,8 +193,13 @@ fn remove<R: Files + AllocGlobal>(rt: &R, path: &str, index: u32) -> Result<(), 
     Ok(())
 }
 
-fn name_of(alloc: Global, path: &str, index: u32) -> Result<String, DirFault> {
+fn name_of(alloc: Global, path: &str, index: u32) -> Result<String, Memory> {
     Ok(format!(in alloc; "{path}/{index}")?)
+}
+
+/// The name of a key file that is being written, which is no key file's.
+fn fresh_name(alloc: Global, name: &str) -> Result<String, Memory> {
+    Ok(format!(in alloc; "{name}.new")?)
 }
 
 /// Whether there is anything with this name.

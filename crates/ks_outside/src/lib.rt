@@ -44,6 +44,3 @@ pub use sink::{Sink, write_all};
 pub use source::Source;
 pub use stream::Stream;
 pub use tcp_link::TcpLink;
-
-#[cfg(test)]
-mod tests;

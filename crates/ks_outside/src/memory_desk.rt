@@ -1,8 +1,8 @@
 ghost use Rattle.std.specs.Prelude.{◌≡◌, ◌+◌, ◌-◌, ◌<◌, ◌≤◌, ◌++◌, ◌∷◌, ◌↔◌, ◌⊎◌, [], ℕ, List, Some, length, take, drop, Contains, IsErr, IfOk, IfSome, OnOk, OnErr};
-ghost use Rattle.ks_base.specs.declared.receipt.Receipt.{Receipt};
-ghost use Rattle.ks_outside.specs.Counts.{Rose, next_count};
-ghost use Rattle.ks_outside.specs.Desks.{MemoryDeskState, Accepts, Fills, next_reading, later_readings, told_desk};
-ghost use Rattle.ks_outside.specs.States.{LinkState};
+ghost use Rattle.ks_outside.specs.Counts.{Counts, next_count};
+ghost use Rattle.ks_outside.specs.Streams.{Appends};
+ghost use Rattle.ks_outside.specs.Desks.{Accepts, Fills, next_reading, later_readings};
+ghost use Rattle.ks_outside.specs.InMemory.{MemoryLinkState, MemoryDeskState, told_desk};
 
 use crate::calls::Calls;
 use crate::readings::Readings;
@@ -28,7 +28,7 @@ pub struct MemoryDesk {
 impl Model for MemoryDesk {
     ghost use Rattle.std.specs.Prelude.{◌+◌, ◌-◌, ◌≤◌, length, drop, vec_len, vec_capacity};
     ghost use Rattle.std.specs.Vec.Iter.{into_iter_items, into_iter_len};
-    ghost use Rattle.ks_outside.specs.Desks.{MemoryDeskState};
+    ghost use Rattle.ks_outside.specs.InMemory.{MemoryDeskState};
 
     ghost Value = { MemoryDeskState };
 
@@ -114,7 +114,7 @@ impl Desk for MemoryDesk {
 
     /// Hands out the next link. An accept that is to fail takes none.
     fn accept(&mut self) -> Result<Option<MemoryLink>, Failed>
-        ensures told { (coming : List LinkState) → Some self.old.coming ≡ Some coming → Accepts coming (Some self.new.coming) result }
+        ensures told { (coming : List MemoryLinkState) → Some self.old.coming ≡ Some coming → Accepts coming (Some self.new.coming) result }
         ensures room { IfOk result (λ link. IfSome link (λ _. 0 < self.new.link_room)) }
         ensures room_kept { self.old.link_room ≤ self.new.link_room }
         ensures kept { told_desk self.new ≡ record (told_desk self.old) {
@@ -122,8 +122,7 @@ impl Desk for MemoryDesk {
           link_room = self.new.link_room;
           accept_faults = self.new.accept_faults;
         } }
-        ensures count { self.old.accept_faults ≤ self.new.accept_faults }
-        ensures failed { IsErr result → Rose self.old.accept_faults self.new.accept_faults }
+        ensures faults { Counts (IsErr result) self.old.accept_faults self.new.accept_faults }
 
         ensures fails { IsErr result ↔ Contains self.old.failing_accepts (self.old.accepts + 1) }
         ensures ok { OnOk result (self.new ≡ record self.old { coming = self.new.coming; link_room = self.new.link_room; accepts = next_count self.old.accepts }) }
@@ -135,7 +134,7 @@ impl Desk for MemoryDesk {
 
     fn give_back(&mut self, link: MemoryLink)
         requires { 0 < self.old.link_room }
-        ensures told { (returned : List LinkState) → Some self.old.returned ≡ Some returned → Some self.new.returned ≡ Some (returned ++ link ∷ []) }
+        ensures told { Appends (link ∷ []) (Some self.old.returned) (Some self.new.returned) }
         ensures room { self.old.link_room ≤ self.new.link_room + 1 }
         ensures kept { told_desk self.new ≡ record (told_desk self.old) { returned = Some self.new.returned; link_room = self.new.link_room } }
 
@@ -162,8 +161,7 @@ impl Desk for MemoryDesk {
     fn fill(&mut self, into: &mut [u8]) -> Result<(), Failed>
         ensures told { (bytes : List ℕ) → Some self.old.random ≡ Some bytes → Fills bytes (Some self.new.random) into.new result }
         ensures kept { told_desk self.new ≡ record (told_desk self.old) { random = Some self.new.random; fill_faults = self.new.fill_faults } }
-        ensures count { self.old.fill_faults ≤ self.new.fill_faults }
-        ensures failed { IsErr result → Rose self.old.fill_faults self.new.fill_faults }
+        ensures faults { Counts (IsErr result) self.old.fill_faults self.new.fill_faults }
 
         ensures fails { IsErr result ↔ (Contains self.old.failing_fills (self.old.fills + 1) ⊎ (length self.old.random < length into.old)) }
         ensures ok { OnOk result (self.new ≡ record self.old { random = drop (length into.old) self.old.random; fills = next_count self.old.fills }) }
@@ -193,7 +191,7 @@ impl Desk for MemoryDesk {
 
     fn note(&mut self, receipt: Receipt)
         requires { 0 < self.old.receipt_room }
-        ensures told { (receipts : List Receipt) → Some self.old.receipts ≡ Some receipts → Some self.new.receipts ≡ Some (receipts ++ receipt ∷ []) }
+        ensures told { Appends (receipt ∷ []) (Some self.old.receipts) (Some self.new.receipts) }
         ensures room { self.old.receipt_room ≤ self.new.receipt_room + 1 }
         ensures kept { told_desk self.new ≡ record (told_desk self.old) { receipts = Some self.new.receipts; receipt_room = self.new.receipt_room } }
 

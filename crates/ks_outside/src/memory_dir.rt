@@ -1,10 +1,11 @@
-ghost use Rattle.std.specs.Prelude.{◌≡◌, ◌≢◌, ◌≤◌, ◌↔◌, [], ℕ, List, Option, Some, IsTrue, IfOk, IfSome, OnOk, OnErr};
-ghost use Rattle.ks_outside.specs.Counts.{Rose, next_count};
-ghost use Rattle.ks_outside.specs.Files.{KeyFile, AreIndices, AreFiles, IsFree, Stands, Changes, Gives, indices_of, content_at, short_content, with_file, without, filed_from};
-ghost use Rattle.ks_outside.specs.States.{DirState, FailsNext};
+ghost use Rattle.std.specs.Prelude.{◌≡◌, ◌≢◌, ◌≤◌, ◌↔◌, [], ℕ, List, Option, Some, None, IsTrue, IfOk, IfSome, OnOk};
+ghost use Rattle.std.specs.Bool.{OnTrue, OnFalse};
+ghost use Rattle.ks_outside.specs.Counts.{next_count};
+ghost use Rattle.ks_outside.specs.Files.{KeyFile, OnlyLooks, AreIndices, AreFiles, IsFree, Stands, Changes, Gives, indices_of, content_at, short_content, with_file, without, filed_from};
+ghost use Rattle.ks_outside.specs.InMemory.{Called, told_dir};
 
 use crate::calls::Calls;
-use crate::files::{filed, indices, moved, put, short, take_out};
+use crate::files::{filed, find_place, indices, moved, put, short, take_out};
 use crate::{DirFault, Failed, KeyDir};
 use ks_base::{Bytes, Memory};
 use std::alloc::Global;
@@ -21,9 +22,9 @@ pub struct MemoryDir {
 
 impl Model for MemoryDir {
     ghost use Rattle.ks_outside.specs.Files.{AreIndices, indices_of};
-    ghost use Rattle.ks_outside.specs.States.{DirState};
+    ghost use Rattle.ks_outside.specs.InMemory.{MemoryDirState};
 
-    ghost Value = { DirState };
+    ghost Value = { MemoryDirState };
 
     ghost view = { λ d. record { files = d.files.items; calls = d.calls.made; failing = d.calls.failing.items; limit = d.limit; faults = d.calls.faults } };
 
@@ -58,13 +59,19 @@ impl MemoryDir {
         self.files.as_slice()
     }
 
+    /// Whether there is a file with this index, and none may be written under it.
+    pub fn stands(&self, index: u32) -> bool
+        ensures stands { OnTrue result (Stands index self.now.files) }
+        ensures free { OnFalse result (content_at index self.now.files ≡ None) }
+    {
+        find_place(self.files.as_slice(), index).is_ok()
+    }
+
     /// Counts one more call, and a fault where it is one that is to fail.
     fn begin(&mut self) -> Result<(), DirFault>
-        ensures fails { (result ≡ Err DirFault.Failed) ↔ FailsNext self.old }
+        ensures called { Called (result ≡ Err DirFault.Failed) self.old self.new }
         ensures memory { result ≢ Err DirFault.Memory }
-        ensures count { self.old.faults ≤ self.new.faults }
         ensures ok { OnOk result (self.new ≡ record self.old { calls = next_count self.old.calls }) }
-        ensures err { OnErr result (self.new ≡ record self.old { calls = next_count self.old.calls; faults = next_count self.old.faults }) }
     {
         let spent = is_spent(self.limit, self.calls.made);
         match self.calls.begin() {
@@ -90,20 +97,15 @@ fn is_spent(limit: Option<u64>, made: u64) -> bool
 }
 
 impl KeyDir for MemoryDir {
-    ghost files = { λ d. Some d.files };
-
-    ghost faults = { λ d. d.faults };
+    ghost dir = { told_dir };
 
     fn list(&mut self) -> Result<Vec<u32>, DirFault>
         ensures indices { IfOk result (λ found. AreIndices 0 found.items) }
         ensures told { IfOk result (λ found. (told : List KeyFile) → Some self.old.files ≡ Some told → found.items ≡ indices_of told) }
-        ensures kept { Some self.new.files ≡ Some self.old.files }
-        ensures count { self.old.faults ≤ self.new.faults }
-        ensures failed { result ≡ Err DirFault.Failed → Rose self.old.faults self.new.faults }
+        ensures looks { OnlyLooks (result ≡ Err DirFault.Failed) (told_dir self.old) (told_dir self.new) }
 
-        ensures fails { (result ≡ Err DirFault.Failed) ↔ FailsNext self.old }
+        ensures called { Called (result ≡ Err DirFault.Failed) self.old self.new }
         ensures after { result ≢ Err DirFault.Failed → self.new ≡ record self.old { calls = next_count self.old.calls } }
-        ensures fault { result ≡ Err DirFault.Failed → self.new ≡ record self.old { calls = next_count self.old.calls; faults = next_count self.old.faults } }
     {
         self.begin()?;
         let alloc = *self.files.allocator();
@@ -113,14 +115,11 @@ impl KeyDir for MemoryDir {
     fn read(&mut self, index: u32, into: &mut [u8; 64]) -> Result<Option<usize>, DirFault>
         ensures within { IfOk result (λ found. IfSome found (λ n. n ≤ 64)) }
         ensures told { IfOk result (λ found. (told : List KeyFile) → Some self.old.files ≡ Some told → Gives (short_content (content_at index told)) into.new found) }
-        ensures kept { Some self.new.files ≡ Some self.old.files }
-        ensures count { self.old.faults ≤ self.new.faults }
-        ensures failed { result ≡ Err DirFault.Failed → Rose self.old.faults self.new.faults }
+        ensures looks { OnlyLooks (result ≡ Err DirFault.Failed) (told_dir self.old) (told_dir self.new) }
 
-        ensures fails { (result ≡ Err DirFault.Failed) ↔ FailsNext self.old }
+        ensures called { Called (result ≡ Err DirFault.Failed) self.old self.new }
         ensures memory { result ≢ Err DirFault.Memory }
         ensures ok { OnOk result (self.new ≡ record self.old { calls = next_count self.old.calls }) }
-        ensures fault { result ≡ Err DirFault.Failed → self.new ≡ record self.old { calls = next_count self.old.calls; faults = next_count self.old.faults } }
     {
         self.begin()?;
         let Some(content) = short(self.files.as_slice(), index) else {
@@ -134,13 +133,9 @@ impl KeyDir for MemoryDir {
     fn write_new(&mut self, index: u32, content: &[u8]) -> Result<(), DirFault>
         requires { (told : List KeyFile) → Some self.old.files ≡ Some told → IsFree index told }
         ensures told { (told : List KeyFile) → Some self.old.files ≡ Some told → Changes told (with_file index content.now told) (Some self.new.files) result }
-        ensures count { self.old.faults ≤ self.new.faults }
-        ensures failed { result ≡ Err DirFault.Failed → Rose self.old.faults self.new.faults }
-
-        ensures fails { (result ≡ Err DirFault.Failed) ↔ FailsNext self.old }
+        ensures called { Called (result ≡ Err DirFault.Failed) self.old self.new }
         ensures ok { OnOk result (self.new ≡ record self.old { files = with_file index content.now self.old.files; calls = next_count self.old.calls }) }
         ensures memory { result ≡ Err DirFault.Memory → self.new ≡ record self.old { calls = next_count self.old.calls } }
-        ensures fault { result ≡ Err DirFault.Failed → self.new ≡ record self.old { calls = next_count self.old.calls; faults = next_count self.old.faults } }
     {
         self.begin()?;
         let alloc = *self.files.allocator();
@@ -154,14 +149,10 @@ impl KeyDir for MemoryDir {
         requires free { (told : List KeyFile) → Some self.old.files ≡ Some told → IsFree to told }
         ensures told { (told : List KeyFile) (content : List ℕ) → Some self.old.files ≡ Some told → content_at from told ≡ Some content →
             Changes told (with_file to content (without from told)) (Some self.new.files) result }
-        ensures count { self.old.faults ≤ self.new.faults }
-        ensures failed { result ≡ Err DirFault.Failed → Rose self.old.faults self.new.faults }
-
-        ensures fails { (result ≡ Err DirFault.Failed) ↔ FailsNext self.old }
+        ensures called { Called (result ≡ Err DirFault.Failed) self.old self.new }
         ensures memory { result ≢ Err DirFault.Memory }
         ensures ok { OnOk result ((content : List ℕ) → content_at from self.old.files ≡ Some content →
             self.new ≡ record self.old { files = with_file to content (without from self.old.files); calls = next_count self.old.calls }) }
-        ensures fault { result ≡ Err DirFault.Failed → self.new ≡ record self.old { calls = next_count self.old.calls; faults = next_count self.old.faults } }
     {
         self.begin()?;
         moved(&mut self.files, from, to);
@@ -171,13 +162,9 @@ impl KeyDir for MemoryDir {
     fn remove(&mut self, index: u32) -> Result<(), DirFault>
         requires { (told : List KeyFile) → Some self.old.files ≡ Some told → Stands index told }
         ensures told { (told : List KeyFile) → Some self.old.files ≡ Some told → Changes told (without index told) (Some self.new.files) result }
-        ensures count { self.old.faults ≤ self.new.faults }
-        ensures failed { result ≡ Err DirFault.Failed → Rose self.old.faults self.new.faults }
-
-        ensures fails { (result ≡ Err DirFault.Failed) ↔ FailsNext self.old }
+        ensures called { Called (result ≡ Err DirFault.Failed) self.old self.new }
         ensures memory { result ≢ Err DirFault.Memory }
         ensures ok { OnOk result (self.new ≡ record self.old { files = without index self.old.files; calls = next_count self.old.calls }) }
-        ensures fault { result ≡ Err DirFault.Failed → self.new ≡ record self.old { calls = next_count self.old.calls; faults = next_count self.old.faults } }
     {
         self.begin()?;
         let _content = take_out(&mut self.files, index);

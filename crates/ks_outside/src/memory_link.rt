@@ -1,6 +1,7 @@
 ghost use Rattle.std.specs.Prelude.{◌≡◌, ◌+◌, ◌-◌, ◌<◌, ◌≤◌, ◌++◌, ◌↔◌, ◌⊎◌, ℕ, List, Option, Some, length, min, take, drop, Contains, IsErr, IfOk, OnErr};
-ghost use Rattle.ks_outside.specs.Counts.{Rose, next_count};
-ghost use Rattle.ks_outside.specs.Streams.{Reads, taken};
+ghost use Rattle.ks_outside.specs.Counts.{next_count};
+ghost use Rattle.ks_outside.specs.Streams.{Appends, OnlyReads, OnlyWrites, Reads, TookNone, taken};
+ghost use Rattle.ks_outside.specs.InMemory.{link_stream};
 
 use crate::{Failed, MemorySink, MemorySource, Sink, Source, Stream};
 use std::marker::Model;
@@ -14,9 +15,9 @@ pub struct MemoryLink {
 }
 
 impl Model for MemoryLink {
-    ghost use Rattle.ks_outside.specs.States.{LinkState};
+    ghost use Rattle.ks_outside.specs.InMemory.{MemoryLinkState};
 
-    ghost Value = { LinkState };
+    ghost Value = { MemoryLinkState };
 
     ghost view = { λ l. record { source = l.source; sink = l.sink } };
 }
@@ -39,13 +40,7 @@ impl MemoryLink {
 }
 
 impl Stream for MemoryLink {
-    ghost left = { λ l. Some l.source.left };
-
-    ghost written = { λ l. Some l.sink.written };
-
-    ghost read_faults = { λ l. l.source.faults };
-
-    ghost write_faults = { λ l. l.sink.faults };
+    ghost stream = { link_stream };
 }
 
 impl Source for MemoryLink {
@@ -54,10 +49,7 @@ impl Source for MemoryLink {
         requires { 0 < length into.old }
         ensures within { IfOk result (λ n. n ≤ length into.old) }
         ensures told { (bytes : List ℕ) → Some self.old.source.left ≡ Some bytes → Reads bytes (Some self.new.source.left) into.new result }
-        ensures count { self.old.source.faults ≤ self.new.source.faults }
-        ensures failed { IsErr result → Rose self.old.source.faults self.new.source.faults }
-        ensures written_kept { Some self.new.sink.written ≡ Some self.old.sink.written }
-        ensures writes_kept { self.new.sink.faults ≡ self.old.sink.faults }
+        ensures reads { OnlyReads (IsErr result) (link_stream self.old) (link_stream self.new) }
 
         ensures fails { IsErr result ↔ Contains self.old.source.failing (self.old.source.calls + 1) }
         ensures came { IfOk result (λ n. n ≡ min (min self.old.source.longest (length into.old)) (length self.old.source.left)) }
@@ -76,12 +68,8 @@ impl Sink for MemoryLink {
     fn write(&mut self, piece: &[u8]) -> Result<usize, Failed>
         requires { 0 < length piece.now }
         ensures within { IfOk result (λ n. n ≤ length piece.now) }
-        ensures told { (before : List ℕ) → Some self.old.sink.written ≡ Some before → Some self.new.sink.written ≡ Some (before ++ taken piece.now result) }
-        ensures count { self.old.sink.faults ≤ self.new.sink.faults }
-        ensures failed { IsErr result → Rose self.old.sink.faults self.new.sink.faults }
-        ensures stuck { result ≡ Ok 0 → Rose self.old.sink.faults self.new.sink.faults }
-        ensures left_kept { Some self.new.source.left ≡ Some self.old.source.left }
-        ensures reads_kept { self.new.source.faults ≡ self.old.source.faults }
+        ensures told { Appends (taken piece.now result) (Some self.old.sink.written) (Some self.new.sink.written) }
+        ensures writes { OnlyWrites (TookNone result) (link_stream self.old) (link_stream self.new) }
 
         ensures fails { IsErr result ↔ (Contains self.old.sink.failing (self.old.sink.calls + 1) ⊎ (length self.old.sink.written ≡ self.old.sink.room)) }
         ensures took { IfOk result (λ n. n ≡ min (min self.old.sink.longest (length piece.now)) (self.old.sink.room - length self.old.sink.written)) }

@@ -1,6 +1,7 @@
 ghost use Rattle.std.specs.Prelude.{◌≡◌, ◌+◌, ◌-◌, ◌<◌, ◌≤◌, ◌++◌, ◌↔◌, ◌⊎◌, ℕ, List, Option, Some, [], length, min, take, Contains, IsErr, IfOk, OnErr};
-ghost use Rattle.ks_outside.specs.Counts.{Rose, next_count, no_faults};
-ghost use Rattle.ks_outside.specs.Streams.{taken, untold};
+ghost use Rattle.ks_outside.specs.Counts.{next_count};
+ghost use Rattle.ks_outside.specs.Streams.{Appends, OnlyWrites, TookNone, taken};
+ghost use Rattle.ks_outside.specs.InMemory.{sink_stream};
 
 use crate::calls::Calls;
 use crate::{Failed, Sink, Stream};
@@ -20,9 +21,9 @@ pub struct MemorySink {
 
 impl Model for MemorySink {
     ghost use Rattle.std.specs.Prelude.{◌<◌, ◌≤◌, vec_len, vec_capacity};
-    ghost use Rattle.ks_outside.specs.States.{SinkState};
+    ghost use Rattle.ks_outside.specs.InMemory.{MemorySinkState};
 
-    ghost Value = { SinkState };
+    ghost Value = { MemorySinkState };
 
     ghost view = { λ s. record { written = s.bytes.items; room = s.room; calls = s.calls.made; failing = s.calls.failing.items; longest = s.longest; faults = s.calls.faults } };
 
@@ -59,13 +60,7 @@ impl MemorySink {
 }
 
 impl Stream for MemorySink {
-    ghost left = { λ _. untold };
-
-    ghost written = { λ s. Some s.written };
-
-    ghost read_faults = { λ _. no_faults };
-
-    ghost write_faults = { λ s. s.faults };
+    ghost stream = { sink_stream };
 }
 
 impl Sink for MemorySink {
@@ -74,12 +69,8 @@ impl Sink for MemorySink {
     fn write(&mut self, piece: &[u8]) -> Result<usize, Failed>
         requires { 0 < length piece.now }
         ensures within { IfOk result (λ n. n ≤ length piece.now) }
-        ensures told { (before : List ℕ) → Some self.old.written ≡ Some before → Some self.new.written ≡ Some (before ++ taken piece.now result) }
-        ensures count { self.old.faults ≤ self.new.faults }
-        ensures failed { IsErr result → Rose self.old.faults self.new.faults }
-        ensures stuck { result ≡ Ok 0 → Rose self.old.faults self.new.faults }
-        ensures left_kept { untold ≡ untold }
-        ensures reads_kept { no_faults ≡ no_faults }
+        ensures told { Appends (taken piece.now result) (Some self.old.written) (Some self.new.written) }
+        ensures writes { OnlyWrites (TookNone result) (sink_stream self.old) (sink_stream self.new) }
 
         ensures fails { IsErr result ↔ (Contains self.old.failing (self.old.calls + 1) ⊎ (length self.old.written ≡ self.old.room)) }
         ensures took { IfOk result (λ n. n ≡ min (min self.old.longest (length piece.now)) (self.old.room - length self.old.written)) }

@@ -1,6 +1,7 @@
 ghost use Rattle.std.specs.Prelude.{◌≡◌, ◌+◌, ◌<◌, ◌≤◌, ◌++◌, ◌↔◌, ℕ, List, Option, Some, length, min, take, drop, Contains, IsErr, IfOk, OnErr};
-ghost use Rattle.ks_outside.specs.Counts.{Rose, next_count, no_faults};
-ghost use Rattle.ks_outside.specs.Streams.{Reads, untold};
+ghost use Rattle.ks_outside.specs.Counts.{next_count};
+ghost use Rattle.ks_outside.specs.Streams.{OnlyReads, Reads};
+ghost use Rattle.ks_outside.specs.InMemory.{source_stream};
 
 use crate::calls::Calls;
 use crate::{Failed, Source, Stream};
@@ -19,9 +20,9 @@ pub struct MemorySource {
 
 impl Model for MemorySource {
     ghost use Rattle.std.specs.Prelude.{◌<◌, ◌≤◌, length, drop};
-    ghost use Rattle.ks_outside.specs.States.{SourceState};
+    ghost use Rattle.ks_outside.specs.InMemory.{MemorySourceState};
 
-    ghost Value = { SourceState };
+    ghost Value = { MemorySourceState };
 
     ghost view = { λ s. record { left = drop s.at s.bytes.items; calls = s.calls.made; failing = s.calls.failing.items; longest = s.longest; faults = s.calls.faults } };
 
@@ -50,13 +51,7 @@ impl MemorySource {
 }
 
 impl Stream for MemorySource {
-    ghost left = { λ s. Some s.left };
-
-    ghost written = { λ _. untold };
-
-    ghost read_faults = { λ s. s.faults };
-
-    ghost write_faults = { λ _. no_faults };
+    ghost stream = { source_stream };
 }
 
 impl Source for MemorySource {
@@ -66,10 +61,7 @@ impl Source for MemorySource {
         requires { 0 < length into.old }
         ensures within { IfOk result (λ n. n ≤ length into.old) }
         ensures told { (bytes : List ℕ) → Some self.old.left ≡ Some bytes → Reads bytes (Some self.new.left) into.new result }
-        ensures count { self.old.faults ≤ self.new.faults }
-        ensures failed { IsErr result → Rose self.old.faults self.new.faults }
-        ensures written_kept { untold ≡ untold }
-        ensures writes_kept { no_faults ≡ no_faults }
+        ensures reads { OnlyReads (IsErr result) (source_stream self.old) (source_stream self.new) }
 
         ensures fails { IsErr result ↔ Contains self.old.failing (self.old.calls + 1) }
         ensures came { IfOk result (λ n. n ≡ min (min self.old.longest (length into.old)) (length self.old.left)) }

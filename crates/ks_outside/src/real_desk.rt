@@ -1,8 +1,6 @@
-ghost use Rattle.std.specs.Prelude.{◌≡◌, ◌+◌, ◌<◌, ◌≤◌, ◌++◌, ◌∷◌, [], ℕ, List, Some, None, is_ok, IsErr, IfOk, IfSome, OnOk, if◌then◌else◌};
-ghost use Rattle.ks_base.specs.declared.receipt.Receipt.{Receipt};
-ghost use Rattle.ks_outside.specs.Counts.{Rose, next_count};
-ghost use Rattle.ks_outside.specs.Desks.{Accepts, Fills, next_reading, later_readings, untold_desk};
-ghost use Rattle.ks_outside.specs.States.{LinkFaults};
+ghost use Rattle.std.specs.Prelude.{◌≡◌, Some, is_ok, IsErr, IfOk, if◌then◌else◌};
+ghost use Rattle.ks_outside.specs.Counts.{Counts, next_count};
+ghost use Rattle.ks_outside.specs.Real.{untold_desk};
 
 use crate::{Desk, Failed, TcpLink};
 use ks_base::{Memory, Receipt};
@@ -26,7 +24,7 @@ pub struct RealDesk<'a, R> {
 }
 
 impl<'a, R> Model for RealDesk<'a, R> {
-    ghost use Rattle.ks_outside.specs.Desks.{RealDeskState};
+    ghost use Rattle.ks_outside.specs.Real.{RealDeskState};
 
     ghost Value = { RealDeskState };
 
@@ -56,13 +54,7 @@ impl<R: Clock + RandomSource> Desk for RealDesk<'_, R> {
     /// Waits for the next connection. One that ended before it was accepted is passed over; every other
     /// error is a fault.
     fn accept(&mut self) -> Result<Option<TcpLink>, Failed>
-        ensures told { (coming : List LinkFaults) → None ≡ Some coming → Accepts coming None result }
-        ensures room { IfOk result (λ link. IfSome link (λ _. 0 < 1)) }
-        ensures room_kept { 1 ≤ 1 }
-        ensures kept { untold_desk self.new ≡ record (untold_desk self.old) { coming = None; link_room = 1; accept_faults = self.new.accept_faults } }
-        ensures count { self.old.accept_faults ≤ self.new.accept_faults }
-        ensures failed { IsErr result → Rose self.old.accept_faults self.new.accept_faults }
-
+        ensures faults { Counts (IsErr result) self.old.accept_faults self.new.accept_faults }
         // There is always a link or a fault, and the count rises at a fault alone.
         ensures some { IfOk result (λ link. link ≡ Some (record { reads = 0; writes = 0 })) }
         ensures exact { self.new ≡ record self.old { accept_faults = (if is_ok result then self.old.accept_faults else next_count self.old.accept_faults) } }
@@ -78,11 +70,6 @@ impl<R: Clock + RandomSource> Desk for RealDesk<'_, R> {
 
     /// Closes the connection.
     fn give_back(&mut self, link: TcpLink)
-        requires { 0 < 1 }
-        ensures told { (returned : List LinkFaults) → None ≡ Some returned → None ≡ Some (returned ++ link ∷ []) }
-        ensures room { 1 ≤ 1 + 1 }
-        ensures kept { untold_desk self.new ≡ record (untold_desk self.old) { returned = None; link_room = 1 } }
-
         ensures exact { self.new ≡ self.old }
     {
         drop(link);
@@ -90,9 +77,6 @@ impl<R: Clock + RandomSource> Desk for RealDesk<'_, R> {
 
     /// The clock, or the last reading again, at first 0, where it can't be read or stands before 1970.
     fn reading(&mut self) -> u64
-        ensures told { (readings : List ℕ) → None ≡ Some readings → (result ≡ next_reading readings) × (None ≡ Some (later_readings readings)) }
-        ensures kept { untold_desk self.new ≡ record (untold_desk self.old) { readings = None } }
-
         ensures last { self.new ≡ record self.old { last = result } }
     {
         if let Some(seconds) = seconds_since_1970(self.rt) {
@@ -103,11 +87,7 @@ impl<R: Clock + RandomSource> Desk for RealDesk<'_, R> {
 
     /// Fills from the random source of the system, whose every error is a fault.
     fn fill(&mut self, into: &mut [u8]) -> Result<(), Failed>
-        ensures told { (bytes : List ℕ) → None ≡ Some bytes → Fills bytes None into.new result }
-        ensures kept { untold_desk self.new ≡ record (untold_desk self.old) { random = None; fill_faults = self.new.fill_faults } }
-        ensures count { self.old.fill_faults ≤ self.new.fill_faults }
-        ensures failed { IsErr result → Rose self.old.fill_faults self.new.fill_faults }
-
+        ensures faults { Counts (IsErr result) self.old.fill_faults self.new.fill_faults }
         // The count rises at a fault alone.
         ensures exact { self.new ≡ record self.old { fill_faults = (if is_ok result then self.old.fill_faults else next_count self.old.fill_faults) } }
     {
@@ -122,10 +102,6 @@ impl<R: Clock + RandomSource> Desk for RealDesk<'_, R> {
 
     /// There is always room, since no receipt is kept.
     fn ready(&mut self) -> Result<(), Memory>
-        ensures ok { OnOk result (0 < 1) }
-        ensures room { 1 ≤ 1 }
-        ensures kept { untold_desk self.new ≡ record (untold_desk self.old) { receipt_room = 1 } }
-
         ensures exact { self.new ≡ self.old }
     {
         Ok(())
@@ -133,11 +109,6 @@ impl<R: Clock + RandomSource> Desk for RealDesk<'_, R> {
 
     /// Drops the receipt.
     fn note(&mut self, receipt: Receipt)
-        requires { 0 < 1 }
-        ensures told { (receipts : List Receipt) → None ≡ Some receipts → None ≡ Some (receipts ++ receipt ∷ []) }
-        ensures room { 1 ≤ 1 + 1 }
-        ensures kept { untold_desk self.new ≡ record (untold_desk self.old) { receipts = None; receipt_room = 1 } }
-
         ensures exact { self.new ≡ self.old }
     {
         drop(receipt);

@@ -1,7 +1,8 @@
 ghost use Rattle.std.specs.Prelude.{◌≡◌, ◌<◌, ◌≤◌, ◌++◌, ◌==◌, ℕ, List, Option, Some, length, IsErr, IfOk, OnErr, if◌then◌else◌};
 ghost use Rattle.std.specs.Io.KnownBytes.{WriteAppends};
-ghost use Rattle.ks_outside.specs.Counts.{Rose, next_count, no_faults};
-ghost use Rattle.ks_outside.specs.Streams.{taken, untold};
+ghost use Rattle.ks_outside.specs.Counts.{next_count};
+ghost use Rattle.ks_outside.specs.Streams.{OnlyWrites, TookNone};
+ghost use Rattle.ks_outside.specs.Real.{writer_stream};
 
 use crate::{Failed, Sink, Stream};
 use std::io::{ErrorKind, Write};
@@ -17,9 +18,9 @@ pub struct RealSink<W> {
 }
 
 impl<W> Model for RealSink<W> {
-    ghost use Rattle.ks_outside.specs.States.{RealState};
+    ghost use Rattle.ks_outside.specs.Real.{RealEndState};
 
-    ghost Value = { RealState W };
+    ghost Value = { RealEndState W };
 
     ghost view = { λ s. record { under = s.writer; faults = s.faults } };
 }
@@ -34,13 +35,7 @@ impl<W> RealSink<W> {
 }
 
 impl<W> Stream for RealSink<W> {
-    ghost left = { λ _. untold };
-
-    ghost written = { λ _. untold };
-
-    ghost read_faults = { λ _. no_faults };
-
-    ghost write_faults = { λ s. s.faults };
+    ghost stream = { writer_stream };
 }
 
 impl<W: Write> Sink for RealSink<W> {
@@ -49,12 +44,7 @@ impl<W: Write> Sink for RealSink<W> {
     fn write(&mut self, piece: &[u8]) -> Result<usize, Failed>
         requires { 0 < length piece.now }
         ensures within { IfOk result (λ n. n ≤ length piece.now) }
-        ensures told { (before : List ℕ) → untold ≡ Some before → untold ≡ Some (before ++ taken piece.now result) }
-        ensures count { self.old.faults ≤ self.new.faults }
-        ensures failed { IsErr result → Rose self.old.faults self.new.faults }
-        ensures stuck { result ≡ Ok 0 → Rose self.old.faults self.new.faults }
-        ensures left_kept { untold ≡ untold }
-        ensures reads_kept { no_faults ≡ no_faults }
+        ensures writes { OnlyWrites (TookNone result) (writer_stream self.old) (writer_stream self.new) }
 
         // The count rises at a fault alone. What the writer itself tells is what was written to it.
         ensures ok { IfOk result (λ n. self.new.faults ≡ (if n == 0 then next_count self.old.faults else self.old.faults)) }

@@ -1,7 +1,8 @@
 ghost use Rattle.std.specs.Prelude.{◌≡◌, ◌<◌, ◌≤◌, ℕ, List, Option, Some, length, is_ok, IsErr, IfOk, if◌then◌else◌};
 ghost use Rattle.std.specs.Io.KnownBytes.{ReadConsumes};
-ghost use Rattle.ks_outside.specs.Counts.{Rose, next_count, no_faults};
-ghost use Rattle.ks_outside.specs.Streams.{Reads, untold};
+ghost use Rattle.ks_outside.specs.Counts.{next_count};
+ghost use Rattle.ks_outside.specs.Streams.{OnlyReads};
+ghost use Rattle.ks_outside.specs.Real.{reader_stream};
 
 use crate::{Failed, Source, Stream};
 use std::io::{ErrorKind, Read};
@@ -16,9 +17,9 @@ pub struct RealSource<R> {
 }
 
 impl<R> Model for RealSource<R> {
-    ghost use Rattle.ks_outside.specs.States.{RealState};
+    ghost use Rattle.ks_outside.specs.Real.{RealEndState};
 
-    ghost Value = { RealState R };
+    ghost Value = { RealEndState R };
 
     ghost view = { λ s. record { under = s.reader; faults = s.faults } };
 }
@@ -33,13 +34,7 @@ impl<R> RealSource<R> {
 }
 
 impl<R> Stream for RealSource<R> {
-    ghost left = { λ _. untold };
-
-    ghost written = { λ _. untold };
-
-    ghost read_faults = { λ s. s.faults };
-
-    ghost write_faults = { λ _. no_faults };
+    ghost stream = { reader_stream };
 }
 
 impl<R: Read> Source for RealSource<R> {
@@ -48,11 +43,7 @@ impl<R: Read> Source for RealSource<R> {
     fn read(&mut self, into: &mut [u8]) -> Result<usize, Failed>
         requires { 0 < length into.old }
         ensures within { IfOk result (λ n. n ≤ length into.old) }
-        ensures told { (bytes : List ℕ) → untold ≡ Some bytes → Reads bytes untold into.new result }
-        ensures count { self.old.faults ≤ self.new.faults }
-        ensures failed { IsErr result → Rose self.old.faults self.new.faults }
-        ensures written_kept { untold ≡ untold }
-        ensures writes_kept { no_faults ≡ no_faults }
+        ensures reads { OnlyReads (IsErr result) (reader_stream self.old) (reader_stream self.new) }
 
         // The count rises at a fault alone. What the reader itself tells is what was read from it.
         ensures exact { self.new.faults ≡ (if is_ok result then self.old.faults else next_count self.old.faults) }

@@ -1,6 +1,7 @@
 ghost use Rattle.std.specs.Prelude.{◌≡◌, ◌<◌, ◌≤◌, ◌++◌, ◌==◌, ℕ, List, Some, length, is_ok, IsErr, IfOk, OnErr, if◌then◌else◌};
-ghost use Rattle.ks_outside.specs.Counts.{Rose, next_count};
-ghost use Rattle.ks_outside.specs.Streams.{Reads, taken, untold};
+ghost use Rattle.ks_outside.specs.Counts.{next_count};
+ghost use Rattle.ks_outside.specs.Streams.{OnlyReads, OnlyWrites, TookNone};
+ghost use Rattle.ks_outside.specs.Real.{untold_stream};
 
 use crate::real_sink::write_uninterrupted;
 use crate::real_source::read_uninterrupted;
@@ -18,9 +19,9 @@ pub struct TcpLink {
 }
 
 impl Model for TcpLink {
-    ghost use Rattle.ks_outside.specs.States.{LinkFaults};
+    ghost use Rattle.ks_outside.specs.Real.{RealLinkState};
 
-    ghost Value = { LinkFaults };
+    ghost Value = { RealLinkState };
 
     ghost view = { λ l. record { reads = l.read_faults; writes = l.write_faults } };
 }
@@ -39,13 +40,7 @@ impl TcpLink {
 }
 
 impl Stream for TcpLink {
-    ghost left = { λ _. untold };
-
-    ghost written = { λ _. untold };
-
-    ghost read_faults = { λ l. l.reads };
-
-    ghost write_faults = { λ l. l.writes };
+    ghost stream = { untold_stream };
 }
 
 impl Source for TcpLink {
@@ -54,11 +49,7 @@ impl Source for TcpLink {
     fn read(&mut self, into: &mut [u8]) -> Result<usize, Failed>
         requires { 0 < length into.old }
         ensures within { IfOk result (λ n. n ≤ length into.old) }
-        ensures told { (bytes : List ℕ) → untold ≡ Some bytes → Reads bytes untold into.new result }
-        ensures count { self.old.reads ≤ self.new.reads }
-        ensures failed { IsErr result → Rose self.old.reads self.new.reads }
-        ensures written_kept { untold ≡ untold }
-        ensures writes_kept { self.new.writes ≡ self.old.writes }
+        ensures reads { OnlyReads (IsErr result) (untold_stream self.old) (untold_stream self.new) }
 
         // The count rises at a fault alone.
         ensures exact { self.new ≡ record self.old { reads = (if is_ok result then self.old.reads else next_count self.old.reads) } }
@@ -77,12 +68,7 @@ impl Sink for TcpLink {
     fn write(&mut self, piece: &[u8]) -> Result<usize, Failed>
         requires { 0 < length piece.now }
         ensures within { IfOk result (λ n. n ≤ length piece.now) }
-        ensures told { (before : List ℕ) → untold ≡ Some before → untold ≡ Some (before ++ taken piece.now result) }
-        ensures count { self.old.writes ≤ self.new.writes }
-        ensures failed { IsErr result → Rose self.old.writes self.new.writes }
-        ensures stuck { result ≡ Ok 0 → Rose self.old.writes self.new.writes }
-        ensures left_kept { untold ≡ untold }
-        ensures reads_kept { self.new.reads ≡ self.old.reads }
+        ensures writes { OnlyWrites (TookNone result) (untold_stream self.old) (untold_stream self.new) }
 
         // The count rises at a fault alone.
         ensures ok { IfOk result (λ n. self.new ≡ record self.old { writes = (if n == 0 then next_count self.old.writes else self.old.writes) }) }

@@ -6,7 +6,7 @@ use Rattle.json.specs.Written.{Written, Writes}
 use Rattle.serde_json.specs.Data.{Data}
 use Rattle.serde_json.specs.Written.{compact_text}
 use Rattle.serde_json.proofs.Texts.{print-outline}
-use Rattle.ks_render.specs.Writing.{Adds, Tells}
+use Rattle.ks_render.specs.steps.Writing.{Adds, Tells}
 
 pub one : {E : Type 0} {u : Unit {0}} {old new : Written} {t : Token} → Writes {E = E} (Ok u) old new t → Adds old new (t ∷ [])
 one w = record { before = w.room.0; tokens = w.ok }

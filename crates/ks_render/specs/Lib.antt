@@ -1,3 +1,5 @@
-pub mod Answers
+-- What the public contracts mean, in the order in which it is read: the bodies of responses, and the responses
+-- that tell replies. Of `steps` only private clauses speak.
 pub mod Bodies
-pub mod Writing
+pub mod Answers
+pub mod steps

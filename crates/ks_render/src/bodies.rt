@@ -3,7 +3,7 @@ ghost use Rattle.json.specs.Token.{key, string};
 ghost use Rattle.serde_json.specs.Written.{compact_text};
 ghost use Rattle.ks_render.specs.Bodies.{error_body, self_links, media_types, version_body};
 ghost use Rattle.ks_render.specs.Answers.{is_granted_told, is_cause_told, is_told, granted_body, refused_body, body_of, bad_body};
-ghost use Rattle.ks_render.specs.Writing.{Adds, Tells};
+ghost use Rattle.ks_render.specs.steps.Writing.{Adds, Tells};
 
 use crate::status::{message_of_bad, message_of_cause, status_of_bad, status_of_cause};
 use json::Writer;

@@ -6,8 +6,6 @@ mod fields;
 mod laws;
 mod responses;
 mod status;
-#[cfg(test)]
-mod tests;
 
 pub use laws::{head_has_no_body, memory_ends_the_connection, version_document};
 pub use responses::{render, render_bad};

@@ -1,6 +1,5 @@
 -- The patterns of paths.
-use Rattle.std.specs.Prelude.{ℕ, Bool, true, false, not, ◌&&◌, ◌||◌, ◌==◌, if◌then◌else◌, nat_lt, nat_le, List, [], ◌∷◌, length, map, Option, Some, None}
-use Rattle.std.specs.Borrow.{Bor}
+use Rattle.std.specs.Prelude.{ℕ, Bool, true, false, not, ◌&&◌, ◌||◌, ◌==◌, if◌then◌else◌, nat_lt, nat_le, List, [], ◌∷◌, length, map}
 use Rattle.std.specs.List.{list_all, slice_split}
 use Rattle.std.specs.Str.{bytes_eq}
 use Rattle.ks_base.specs.Ids.{is_id_byte}
@@ -8,11 +7,6 @@ use Rattle.ks_base.specs.Ids.{is_id_byte}
 -- the segments of a text: what stands between its slashes, before the first and behind the last
 abbrev pub segments : List ℕ → List (List ℕ)
 segments text = slice_split (λ b. b == 47) text
-
--- the segments of what is left of a text
-abbrev pub left_of : Option (Bor (List ℕ)) → List (List ℕ)
-left_of (Some text) = segments text.now
-left_of None = []
 
 -- a part of a pattern is a text, or stands for any id
 pub data Part : Type 0 where

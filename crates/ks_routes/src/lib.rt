@@ -11,9 +11,12 @@ mod routed;
 mod routes;
 mod segments;
 mod table;
-#[cfg(test)]
-mod tests;
 mod tree;
 
+pub use action::Action;
+pub use methods::Methods;
+pub use route::{Route, find};
 pub use routed::{Routed, command};
 pub use routes::Routes;
+pub use table::rows;
+pub use tree::{find_by, guess, plant};

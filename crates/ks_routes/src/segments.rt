@@ -1,6 +1,7 @@
 ghost use Rattle.std.specs.Prelude.{◌≡◌, [], ◌∷◌, MatchOption, ◌==◌};
 ghost use Rattle.std.specs.List.{position};
-ghost use Rattle.ks_routes.specs.Patterns.{segments, left_of};
+ghost use Rattle.ks_routes.specs.Patterns.{segments};
+ghost use Rattle.ks_routes.specs.steps.Segments.{left_of};
 
 use std::marker::Model;
 
@@ -15,7 +16,7 @@ pub struct Segments<'a> {
 
 impl<'a> Model for Segments<'a> {
     ghost use Rattle.std.specs.Prelude.{ℕ, List};
-    ghost use Rattle.ks_routes.specs.Patterns.{left_of};
+    ghost use Rattle.ks_routes.specs.steps.Segments.{left_of};
 
     ghost Value = { List (List ℕ) };
 

@@ -9,7 +9,7 @@ use Rattle.ks_top.specs.declared.checker.Place.{Place}
 use Rattle.ks_top.specs.declared.checker.Checker.{Checker}
 use Rattle.ks_top.specs.Lines.{IsInLine, lines_of}
 use Rattle.ks_top.specs.Check.{End, Checked, check_of, Whole, BadLine, steps_of, check_from, bad_line, onto, go_on}
-use Rattle.ks_top.specs.Progress.{Holds, EndsLine, WritesOut, Stands, StandsAtBadLine, StandsAtEnd, HoldsFront, Moves, Flushes, Finishes, IsAtStart, IsReading, StoppedReading, ReadsAll}
+use Rattle.ks_top.specs.steps.Progress.{Holds, EndsLine, WritesOut, Stands, StandsAtBadLine, StandsAtEnd, HoldsFront, Moves, Flushes, Finishes, IsAtStart, IsReading, StoppedReading, ReadsAll}
 use Rattle.ks_top.specs.Ending.{IsCutShort, EndsCheck}
 use Rattle.ks_outside.specs.declared.failed.Failed.{Failed}
 use Rattle.ks_outside.specs.Streams.{Begins}

@@ -13,7 +13,8 @@ use Rattle.ks_http.specs.Responses.{memory_response}
 use Rattle.ks_render.specs.Answers.{wire_bad}
 use Rattle.ks_top.specs.declared.fault.Fault.{Fault}
 use Rattle.ks_top.specs.declared.fault.Fault.TheVariants as fault
-use Rattle.ks_top.specs.Talk.{answer_to, answers_to, ends_with, last_word, Talked, ReadShort, IsNextWord, refusal, cut as cut_word, memory, WroteShort, EndsTalk, Writes, GivesUp, StandsBehind}
+use Rattle.ks_top.specs.Talk.{answer_to, answers_to, ends_with, last_word, Talked, ReadShort, IsNextWord, refusal, cut as cut_word, memory, WroteShort, EndsTalk}
+use Rattle.ks_top.specs.steps.Talking.{Writes, GivesUp, StandsBehind}
 
 pub answers_more : (count : ℕ) (requests : List Request) (request : Request) →
     answers_to count (requests ++ request ∷ []) ≡ answers_to count requests ++ answer_to (count + length requests) request

@@ -1,5 +1,5 @@
 -- What `check` writes for its input, and how it ends.
-use Rattle.std.specs.Prelude.{ℕ, ◌+◌, ◌==◌, nat_lt, nat_le, ◌||◌, if◌then◌else◌, List, [], ◌∷◌, ◌++◌, length, Option, Some, None, Result, Ok, Err, codes}
+use Rattle.std.specs.Prelude.{false, ℕ, ◌+◌, ◌==◌, nat_lt, nat_le, ◌||◌, if◌then◌else◌, List, [], ◌∷◌, ◌++◌, length, Option, Some, None, Result, Ok, Err, codes}
 use Rattle.std.specs.Option.{option_map}
 use Rattle.hex.specs.Hex.{encode_lower}
 use Rattle.ks_base.specs.declared.key.Key.{Key}
@@ -37,7 +37,7 @@ answer_line (Err why) = codes "refused " ++ (name_of why ++ codes "\n")
 
 -- the one key is tried, and then the lines of the token's validity that need no tables
 abbrev pub answer_of : Key → ℕ → List ℕ → List ℕ
-answer_of key moment token = answer_line (token_lines life moment (first_opened (key ∷ []) token))
+answer_of key moment token = answer_line (token_lines life moment false (first_opened (key ∷ []) token))
 
 abbrev pub behind : Place → Key → ℕ → List ℕ → Step
 behind place key moment output = record { output = output; place = record { lines = place.lines + 1; key = Some key; moment = moment } }

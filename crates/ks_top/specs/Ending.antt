@@ -22,8 +22,10 @@ EndsCheck input before left written (Ok done) =
     (written ≡ Some (before ++ (check_of input).output)) × ((check_of input).end ≡ Whole) × (left ≡ Some [])
 EndsCheck input before left written (Err (fault.BadLine n)) =
     (written ≡ Some (before ++ (check_of input).output)) × ((check_of input).end ≡ BadLine n)
+EndsCheck input before left written (Err fault.Read) = IsCutShort input before left written
+EndsCheck input before left written (Err fault.Write) = IsCutShort input before left written
+EndsCheck input before left written (Err fault.Memory) = IsCutShort input before left written
 EndsCheck input before left written (Err fault.Usage) = ⊥
-EndsCheck input before left written (Err other) = IsCutShort input before left written
 
 -- there was no memory to read the words of the command line: nothing was read, and nothing written
 abbrev pub HasNotBegun : List ℕ → List ℕ → Option (List ℕ) → Option (List ℕ) → Result (Unit {0}) Fault → Type 0

@@ -22,7 +22,7 @@ pub fn answer(
     ensures err { OnErr result (answers.new.items ≡ answers.old.items) }
 {
     let said = first_answer(alloc, &[*key], token)?;
-    push_line(alloc, answers, &token_lines(LIFE, moment, said))
+    push_line(alloc, answers, &token_lines(LIFE, moment, false, said))
 }
 
 fn push_line(alloc: Global, answers: &mut Vec<u8>, said: &Result<Held, Why>) -> Result<(), Memory>

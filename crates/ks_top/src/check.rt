@@ -1,5 +1,5 @@
 ghost use Rattle.std.specs.Prelude.{◌≡◌, ◌≢◌, ◌≤◌, ℕ, List, Some, Err, IsErrOf, IfOk, ◌<◌, length};
-ghost use Rattle.ks_outside.specs.Counts.{Rose};
+ghost use Rattle.ks_outside.specs.Streams.{OnlyReads, OnlyWrites};
 ghost use Rattle.ks_top.specs.Ending.{EndsCheck};
 
 use crate::checker::{Checker, PIECE};
@@ -10,12 +10,10 @@ use std::alloc::{AllocError, Global};
 /// Checks the tokens of an input: reads the key of line 1 and answers each later line on the output.
 /// Lines before a bad line are answered, and so are those before a fault of the input.
 pub fn check<S: Source, K: Sink>(alloc: Global, input: &mut S, output: &mut K) -> Result<(), Fault>
-    ensures told { (text before : List ℕ) → S.left input.old ≡ Some text → K.written output.old ≡ Some before → EndsCheck text before (S.left input.new) (K.written output.new) result }
+    ensures told { (text before : List ℕ) → (S.stream input.old).left ≡ Some text → (K.stream output.old).written ≡ Some before → EndsCheck text before (S.stream input.new).left (K.stream output.new).written result }
     ensures usage { result ≢ Err Fault.Usage }
-    ensures reads { S.read_faults input.old ≤ S.read_faults input.new }
-    ensures read { IsErrOf result Fault.Read → Rose (S.read_faults input.old) (S.read_faults input.new) }
-    ensures writes { K.write_faults output.old ≤ K.write_faults output.new }
-    ensures write { IsErrOf result Fault.Write → Rose (K.write_faults output.old) (K.write_faults output.new) }
+    ensures reads { OnlyReads (IsErrOf result Fault.Read) (S.stream input.old) (S.stream input.new) }
+    ensures writes { OnlyWrites (IsErrOf result Fault.Write) (K.stream output.old) (K.stream output.new) }
 {
     let Ok(mut piece) = room(alloc) else {
         return Err(Fault::Memory);

@@ -43,7 +43,7 @@ pub struct Checker {
 
 impl Place {
     ghost use Rattle.ks_top.specs.Check.{step_of, keyed_step};
-    ghost use Rattle.ks_top.specs.Progress.{Takes};
+    ghost use Rattle.ks_top.specs.steps.Progress.{Takes};
 
     /// Before the first line.
     const START: Place = Place {
@@ -120,10 +120,10 @@ impl Place {
 
 impl Checker {
     ghost use Rattle.std.specs.Prelude.{◌≡◌, ◌≢◌, ◌+◌, ◌<◌, ◌≤◌, ◌++◌, ◌⊎◌, ℕ, List, [], Option, IfOk, OnOk, length, IsErr, IsErrOf, Some, Err};
-    ghost use Rattle.ks_outside.specs.Counts.{Rose};
+    ghost use Rattle.ks_outside.specs.Streams.{OnlyReads, OnlyWrites};
     ghost use Rattle.ks_top.specs.Lines.{IsInLine};
     ghost use Rattle.ks_top.specs.Check.{Checked};
-    ghost use Rattle.ks_top.specs.Progress.{IsAtStart, EndsLine, Holds, WritesOut, Stands, Moves, Flushes, Finishes, ReadsAll, bytes_read};
+    ghost use Rattle.ks_top.specs.steps.Progress.{IsAtStart, EndsLine, Holds, WritesOut, Stands, Moves, Flushes, Finishes, ReadsAll, bytes_read};
     ghost use Rattle.ks_top.specs.Ending.{EndsCheck};
 
     /// Before the first byte.
@@ -179,10 +179,9 @@ impl Checker {
 
     /// Writes the answers in hand.
     fn write_out<K: Sink>(&mut self, output: &mut K) -> Result<(), Failed>
-        ensures told { (before : List ℕ) → K.written output.old ≡ Some before → WritesOut self.old result self.new (K.written output.new) before }
+        ensures told { (before : List ℕ) → (K.stream output.old).written ≡ Some before → WritesOut self.old result self.new (K.stream output.new).written before }
         ensures bytes { bytes_read self.new ≡ bytes_read self.old }
-        ensures count { K.write_faults output.old ≤ K.write_faults output.new }
-        ensures failed { IsErr result → Rose (K.write_faults output.old) (K.write_faults output.new) }
+        ensures writes { OnlyWrites (IsErr result) (K.stream output.old) (K.stream output.new) }
     {
         write_all(output, self.answers.as_slice())?;
         self.answers.clear();
@@ -191,10 +190,9 @@ impl Checker {
 
     /// Writes the answers in hand, where they have become many.
     fn write_many<K: Sink>(&mut self, output: &mut K) -> Result<(), Failed>
-        ensures moves { (whole : List ℕ → Checked) (rest before : List ℕ) → Stands whole rest self.old (K.written output.old) before → Flushes whole rest result self.new (K.written output.new) before }
+        ensures moves { (whole : List ℕ → Checked) (rest before : List ℕ) → Stands whole rest self.old (K.stream output.old).written before → Flushes whole rest result self.new (K.stream output.new).written before }
         ensures bytes { bytes_read self.new ≡ bytes_read self.old }
-        ensures count { K.write_faults output.old ≤ K.write_faults output.new }
-        ensures failed { IsErr result → Rose (K.write_faults output.old) (K.write_faults output.new) }
+        ensures writes { OnlyWrites (IsErr result) (K.stream output.old) (K.stream output.new) }
     {
         if self.answers.len() < PIECE {
             return Ok(());
@@ -212,10 +210,9 @@ impl Checker {
     ) -> Result<(), Fault>
         ensures usage { result ≢ Err Fault.Usage }
         ensures reads { result ≢ Err Fault.Read }
-        ensures moves { (whole : List ℕ → Checked) (before : List ℕ) → Stands whole piece.now self.old (K.written output.old) before → Moves whole [] result self.new (K.written output.new) before }
+        ensures moves { (whole : List ℕ → Checked) (before : List ℕ) → Stands whole piece.now self.old (K.stream output.old).written before → Moves whole [] result self.new (K.stream output.new).written before }
         ensures bytes { OnOk result (bytes_read self.old + length piece.now ≤ bytes_read self.new) }
-        ensures count { K.write_faults output.old ≤ K.write_faults output.new }
-        ensures failed { IsErrOf result Fault.Write → Rose (K.write_faults output.old) (K.write_faults output.new) }
+        ensures writes { OnlyWrites (IsErrOf result Fault.Write) (K.stream output.old) (K.stream output.new) }
     {
         let mut rest = piece;
         'lines: while let Some((line, behind)) = first_line(rest) {
@@ -261,11 +258,9 @@ impl Checker {
         requires fresh { IsAtStart self.old }
         requires room { 0 < length piece.old }
         ensures usage { result ≢ Err Fault.Usage }
-        ensures told { (text before : List ℕ) → S.left input.old ≡ Some text → K.written output.old ≡ Some before → ReadsAll text (S.left input.new) result self.new (K.written output.new) before }
-        ensures reads { S.read_faults input.old ≤ S.read_faults input.new }
-        ensures read { IsErrOf result Fault.Read → Rose (S.read_faults input.old) (S.read_faults input.new) }
-        ensures writes { K.write_faults output.old ≤ K.write_faults output.new }
-        ensures write { IsErrOf result Fault.Write → Rose (K.write_faults output.old) (K.write_faults output.new) }
+        ensures told { (text before : List ℕ) → (S.stream input.old).left ≡ Some text → (K.stream output.old).written ≡ Some before → ReadsAll text (S.stream input.new).left result self.new (K.stream output.new).written before }
+        ensures reads { OnlyReads (IsErrOf result Fault.Read) (S.stream input.old) (S.stream input.new) }
+        ensures writes { OnlyWrites (IsErrOf result Fault.Write) (K.stream output.old) (K.stream output.new) }
     {
         'reads: loop {
             let Ok(count) = input.read(piece) else {
@@ -278,17 +273,14 @@ impl Checker {
         }
     }
 
-    /// Writes the last answers, however the reading ended: but nothing may follow a failed write, since
-    /// what it took is not known.
+    /// Writes the last answers, however the reading ended but by a failed write: nothing may follow that,
+    /// since what it took is not known.
     fn close<K: Sink>(&mut self, ended: Result<(), Fault>, output: &mut K) -> Result<(), Fault>
-        ensures told { (text before : List ℕ) (left : Option (List ℕ)) → ReadsAll text left ended self.old (K.written output.old) before → EndsCheck text before left (K.written output.new) result }
+        requires { ended ≢ Err Fault.Write }
+        ensures told { (text before : List ℕ) (left : Option (List ℕ)) → ReadsAll text left ended self.old (K.stream output.old).written before → EndsCheck text before left (K.stream output.new).written result }
         ensures others { result ≡ Err Fault.Write ⊎ result ≡ ended }
-        ensures writes { K.write_faults output.old ≤ K.write_faults output.new }
-        ensures write { IsErrOf result Fault.Write → IsErrOf ended Fault.Write ⊎ Rose (K.write_faults output.old) (K.write_faults output.new) }
+        ensures writes { OnlyWrites (IsErrOf result Fault.Write) (K.stream output.old) (K.stream output.new) }
     {
-        if failed_to_write(&ended) {
-            return Err(Fault::Write);
-        }
         let Ok(()) = self.write_out(output) else {
             return Err(Fault::Write);
         };
@@ -305,14 +297,15 @@ impl Checker {
     ) -> Result<(), Fault>
         requires fresh { IsAtStart self.old }
         requires room { 0 < length piece.old }
-        ensures told { (text before : List ℕ) → S.left input.old ≡ Some text → K.written output.old ≡ Some before → EndsCheck text before (S.left input.new) (K.written output.new) result }
+        ensures told { (text before : List ℕ) → (S.stream input.old).left ≡ Some text → (K.stream output.old).written ≡ Some before → EndsCheck text before (S.stream input.new).left (K.stream output.new).written result }
         ensures usage { result ≢ Err Fault.Usage }
-        ensures reads { S.read_faults input.old ≤ S.read_faults input.new }
-        ensures read { IsErrOf result Fault.Read → Rose (S.read_faults input.old) (S.read_faults input.new) }
-        ensures writes { K.write_faults output.old ≤ K.write_faults output.new }
-        ensures write { IsErrOf result Fault.Write → Rose (K.write_faults output.old) (K.write_faults output.new) }
+        ensures reads { OnlyReads (IsErrOf result Fault.Read) (S.stream input.old) (S.stream input.new) }
+        ensures writes { OnlyWrites (IsErrOf result Fault.Write) (K.stream output.old) (K.stream output.new) }
     {
         let ended = self.read_all(alloc, input, output, piece);
+        if failed_to_write(&ended) {
+            return Err(Fault::Write);
+        }
         self.close(ended, output)
     }
 }

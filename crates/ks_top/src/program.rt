@@ -1,5 +1,5 @@
 ghost use Rattle.std.specs.Prelude.{◌≡◌, ◌⊎◌, ◌≤◌, ℕ, List, Some};
-ghost use Rattle.ks_outside.specs.Counts.{Rose};
+ghost use Rattle.ks_outside.specs.Streams.{OnlyReads, OnlyWrites};
 ghost use Rattle.ks_setup.specs.Words.{words_of};
 ghost use Rattle.ks_setup.specs.declared.words.Places.{Places};
 ghost use Rattle.ks_setup.specs.declared.words.Words.TheVariants as asked;
@@ -80,17 +80,15 @@ pub fn run<R: AllocGlobal, S: Source, K: Sink>(
     ensures status { result.status ≡ status_of result.fault }
     ensures usage { result.fault ≡ Some Fault.Usage → words_of words.now ≡ asked.Usage }
     ensures refused { words_of words.now ≡ asked.Usage → (result.fault ≡ Some Fault.Usage) ⊎ (result.fault ≡ Some Fault.Memory) }
-    ensures unread { words_of words.now ≡ asked.Usage → (S.left input.new ≡ S.left input.old) × (K.written output.new ≡ K.written output.old) }
-    ensures told { (text before : List ℕ) → words_of words.now ≡ asked.Check → S.left input.old ≡ Some text → K.written output.old ≡ Some before →
-        EndsCheck text before (S.left input.new) (K.written output.new) (result_of result.fault) }
-    ensures talked { (places : Places) (text before : List ℕ) → words_of words.now ≡ asked.Talk places → S.left input.old ≡ Some text →
-        K.written output.old ≡ Some before →
-        EndsTalk text before (S.left input.new) (K.written output.new) (result_of result.fault)
-        ⊎ HasNotBegun text before (S.left input.new) (K.written output.new) (result_of result.fault) }
-    ensures reads { S.read_faults input.old ≤ S.read_faults input.new }
-    ensures read { result.fault ≡ Some Fault.Read → Rose (S.read_faults input.old) (S.read_faults input.new) }
-    ensures writes { K.write_faults output.old ≤ K.write_faults output.new }
-    ensures write { result.fault ≡ Some Fault.Write → Rose (K.write_faults output.old) (K.write_faults output.new) }
+    ensures unread { words_of words.now ≡ asked.Usage → ((S.stream input.new).left ≡ (S.stream input.old).left) × ((K.stream output.new).written ≡ (K.stream output.old).written) }
+    ensures told { (text before : List ℕ) → words_of words.now ≡ asked.Check → (S.stream input.old).left ≡ Some text → (K.stream output.old).written ≡ Some before →
+        EndsCheck text before (S.stream input.new).left (K.stream output.new).written (result_of result.fault) }
+    ensures talked { (places : Places) (text before : List ℕ) → words_of words.now ≡ asked.Talk places → (S.stream input.old).left ≡ Some text →
+        (K.stream output.old).written ≡ Some before →
+        EndsTalk text before (S.stream input.new).left (K.stream output.new).written (result_of result.fault)
+        ⊎ HasNotBegun text before (S.stream input.new).left (K.stream output.new).written (result_of result.fault) }
+    ensures reads { OnlyReads (result.fault ≡ Some Fault.Read) (S.stream input.old) (S.stream input.new) }
+    ensures writes { OnlyWrites (result.fault ≡ Some Fault.Write) (K.stream output.old) (K.stream output.new) }
 {
     match read_words(rt.alloc(), words) {
         Ok(Words::Check) => Ended::of(check(rt.alloc(), input, output)),

@@ -1,9 +1,10 @@
 ghost use Rattle.std.specs.Prelude.{◌≡◌, ◌≢◌, ◌≤◌, ◌<◌, ℕ, List, Some, Err, IsErr, IsErrOf, IfOk, IsTrue, ◌↔◌, ◌⊎◌};
-ghost use Rattle.ks_outside.specs.Counts.{Rose};
+ghost use Rattle.ks_outside.specs.Streams.{OnlyReads, OnlyWrites};
 ghost use Rattle.ks_machine.specs.declared.reply.Reply.TheVariants as reply;
 ghost use Rattle.ks_render.specs.Answers.{is_told, response_of, wire_bad};
 ghost use Rattle.ks_routes.specs.Routes.{command_of};
-ghost use Rattle.ks_top.specs.Talk.{EndsTalk, GivesUp, Writes, default_url, ends_with, is_head, reply_of, reply_to, response_to};
+ghost use Rattle.ks_top.specs.Talk.{EndsTalk, default_url, ends_with, is_head, reply_of, reply_to, response_to};
+ghost use Rattle.ks_top.specs.steps.Talking.{GivesUp, Writes};
 
 use crate::fault::Fault;
 use ks_base::{Memory, Method, Text};
@@ -21,12 +22,10 @@ const MOST_REQUESTS: u32 = 1_000_000;
 /// with the input, with a request that asks for it or is the 1,000,000th, or with bytes that are no
 /// request, which are answered too.
 pub fn talk<S: Source, K: Sink>(alloc: Global, input: &mut S, output: &mut K) -> Result<(), Fault>
-    ensures told { (text before : List ℕ) → S.left input.old ≡ Some text → K.written output.old ≡ Some before → EndsTalk text before (S.left input.new) (K.written output.new) result }
+    ensures told { (text before : List ℕ) → (S.stream input.old).left ≡ Some text → (K.stream output.old).written ≡ Some before → EndsTalk text before (S.stream input.new).left (K.stream output.new).written result }
     ensures usage { result ≢ Err Fault.Usage }
-    ensures reads { S.read_faults input.old ≤ S.read_faults input.new }
-    ensures read { IsErrOf result Fault.Read → Rose (S.read_faults input.old) (S.read_faults input.new) }
-    ensures writes { K.write_faults output.old ≤ K.write_faults output.new }
-    ensures write { IsErrOf result Fault.Write → Rose (K.write_faults output.old) (K.write_faults output.new) }
+    ensures reads { OnlyReads (IsErrOf result Fault.Read) (S.stream input.old) (S.stream input.new) }
+    ensures writes { OnlyWrites (IsErrOf result Fault.Write) (K.stream output.old) (K.stream output.new) }
 {
     let Ok(mut reader) = Reader::new(alloc) else {
         return Err(give_up(output));
@@ -97,10 +96,9 @@ impl Server {
         output: &mut K,
     ) -> Result<(), Fault>
         requires { self.now.url ≡ default_url }
-        ensures told { (before : List ℕ) → K.written output.old ≡ Some before → Writes (response_to request.now last) before (K.written output.new) result }
+        ensures told { (before : List ℕ) → (K.stream output.old).written ≡ Some before → Writes (response_to request.now last) before (K.stream output.new).written result }
         ensures others { IsErr result → IsErrOf result Fault.Write ⊎ IsErrOf result Fault.Memory }
-        ensures writes { K.write_faults output.old ≤ K.write_faults output.new }
-        ensures write { IsErrOf result Fault.Write → Rose (K.write_faults output.old) (K.write_faults output.new) }
+        ensures writes { OnlyWrites (IsErrOf result Fault.Write) (K.stream output.old) (K.stream output.new) }
     {
         let routed = self.routes.command(alloc, request);
         if let Routed::Memory = routed {
@@ -158,10 +156,9 @@ fn reply(routed: Routed) -> Reply
 
 /// Writes the response to bytes that are no request.
 fn refuse<K: Sink>(alloc: Global, cause: HttpCause, output: &mut K) -> Result<(), Fault>
-    ensures told { (before : List ℕ) → K.written output.old ≡ Some before → Writes (wire_bad cause) before (K.written output.new) result }
+    ensures told { (before : List ℕ) → (K.stream output.old).written ≡ Some before → Writes (wire_bad cause) before (K.stream output.new).written result }
     ensures others { IsErr result → IsErrOf result Fault.Write ⊎ IsErrOf result Fault.Memory }
-    ensures writes { K.write_faults output.old ≤ K.write_faults output.new }
-    ensures write { IsErrOf result Fault.Write → Rose (K.write_faults output.old) (K.write_faults output.new) }
+    ensures writes { OnlyWrites (IsErrOf result Fault.Write) (K.stream output.old) (K.stream output.new) }
 {
     let Ok(response) = render_bad(alloc, &cause) else {
         return Err(give_up(output));
@@ -174,10 +171,9 @@ fn refuse<K: Sink>(alloc: Global, cause: HttpCause, output: &mut K) -> Result<()
 
 /// Writes the response that says that there is no memory, which takes none.
 fn give_up<K: Sink>(output: &mut K) -> Fault
-    ensures told { (before : List ℕ) → K.written output.old ≡ Some before → GivesUp before (K.written output.new) result }
+    ensures told { (before : List ℕ) → (K.stream output.old).written ≡ Some before → GivesUp before (K.stream output.new).written result }
     ensures others { (result ≡ Fault.Write) ⊎ (result ≡ Fault.Memory) }
-    ensures writes { K.write_faults output.old ≤ K.write_faults output.new }
-    ensures write { result ≡ Fault.Write → Rose (K.write_faults output.old) (K.write_faults output.new) }
+    ensures writes { OnlyWrites (result ≡ Fault.Write) (K.stream output.old) (K.stream output.new) }
 {
     let Ok(()) = write_memory(output) else {
         return Fault::Write;

@@ -19,5 +19,5 @@ pub returns-clause-told : goal.returns-clause-told
 returns-clause-told g c = λ files told.
     let listed = c.in-Ok.ensures.told files told in
     let some : length c.in-Ok.indices.items ≡ 0 → ⊥ = λ e. cc (c.if-is_empty.ensures ∙ eq-eqb (vec_len c.in-Ok.indices) 0 (omega (arith, e))) in
-    let now = c.list.ensures.kept ∙ told in
+    let now = c.list.ensures.looks.files ∙ told in
     subst (λ folder. ReadsAs folder c.read_files.result) (sym (folder_read files (λ e. some (ap length listed ∙ e)) (omega (arith, ap length listed, c.if-len-gt-MOST_KEYS.false)))) (c.read_files.ensures.told files now)

@@ -1,17 +1,17 @@
-use Rattle.std.proofs.Common.{◌++◌, ◌∙◌, take, arith}
+use Rattle.std.proofs.Common.{◌++◌, take, rules}
 use Rattle.std.proofs.lemmas.Result.{err_from_is_err_and}
 use Rattle.ks_outside.proofs.Writes.{split_more, written_more, written_none, written_zero}
 use Rattle.ks_outside.proofs.sink.write_all.Goals as goal
 
-pub returns-in_err-count-clause-err : goal.returns-in_err-count-clause-err
-returns-in_err-count-clause-err g c =
+pub returns-in_err-count-clause-told : goal.returns-in_err-count-clause-told
+returns-in_err-count-clause-told g c =
     let p = err_from_is_err_and c.from_residual.result c.from_residual.ensures.1 in
     rw (p.1) (λ before h.
     let t = c.writes.invariant.told before h in
     (t.0, (c.writes.left.now, t.1), written_none _ before t.0 (c.in_err-count.ensures.told (before ++ t.0) t.2)))
 
-pub returns-then-count-eq0-clause-err : goal.returns-then-count-eq0-clause-err
-returns-then-count-eq0-clause-err g c before h =
+pub returns-then-count-eq0-clause-told : goal.returns-then-count-eq0-clause-told
+returns-then-count-eq0-clause-told g c before h =
     let t = c.writes.invariant.told before h in (
       t.0,
       (c.writes.left.now, t.1),
@@ -26,7 +26,5 @@ writes-preserved g c = record {
         split_more c.in_ok-count.count t.0 _ _ _ t.1 c.split_at.ensures.back,
         written_more _ before t.0 part (c.in_ok-count.ensures.told (before ++ t.0) t.2),
       );
-  count = omega (arith, c.writes.invariant.count, c.write.ensures.count);
-  left_kept = c.write.ensures.left_kept ∙ c.writes.invariant.left_kept;
-  reads_kept = c.write.ensures.reads_kept ∙ c.writes.invariant.reads_kept;
+  writes = search rules;
 }

@@ -9,7 +9,7 @@ returns-in_err-count-clause-told g c left left_is =
     let s = c.fills.invariant.told left left_is in
     let same = ap (λ b. length b) c.self.view_is in
     let few : length c.fills.self < c.args.size = omega arith in
-    rw (p.1, p.2) (fill_stops _ c.fills.self c.fill.new.self _ (g.S.Stream.left c.fill.new.source) c.in_err-count.field-0.0 c.args.size s few (c.in_err-count.ensures.told s.rest s.left_is))
+    rw (p.1, p.2) (fill_stops _ c.fills.self c.fill.new.self _ (g.S.Stream.stream c.fill.new.source).left c.in_err-count.field-0.0 c.args.size s few (c.in_err-count.ensures.told s.rest s.left_is))
 
 pub returns-then-count-eq0-clause-told : goal.returns-then-count-eq0-clause-told
 returns-then-count-eq0-clause-told g c left left_is =

@@ -4,7 +4,7 @@ use Rattle.std.proofs.Common.{refl, rules}
 use Rattle.ks_http.proofs.buffer.Buffer.head.Goals as goal
 
 pub looks-init : goal.looks-init
-looks-init g c = record { told = search rules; undecided = undecided_at_first; count = search rules; written_kept = refl; writes_kept = refl }
+looks-init g c = record { told = search rules; undecided = undecided_at_first; reads = search rules }
 
 pub returns-in-Whole-clause-told : goal.returns-in-Whole-clause-told
 returns-in-Whole-clause-told g c left left_is =
@@ -18,4 +18,4 @@ pub returns-then-count-eq0-clause-told : goal.returns-then-count-eq0-clause-told
 returns-then-count-eq0-clause-told g c left left_is =
     let s = c.looks.invariant.told left left_is in
     let all = all_in_hand _ c.looks.self c.fill.new.self _ _ c.in_ok-count.count s (c.in_ok-count.ensures.told s.rest s.left_is) c.if-count-eq0.true in
-    finds_last _ c.fill.new.self (g.S.Stream.left c.fill.new.source) c.last_head.new.headers c.last_head.result all.0 all.1 c.last_head.ensures.told
+    finds_last _ c.fill.new.self (g.S.Stream.stream c.fill.new.source).left c.last_head.new.headers c.last_head.result all.0 all.1 c.last_head.ensures.told

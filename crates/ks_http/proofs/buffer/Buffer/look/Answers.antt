@@ -1,5 +1,5 @@
 use Rattle.std.proofs.Common.{subst}
-use Rattle.ks_http.specs.Buffers.{Finds, FindsWithin}
+use Rattle.ks_http.specs.steps.Buffers.{Finds, FindsWithin}
 use Rattle.ks_http.proofs.BufferLemmas.{looks}
 use Rattle.ks_http.proofs.buffer.Buffer.look.Goals as goal
 

@@ -1,7 +1,7 @@
 use Rattle.std.proofs.Common.{drop, map}
 use Rattle.httparse.specs.Spans.{header_bytes}
 use Rattle.ks_http.specs.Fields.{values_of}
-use Rattle.ks_http.specs.Says.{Begun}
+use Rattle.ks_http.specs.steps.Says.{Begun}
 use Rattle.ks_http.proofs.fields.Fields.only.Given as goal
 
 abbrev pub invariant-loop-field : goal.invariant-loop-field

@@ -1,6 +1,6 @@
 use Rattle.std.proofs.Common.{rules}
 use Rattle.ks_http.specs.Heads.{said_of}
-use Rattle.ks_http.specs.Says.{Refuses, named}
+use Rattle.ks_http.specs.steps.Says.{Refuses, named}
 use Rattle.ks_http.proofs.SaysLemmas.{refuses_subject, refuses_length, said_all}
 use Rattle.ks_http.proofs.opening.Opening.read.Goals as goal
 
@@ -22,4 +22,4 @@ pub returns : goal.returns
 returns c =
     let said = said_all c.args.method.now c.args.target.now c.args.minor (named c.args.fields.now) c.in_ok-path.path c.in_ok-auth.auth c.in_ok-subject.subject
     c.in_ok-length.length c.in_ok-path.ensures c.in_ok-auth.ensures c.in_ok-subject.ensures c.in_ok-length.ensures in
-    rw (c.method_of.ensures, c.closes.ensures, c.in-Ok.ensures, c.query_of.ensures) said
+    rw (c.method_of.ensures, c.closes.ensures, c.in_ok-query.ensures, c.query_of.ensures) said

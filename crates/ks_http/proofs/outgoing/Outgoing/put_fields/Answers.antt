@@ -1,4 +1,4 @@
-use Rattle.std.proofs.Common.{◌∙◌, arith}
+use Rattle.std.proofs.Common.{rules}
 use Rattle.ks_http.specs.Responses.{field_line}
 use Rattle.ks_http.proofs.WriteLemmas.{next_piece, stops_at}
 use Rattle.ks_http.proofs.outgoing.Outgoing.put_fields.Goals as goal
@@ -15,7 +15,5 @@ loop-name-preserved g c =
     let line = rw (c.as_slice.ensures.bytes, c.as_slice-in-loop-name.ensures.bytes) at c.in_ok-put_field.ensures.told in
     record {
       told = next_piece field_line c.args.fields.now c.loop-name.name-index field field c.loop-name-item.is c.loop-name-test.true c.loop-name.invariant.told line;
-      count = omega (arith, c.loop-name.invariant.count, c.put_field.ensures.count);
-      left_kept = c.put_field.ensures.left_kept ∙ c.loop-name.invariant.left_kept;
-      reads_kept = c.put_field.ensures.reads_kept ∙ c.loop-name.invariant.reads_kept;
+      writes = search rules;
     }

@@ -7,7 +7,7 @@ pub returns-in_err-write_all-clause-told : goal.returns-in_err-write_all-clause-
 returns-in_err-write_all-clause-told g c =
     let all : c.as_slice.result.now ≡ c.args.self.now ++ c.split_at.result.0.now = grind arith in
     of_halves c.remaining_capacity.result c.args.bytes.now c.split_at.ensures.front c.split_at.ensures.back
-    (stops _ c.from_residual.ensures.0 (wrote {T = Unit {0}} (Err c.in_err-write_all.field-0.0) _ _ _ _ _ all tt c.in_err-write_all.ensures.err))
+    (stops _ c.from_residual.ensures.0 (wrote {T = Unit {0}} (Err c.in_err-write_all.field-0.0) _ _ _ _ _ all c.in_err-write_all.ensures.told))
 
 pub returns-then-is_ok-clause-told : goal.returns-then-is_ok-clause-told
 returns-then-is_ok-clause-told g c =
@@ -15,7 +15,7 @@ returns-then-is_ok-clause-told g c =
     let held : c.try_extend_from_slice-2.new.self.items ≡ c.split_at.result.1.now = grind arith in
     rw held
     (of_halves c.remaining_capacity.result c.args.bytes.now c.split_at.ensures.front c.split_at.ensures.back
-    (and_then (wrote {E = Failed} (Ok c.in_ok-write_all.field-0) _ _ _ _ _ all c.in_ok-write_all.ensures.ok tt) (holds tt [] c.split_at.result.1.now _)))
+    (and_then (wrote {E = Failed} (Ok c.in_ok-write_all.field-0) _ _ _ _ _ all c.in_ok-write_all.ensures.told) (holds tt [] c.split_at.result.1.now _)))
 
 pub returns-clause-told : goal.returns-clause-told
 returns-clause-told g c =
@@ -23,4 +23,4 @@ returns-clause-told g c =
     let none : c.try_extend_from_slice-2.new.self.items ≡ [] = grind arith in
     rw none
     (of_halves c.remaining_capacity.result c.args.bytes.now c.split_at.ensures.front c.split_at.ensures.back
-    (and_then (wrote {E = Failed} (Ok c.in_ok-write_all.field-0) _ _ _ _ _ all c.in_ok-write_all.ensures.ok tt) (wrote c.write_all-2.result [] _ _ _ _ refl c.write_all-2.ensures.ok c.write_all-2.ensures.err)))
+    (and_then (wrote {E = Failed} (Ok c.in_ok-write_all.field-0) _ _ _ _ _ all c.in_ok-write_all.ensures.told) (wrote c.write_all-2.result [] _ _ _ _ refl c.write_all-2.ensures.told)))

@@ -1,4 +1,4 @@
-use Rattle.std.proofs.Common.{◌∷◌, [], Ok, Err, length, ap, length-append, arith}
+use Rattle.std.proofs.Common.{◌∷◌, [], Ok, Err, length, ap, length-append, arith, rules}
 use Rattle.std.proofs.lemmas.Result.{err_from_is_err_and}
 use Rattle.ks_top.proofs.CheckerLemmas.{stands_line, stands_hold, stands_written, moves_err}
 use Rattle.ks_top.proofs.checker.Checker.take_piece.Goals as goal
@@ -23,7 +23,7 @@ lines-preserved g c = record {
       let behind = stands_line (Ok c.in_ok-end_line.field-0) whole c.in-Some.line.now c.in-Some.behind.now c.lines.self c.end_line.new.self _ before stood c.end_line.ensures.inside c.in_ok-end_line.ensures.ends in
       c.in-Ok.ensures.moves whole c.in-Some.behind.now before behind;
   bytes = omega (arith, c.lines.invariant.bytes, c.in_ok-end_line.ensures.bytes, c.write_many.ensures.bytes, ap length c.in-Some.ensures.1, length-append c.in-Some.line.now (10 ∷ c.in-Some.behind.now));
-  count = omega (arith, c.lines.invariant.count, c.write_many.ensures.count);
+  writes = search rules;
 }
 
 pub returns-in_err-hold-clause-moves : goal.returns-in_err-hold-clause-moves
@@ -33,10 +33,10 @@ returns-in_err-hold-clause-moves g c whole before h =
 
 pub returns-in_default-write_out-clause-moves : goal.returns-in_default-write_out-clause-moves
 returns-in_default-write_out-clause-moves g c whole before h =
-    let standing = stands_hold (Ok c.in_ok-hold.field-0) whole c.lines.rest.now c.lines.self c.hold.new.self (g.K.Stream.written c.lines.output) before (c.lines.invariant.stands whole before h) c.hold.ensures.inside c.in_ok-hold.ensures.holds in
-    stands_written (Err c.in_default-write_out.field-0) whole [] c.hold.new.self c.write_out.new.self (g.K.Stream.written c.lines.output) (g.K.Stream.written c.write_out.new.output) before standing (c.in_default-write_out.ensures.told _ standing.written_is)
+    let standing = stands_hold (Ok c.in_ok-hold.field-0) whole c.lines.rest.now c.lines.self c.hold.new.self (g.K.Stream.stream c.lines.output).written before (c.lines.invariant.stands whole before h) c.hold.ensures.inside c.in_ok-hold.ensures.holds in
+    stands_written (Err c.in_default-write_out.field-0) whole [] c.hold.new.self c.write_out.new.self (g.K.Stream.stream c.lines.output).written (g.K.Stream.stream c.write_out.new.output).written before standing (c.in_default-write_out.ensures.told _ standing.written_is)
 
 pub returns-clause-moves : goal.returns-clause-moves
 returns-clause-moves g c whole before h =
-    let standing = stands_hold (Ok c.in_ok-hold.field-0) whole c.lines.rest.now c.lines.self c.hold.new.self (g.K.Stream.written c.lines.output) before (c.lines.invariant.stands whole before h) c.hold.ensures.inside c.in_ok-hold.ensures.holds in
-    stands_written (Ok c.in-Ok-write_out.field-0) whole [] c.hold.new.self c.write_out.new.self (g.K.Stream.written c.lines.output) (g.K.Stream.written c.write_out.new.output) before standing (c.in-Ok-write_out.ensures.told _ standing.written_is)
+    let standing = stands_hold (Ok c.in_ok-hold.field-0) whole c.lines.rest.now c.lines.self c.hold.new.self (g.K.Stream.stream c.lines.output).written before (c.lines.invariant.stands whole before h) c.hold.ensures.inside c.in_ok-hold.ensures.holds in
+    stands_written (Ok c.in-Ok-write_out.field-0) whole [] c.hold.new.self c.write_out.new.self (g.K.Stream.stream c.lines.output).written (g.K.Stream.stream c.write_out.new.output).written before standing (c.in-Ok-write_out.ensures.told _ standing.written_is)

@@ -1,13 +1,14 @@
 use Rattle.std.proofs.Common.{ℕ, ◌+◌, ◌≤◌, List, length}
+use Rattle.ks_outside.specs.Streams.{OnlyWrites}
 use Rattle.ks_top.specs.Check.{Checked}
-use Rattle.ks_top.specs.Progress.{Stands, bytes_read}
+use Rattle.ks_top.specs.steps.Progress.{Stands, bytes_read}
 use Rattle.ks_top.proofs.checker.Checker.take_piece.Given as goal
 
 abbrev pub invariant-lines : goal.invariant-lines
 invariant-lines g l = record {
-  stands : (whole : List ℕ → Checked) (before : List ℕ) → Stands whole l.piece l.fn.self (g.K.Stream.written l.fn.output) before → Stands whole l.rest l.self (g.K.Stream.written l.output) before;
+  stands : (whole : List ℕ → Checked) (before : List ℕ) → Stands whole l.piece l.fn.self (g.K.Stream.stream l.fn.output).written before → Stands whole l.rest l.self (g.K.Stream.stream l.output).written before;
   bytes : bytes_read l.fn.self + length l.piece ≤ bytes_read l.self + length l.rest;
-  count : g.K.Stream.write_faults l.fn.output ≤ g.K.Stream.write_faults l.output;
+  writes : OnlyWrites ⊥ (g.K.Stream.stream l.fn.output) (g.K.Stream.stream l.output);
 }
 
 abbrev pub decreases-lines : goal.decreases-lines

@@ -1,9 +1,0 @@
-use Rattle.std.proofs.Common.{◌≡◌, length}
-use Rattle.httparse.specs.Grammar.{skip_ows}
-use Rattle.ks_http.proofs.values.behind_space.Given as goal
-
-abbrev pub invariant-spaces : goal.invariant-spaces
-invariant-spaces l = skip_ows l.rest ≡ skip_ows l.text
-
-abbrev pub decreases-spaces : goal.decreases-spaces
-decreases-spaces l = length l.rest

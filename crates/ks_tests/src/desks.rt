@@ -1,0 +1,61 @@
+//! Desks in memory.
+
+use crate::links::echo;
+use ks_base::{Drawn, Receipt};
+use ks_outside::{Desk, Failed, MemoryDesk, MemoryLink, MemorySink, MemorySource};
+use std::test::Fail;
+
+/// Serves the next link: what it says goes back to it, and a receipt notes the moment and a draw.
+pub fn serve<D: Desk>(desk: &mut D) -> Result<Option<u64>, Failed> {
+    let Some(mut link) = desk.accept()? else {
+        return Ok(None);
+    };
+    let _echoed = echo(&mut link);
+    desk.give_back(link);
+    let mut draw = [0; 64];
+    let draw = match desk.fill(&mut draw) {
+        Ok(()) => Drawn::Bytes(draw),
+        Err(Failed) => Drawn::Failed,
+    };
+    let moment = desk.reading();
+    if desk.ready().is_ok() {
+        desk.note(Receipt {
+            connection: 0,
+            request: 0,
+            changes: 0,
+            moment,
+            draw,
+            folder: false,
+            memory: false,
+        });
+    }
+    Ok(Some(moment))
+}
+
+#[test]
+fn a_desk_in_memory_tells_what_it_gave_and_took(rt: HostRuntime) -> Result<(), Fail> {
+    let alloc = rt.alloc();
+    let mut links = Vec::new(alloc);
+    for text in [b"abc", b"def", b"ghi"] {
+        let source = MemorySource::new(alloc, text, &[], 8)?;
+        let sink = MemorySink::new(alloc, 8, &[], 8)?;
+        links.push(MemoryLink::new(source, sink))?;
+    }
+    let mut random = [1; 192];
+    random[64..128].fill(2);
+    let mut desk = MemoryDesk::new(alloc, links, &[5, 7], &random[..130], &[2], &[2])?;
+    for answer in [Ok(Some(5)), Err(Failed), Ok(Some(7)), Ok(Some(7)), Ok(None)] {
+        assert_eq!(rt; serve(&mut desk), answer);
+    }
+    let draws = [Drawn::Bytes([1; 64]), Drawn::Failed, Drawn::Bytes([2; 64])];
+    assert_eq!(rt; desk.receipts().len(), 3);
+    assert!(rt;
+        desk.receipts()
+            .iter()
+            .zip(&draws)
+            .all(|(receipt, draw)| receipt.draw == *draw)
+    );
+    assert_eq!(rt; desk.given_back().len(), 3);
+    assert!(rt; desk.given_back()[1].written() == b"def".as_slice());
+    Ok(())
+}

@@ -1,0 +1,13 @@
+//! What the program does: its commands, over an input and an output.
+#![tactic(auto)]
+
+mod answer;
+mod check;
+mod checker;
+mod fault;
+mod lines;
+mod program;
+mod talk;
+
+pub use fault::Fault;
+pub use program::{Ended, run};
