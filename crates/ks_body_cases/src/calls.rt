@@ -1,0 +1,29 @@
+//! What the cases of tables are tried on.
+
+use crate::bodies::{body_read, form_named};
+use crate::commands::command;
+use crate::lists::{entry_refused, needed_list, optional_list};
+use crate::openings::{keys_place, opened};
+use anyhow::{Result, bail};
+use std::alloc::Global;
+
+/// What the call with this name answers to a body.
+pub fn answer(alloc: Global, call: &str, body: &[u8]) -> Result<String> {
+    if let Some(form) = form_named(call) {
+        return Ok(body_read(alloc, form, body)?);
+    }
+    if let Some(place) = call.strip_prefix("entry ") {
+        return Ok(entry_refused(alloc, place.parse::<usize>()?, body)?);
+    }
+    if let Some(fill) = call.strip_prefix("opening, failing fill ") {
+        return Ok(opened(alloc, &[fill.parse::<u64>()?], body)?);
+    }
+    match call {
+        "opening" => Ok(opened(alloc, &[], body)?),
+        "place of the keys" => Ok(keys_place(alloc, body)?),
+        "needed list" => Ok(needed_list(alloc, body)?),
+        "optional list" => Ok(optional_list(alloc, body)?),
+        "words" => command(alloc, body),
+        other => bail!("no call is named {other}"),
+    }
+}
