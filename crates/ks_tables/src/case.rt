@@ -1,0 +1,45 @@
+//! One case of a table.
+
+use anyhow::Result;
+use std::alloc::Global;
+
+/// The cells of a case but for the answer, each as the bytes that it stands for.
+#[derive(Drop)]
+pub struct Case {
+    cells: Vec<Vec<u8>>,
+}
+
+impl Case {
+    /// A case of these cells.
+    pub fn new(cells: Vec<Vec<u8>>) -> Case {
+        Case { cells }
+    }
+
+    /// The cell at this place; empty where there is none.
+    pub fn bytes(&self, at: usize) -> &[u8] {
+        match self.cells.get(at) {
+            Some(cell) => cell.as_slice(),
+            None => &[],
+        }
+    }
+
+    /// The cell at this place, which is refused where it is no text.
+    pub fn str(&self, at: usize) -> Result<&str> {
+        Ok(std::str::from_utf8(self.bytes(at))?)
+    }
+
+    /// The decimal in the cell at this place, which is refused where it is none.
+    pub fn number(&self, at: usize) -> Result<u64> {
+        Ok(self.str(at)?.parse::<u64>()?)
+    }
+
+    /// The same for a number of bytes or of calls.
+    pub fn size(&self, at: usize) -> Result<usize> {
+        Ok(self.str(at)?.parse::<usize>()?)
+    }
+
+    /// The bytes whose hex digits the cell at this place is, which is refused where it has others.
+    pub fn hex(&self, alloc: Global, at: usize) -> Result<Vec<u8>> {
+        Ok(hex::decode(alloc, self.bytes(at))?)
+    }
+}
