@@ -1,13 +1,15 @@
 ghost use Rattle.std.specs.Prelude.{◌≡◌, ◌≢◌, [], not, filter, Ok, Err, false, is_none, IsSome, IfOk, IsTrue};
 ghost use Rattle.ks_base.specs.declared.limits.TheConstants.{GRANTS};
 ghost use Rattle.ks_base.specs.Orders.{grant_cmp};
-ghost use Rattle.ks_base.specs.Refusals.{Changes, Decides};
+ghost use Rattle.ks_base.specs.Refusals.{Changes, Decides, fault_in};
 ghost use Rattle.ks_base.specs.Tables.{IsAscending, find_row};
 ghost use Rattle.ks_base.specs.Grants.{stands, with_grant, without_grant, grant_fault, ungrant_fault, is_of_actor, is_at_target, is_of_role};
 
 use crate::named::{Elsewhere, OfOtherRoles, OfOthers};
 use ks_base::limits::GRANTS;
-use ks_base::{Actor, GrantList, GrantRow, Id, Kind, Memory, RowFault, RowSet, Target, refuse_if};
+use ks_base::{
+    Actor, GrantList, GrantRow, Id, Kind, Memory, RowFault, RowSet, Target, Test, refuse_if,
+};
 use std::alloc::Global;
 use std::marker::Model;
 
@@ -47,11 +49,18 @@ impl Grants {
         ensures standing { IsTrue (stands self.old row) → (result ≡ Ok false) × (self.new ≡ self.old) }
     {
         let _actor = &row.actor;
-        refuse_if(
-            !self.rows.has(&row) && self.rows.len() >= GRANTS,
-            RowFault::Full(Kind::Grant),
-        )?;
+        self.may_grant(&row)?;
         Ok(self.rows.add(row)?)
+    }
+
+    /// The cause for which `grant` refuses the row, found without a change.
+    pub fn may_grant(&self, row: &GrantRow) -> Result<(), RowFault>
+        ensures { fault_in result ≡ grant_fault self.now row.now }
+    {
+        refuse_if(
+            !self.rows.has(row) && self.rows.len() >= GRANTS,
+            RowFault::Full(Kind::Grant),
+        )
     }
 
     /// Takes a grant back. Refused is one that does not stand (`Absent`, with its role).
@@ -59,9 +68,16 @@ impl Grants {
         ensures decides { Decides (ungrant_fault self.old row.now) self.old (without_grant row.now self.old) result self.new }
         ensures memory { result ≢ Err RowFault.Memory }
     {
-        refuse_if(!self.rows.has(row), RowFault::Absent(Kind::Grant, row.role))?;
+        self.may_ungrant(row)?;
         let _stood = self.rows.remove(row);
         Ok(())
+    }
+
+    /// The cause for which `ungrant` refuses the row, found without a change.
+    pub fn may_ungrant(&self, row: &GrantRow) -> Result<(), RowFault>
+        ensures { fault_in result ≡ ungrant_fault self.now row.now }
+    {
+        refuse_if(!self.rows.has(row), RowFault::Absent(Kind::Grant, row.role))
     }
 
     /// Whether the grant stands.
@@ -90,6 +106,13 @@ impl Grants {
         ensures { self.new ≡ filter (λ row. not (is_of_role role.now row)) self.old }
     {
         self.rows.keep(&OfOtherRoles { role });
+    }
+
+    /// Keeps the grants that pass. It takes no memory.
+    pub fn keep<T: Test<GrantRow>>(&mut self, test: &T)
+        ensures { self.new ≡ filter (T.test test.now) self.old }
+    {
+        self.rows.keep(test);
     }
 
     /// A copy of all grants, in their order.

@@ -56,8 +56,9 @@ impl People {
         Ok(())
     }
 
+    /// The first cause for which `add_group` refuses the row, found without a change.
     #[tactic(auto, unfolding(ks_base::specs::PeopleFaults::add_group_fault))]
-    fn may_add_group(&self, row: &GroupRow) -> Result<(), RowFault>
+    pub fn may_add_group(&self, row: &GroupRow) -> Result<(), RowFault>
         ensures { fault_in result ≡ add_group_fault self.now row.now }
     {
         self.group_name_is_free(row)?;
@@ -65,8 +66,9 @@ impl People {
         refuse_if(self.groups.contains(&row.id), RowFault::IdTaken(row.id))
     }
 
+    /// The first cause for which `set_group` refuses the row, found without a change.
     #[tactic(auto, unfolding(ks_base::specs::PeopleFaults::set_group_fault))]
-    fn may_set_group(&self, row: &GroupRow) -> Result<(), RowFault>
+    pub fn may_set_group(&self, row: &GroupRow) -> Result<(), RowFault>
         ensures { fault_in result ≡ set_group_fault self.now row.now }
     {
         self.group_stands(&row.id)?;
@@ -76,14 +78,16 @@ impl People {
         }
     }
 
+    /// The cause for which `drop_group` refuses the id, found without a change.
     #[tactic(auto, unfolding(ks_base::specs::PeopleFaults::drop_group_fault))]
-    fn may_drop_group(&self, id: &Id) -> Result<(), RowFault>
+    pub fn may_drop_group(&self, id: &Id) -> Result<(), RowFault>
         ensures { fault_in result ≡ drop_group_fault self.now id.now }
     {
         self.group_stands(id)
     }
 
-    pub(crate) fn group_stands(&self, id: &Id) -> Result<(), RowFault>
+    /// Refuses where no group has the id (`Absent`).
+    pub fn group_stands(&self, id: &Id) -> Result<(), RowFault>
         ensures { fault_in result ≡ group_absent self.now id.now }
     {
         refuse_if(

@@ -35,8 +35,9 @@ impl People {
         Ok(())
     }
 
+    /// The first cause for which `join_group` refuses the row, found without a change.
     #[tactic(auto, unfolding(ks_base::specs::PeopleFaults::join_group_fault))]
-    fn may_join(&self, row: &MemberRow) -> Result<(), RowFault>
+    pub fn may_join(&self, row: &MemberRow) -> Result<(), RowFault>
         ensures { fault_in result ≡ join_group_fault self.now row.now }
     {
         self.group_stands(&row.group)?;
@@ -47,8 +48,9 @@ impl People {
         )
     }
 
+    /// The first cause for which `leave_group` refuses the row, found without a change.
     #[tactic(auto, unfolding(ks_base::specs::PeopleFaults::leave_group_fault))]
-    fn may_leave(&self, row: &MemberRow) -> Result<(), RowFault>
+    pub fn may_leave(&self, row: &MemberRow) -> Result<(), RowFault>
         ensures { fault_in result ≡ leave_group_fault self.now row.now }
     {
         self.group_stands(&row.group)?;

@@ -1,6 +1,6 @@
-ghost use Rattle.std.specs.Prelude.{◌≡◌, []};
+ghost use Rattle.std.specs.Prelude.{◌≡◌, [], filter};
 
-use ks_base::{GroupRow, MemberRow, RowSet, Table, UserRow};
+use ks_base::{GroupRow, MemberRow, RowSet, Table, Test, UserRow};
 use std::alloc::Global;
 use std::marker::Model;
 
@@ -32,5 +32,47 @@ impl People {
             groups: Table::new(alloc),
             members: RowSet::new(alloc),
         }
+    }
+
+    /// All users, in the order of their ids.
+    pub fn users(&self) -> &[UserRow]
+        ensures { result.now ≡ self.now.users }
+    {
+        self.users.rows()
+    }
+
+    /// All groups, in the order of their ids.
+    pub fn groups(&self) -> &[GroupRow]
+        ensures { result.now ≡ self.now.groups }
+    {
+        self.groups.rows()
+    }
+
+    /// All memberships, by group and then by user.
+    pub fn members(&self) -> &[MemberRow]
+        ensures { result.now ≡ self.now.members }
+    {
+        self.members.rows()
+    }
+
+    /// Keeps the users that pass; memberships stay as they are. It takes no memory.
+    pub fn keep_users<T: Test<UserRow>>(&mut self, test: &T)
+        ensures { self.new ≡ record self.old { users = filter (T.test test.now) self.old.users } }
+    {
+        self.users.keep(test);
+    }
+
+    /// Keeps the groups that pass; memberships stay as they are. It takes no memory.
+    pub fn keep_groups<T: Test<GroupRow>>(&mut self, test: &T)
+        ensures { self.new ≡ record self.old { groups = filter (T.test test.now) self.old.groups } }
+    {
+        self.groups.keep(test);
+    }
+
+    /// Keeps the memberships that pass. It takes no memory.
+    pub fn keep_members<T: Test<MemberRow>>(&mut self, test: &T)
+        ensures { self.new ≡ record self.old { members = filter (T.test test.now) self.old.members } }
+    {
+        self.members.keep(test);
     }
 }

@@ -63,8 +63,9 @@ impl People {
         Ok(())
     }
 
+    /// The first cause for which `add_user` refuses the row, found without a change.
     #[tactic(auto, unfolding(ks_base::specs::PeopleFaults::add_user_fault))]
-    fn may_add_user(&self, row: &UserRow) -> Result<(), RowFault>
+    pub fn may_add_user(&self, row: &UserRow) -> Result<(), RowFault>
         ensures { fault_in result ≡ add_user_fault self.now row.now }
     {
         self.user_name_is_free(row)?;
@@ -72,8 +73,9 @@ impl People {
         refuse_if(self.users.contains(&row.id), RowFault::IdTaken(row.id))
     }
 
+    /// The first cause for which `set_user` refuses the row, found without a change.
     #[tactic(auto, unfolding(ks_base::specs::PeopleFaults::set_user_fault))]
-    fn may_set_user(&self, row: &UserRow) -> Result<(), RowFault>
+    pub fn may_set_user(&self, row: &UserRow) -> Result<(), RowFault>
         ensures { fault_in result ≡ set_user_fault self.now row.now }
     {
         self.user_stands(&row.id)?;
@@ -83,20 +85,23 @@ impl People {
         }
     }
 
+    /// The cause for which `drop_user` refuses the id, found without a change.
     #[tactic(auto, unfolding(ks_base::specs::PeopleFaults::drop_user_fault))]
-    fn may_drop_user(&self, id: &Id) -> Result<(), RowFault>
+    pub fn may_drop_user(&self, id: &Id) -> Result<(), RowFault>
         ensures { fault_in result ≡ drop_user_fault self.now id.now }
     {
         self.user_stands(id)
     }
 
-    pub(crate) fn user_stands(&self, id: &Id) -> Result<(), RowFault>
+    /// Refuses where no user has the id (`Absent`).
+    pub fn user_stands(&self, id: &Id) -> Result<(), RowFault>
         ensures { fault_in result ≡ user_absent self.now id.now }
     {
         refuse_if(!self.users.contains(id), RowFault::Absent(Kind::User, *id))
     }
 
-    fn user_name_is_free(&self, row: &UserRow) -> Result<(), RowFault>
+    /// Refuses where a user of the row's domain has its name (`NameTaken`, with that user's id).
+    pub fn user_name_is_free(&self, row: &UserRow) -> Result<(), RowFault>
         ensures { fault_in result ≡ user_name_taken self.now row.now }
     {
         match self.user_named(&row.domain, &row.name) {

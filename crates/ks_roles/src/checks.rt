@@ -13,8 +13,9 @@ use ks_base::{Id, ImplyRow, Kind, RoleRow, RowFault, refuse_if};
 const ADMIN: &[u8] = b"admin";
 
 impl Roles {
+    /// The first cause for which `add` refuses the row, found without a change.
     #[tactic(auto, unfolding(ks_base::specs::RoleFaults::add_fault))]
-    pub(crate) fn may_add(&self, row: &RoleRow) -> Result<(), RowFault>
+    pub fn may_add(&self, row: &RoleRow) -> Result<(), RowFault>
         ensures { fault_in result ≡ add_fault self.now row.now }
     {
         if let Some(holder) = self.named(&row.name) {
@@ -24,8 +25,9 @@ impl Roles {
         refuse_if(self.roles.contains(&row.id), RowFault::IdTaken(row.id))
     }
 
+    /// The first cause for which `set` refuses the row, found without a change.
     #[tactic(auto, unfolding(ks_base::specs::RoleFaults::set_fault))]
-    pub(crate) fn may_set(&self, row: &RoleRow) -> Result<(), RowFault>
+    pub fn may_set(&self, row: &RoleRow) -> Result<(), RowFault>
         ensures { fault_in result ≡ set_fault self.now row.now }
     {
         self.stands(&row.id)?;
@@ -35,8 +37,9 @@ impl Roles {
         }
     }
 
+    /// The first cause for which `imply` refuses the row, found without a change.
     #[tactic(auto, unfolding(ks_base::specs::RoleFaults::imply_fault))]
-    pub(crate) fn may_imply(&self, row: &ImplyRow) -> Result<(), RowFault>
+    pub fn may_imply(&self, row: &ImplyRow) -> Result<(), RowFault>
         ensures { fault_in result ≡ imply_fault self.now row.now }
     {
         self.stands(&row.prior)?;
@@ -45,8 +48,9 @@ impl Roles {
         self.has_room_for(row)
     }
 
+    /// The first cause for which `unimply` refuses the row, found without a change.
     #[tactic(auto, unfolding(ks_base::specs::RoleFaults::unimply_fault))]
-    pub(crate) fn may_unimply(&self, row: &ImplyRow) -> Result<(), RowFault>
+    pub fn may_unimply(&self, row: &ImplyRow) -> Result<(), RowFault>
         ensures { fault_in result ≡ unimply_fault self.now row.now }
     {
         self.stands(&row.prior)?;
@@ -57,7 +61,8 @@ impl Roles {
         )
     }
 
-    pub(crate) fn stands(&self, id: &Id) -> Result<(), RowFault>
+    /// Refuses where no role has the id (`Absent`).
+    pub fn stands(&self, id: &Id) -> Result<(), RowFault>
         ensures { fault_in result ≡ role_absent self.now id.now }
     {
         refuse_if(!self.roles.contains(id), RowFault::Absent(Kind::Role, *id))

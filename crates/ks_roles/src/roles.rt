@@ -36,6 +36,20 @@ impl Roles {
         }
     }
 
+    /// All roles, in the order of their ids.
+    pub fn roles(&self) -> &[RoleRow]
+        ensures { result.now ≡ self.now.roles }
+    {
+        self.roles.rows()
+    }
+
+    /// All implications, by prior role and then by implied role.
+    pub fn implications(&self) -> &[ImplyRow]
+        ensures { result.now ≡ self.now.implications }
+    {
+        self.implications.rows()
+    }
+
     /// The role with this id.
     pub fn role(&self, id: &Id) -> Option<&RoleRow>
         ensures found { option_copied result ≡ role_of id.now self.now.roles }

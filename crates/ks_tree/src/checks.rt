@@ -25,8 +25,9 @@ impl Test<ProjectRow> for EnabledBelow<'_> {
 }
 
 impl Tree {
+    /// The first cause for which `add_domain` refuses the row, found without a change.
     #[tactic(auto, unfolding(ks_base::specs::TreeFaults::add_domain_fault))]
-    pub(crate) fn may_add_domain(&self, row: &DomainRow) -> Result<(), TreeFault>
+    pub fn may_add_domain(&self, row: &DomainRow) -> Result<(), TreeFault>
         ensures { fault_in result ≡ add_domain_fault self.now row.now }
     {
         self.domain_name_is_free(row)?;
@@ -34,8 +35,9 @@ impl Tree {
         refuse_if(self.domains.contains(&row.id), TreeFault::IdTaken(row.id))
     }
 
+    /// The first cause for which `add_project` refuses the row, found without a change.
     #[tactic(auto, unfolding(ks_base::specs::TreeFaults::add_project_fault))]
-    pub(crate) fn may_add_project(&self, row: &ProjectRow) -> Result<(), TreeFault>
+    pub fn may_add_project(&self, row: &ProjectRow) -> Result<(), TreeFault>
         ensures { fault_in result ≡ add_project_fault self.now row.now }
     {
         self.domain_stands(&row.domain)?;
@@ -50,8 +52,9 @@ impl Tree {
         refuse_if(self.projects.contains(&row.id), TreeFault::IdTaken(row.id))
     }
 
+    /// The first cause for which `set_domain` refuses the row, found without a change.
     #[tactic(auto, unfolding(ks_base::specs::TreeFaults::set_domain_fault))]
-    pub(crate) fn may_set_domain(&self, row: &DomainRow) -> Result<(), TreeFault>
+    pub fn may_set_domain(&self, row: &DomainRow) -> Result<(), TreeFault>
         ensures { fault_in result ≡ set_domain_fault self.now row.now }
     {
         match self.domains.first(&OtherDomainNamed { row }) {
@@ -60,8 +63,9 @@ impl Tree {
         }
     }
 
+    /// The first cause for which `set_project` refuses the row, found without a change.
     #[tactic(auto, unfolding(ks_base::specs::TreeFaults::set_project_fault))]
-    pub(crate) fn may_set_project(&self, row: &ProjectRow) -> Result<(), TreeFault>
+    pub fn may_set_project(&self, row: &ProjectRow) -> Result<(), TreeFault>
         ensures { fault_in result ≡ set_project_fault self.now row.now }
     {
         self.may_disable(row)?;
@@ -72,8 +76,9 @@ impl Tree {
         }
     }
 
+    /// The first cause for which `drop_domain` refuses the id, found without a change.
     #[tactic(auto, unfolding(ks_base::specs::TreeFaults::drop_domain_fault))]
-    pub(crate) fn may_drop_domain(&self, id: &Id) -> Result<(), TreeFault>
+    pub fn may_drop_domain(&self, id: &Id) -> Result<(), TreeFault>
         ensures { fault_in result ≡ drop_domain_fault self.now id.now }
     {
         match self.domain(id) {
@@ -82,8 +87,9 @@ impl Tree {
         }
     }
 
+    /// The first cause for which `drop_project` refuses the id, found without a change.
     #[tactic(auto, unfolding(ks_base::specs::TreeFaults::drop_project_fault))]
-    pub(crate) fn may_drop_project(&self, id: &Id) -> Result<(), TreeFault>
+    pub fn may_drop_project(&self, id: &Id) -> Result<(), TreeFault>
         ensures { fault_in result ≡ drop_project_fault self.now id.now }
     {
         refuse_if(

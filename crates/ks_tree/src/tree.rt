@@ -36,6 +36,20 @@ impl Tree {
         }
     }
 
+    /// All domains, in the order of their ids.
+    pub fn domains(&self) -> &[DomainRow]
+        ensures { result.now ≡ self.now.domains }
+    {
+        self.domains.rows()
+    }
+
+    /// All projects, in the order of their ids.
+    pub fn projects(&self) -> &[ProjectRow]
+        ensures { result.now ≡ self.now.projects }
+    {
+        self.projects.rows()
+    }
+
     /// The domain with this id.
     pub fn domain(&self, id: &Id) -> Option<&DomainRow>
         ensures found { option_copied result ≡ domain_of id.now self.now.domains }

@@ -111,13 +111,9 @@ pub(crate) fn usable(
 }
 
 impl Trusts {
+    /// The first cause for which `create` refuses the trust, found without a change.
     #[tactic(auto, unfolding(ks_base::specs::Trusts::creation_fault))]
-    pub(crate) fn may_create(
-        &self,
-        row: &TrustRow,
-        held: &IdList,
-        moment: u64,
-    ) -> Result<(), TrustFault>
+    pub fn may_create(&self, row: &TrustRow, held: &IdList, moment: u64) -> Result<(), TrustFault>
         ensures { fault_in result ≡ creation_fault self.now held.now moment row.now }
     {
         self.parent_allows(row)?;
@@ -128,6 +124,15 @@ impl Trusts {
             Some(standing) => Err(TrustFault::IdTaken(standing.id)),
             None => Ok(()),
         }
+    }
+
+    /// The first cause for which `use_one` refuses the use, found without a change.
+    pub fn may_use(&self, id: &Id, trustee: &Id, moment: u64) -> Result<(), TrustFault>
+        ensures refusal { fault_in result ≡ use_fault self.now id.now trustee.now moment }
+        ensures memory { result ≢ Err TrustFault.Memory }
+    {
+        let _at = usable(self.rows.as_slice(), id, trustee, moment)?;
+        Ok(())
     }
 
     fn parent_allows(&self, row: &TrustRow) -> Result<(), TrustFault>

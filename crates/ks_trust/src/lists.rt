@@ -7,7 +7,7 @@ ghost use Rattle.ks_trust.specs.State.{ids_of, is_named, is_touched, IsClosed};
 
 use crate::Trusts;
 use crate::trusts::has_id;
-use ks_base::{Id, IdList, Memory, Revoke, TrustRow};
+use ks_base::{Id, IdList, Memory, Revoke, Test, TrustRow};
 use std::alloc::{AllocError, Global};
 
 /// Whether the trust is one that ends with what the revocation names.
@@ -45,6 +45,19 @@ fn ids_touched(
         .collect(alloc)
 }
 
+fn ids_passing<T: Test<TrustRow>>(
+    alloc: Global,
+    rows: &[TrustRow],
+    test: &T,
+) -> Result<Vec<Id>, AllocError>
+    ensures { IfOk result (λ ids. ids.items ≡ ids_of (filter (T.test test.now) rows.now)) }
+{
+    rows.iter()
+        .filter(|row| test.test(row))
+        .map(|row| row.id)
+        .collect(alloc)
+}
+
 fn ids_of(alloc: Global, rows: &[TrustRow]) -> Result<Vec<Id>, AllocError>
     ensures { IfOk result (λ ids. ids.items ≡ ids_of rows.now) }
 {
@@ -58,6 +71,15 @@ impl Trusts {
         ensures ascending { IfOk result (λ ids. IsAscending id_cmp (λ id. id) ids) }
     {
         let ids = ids_of(*self.rows.allocator(), self.rows.as_slice())?;
+        Ok(IdList::from_vec(ids))
+    }
+
+    /// The ids of the trusts that pass, in their order, each once.
+    pub fn ids_where<T: Test<TrustRow>>(&self, test: &T) -> Result<IdList, Memory>
+        ensures ids { IfOk result (λ ids. ids ≡ ids_of (filter (T.test test.now) self.now)) }
+        ensures ascending { IfOk result (λ ids. IsAscending id_cmp (λ id. id) ids) }
+    {
+        let ids = ids_passing(*self.rows.allocator(), self.rows.as_slice(), test)?;
         Ok(IdList::from_vec(ids))
     }
 

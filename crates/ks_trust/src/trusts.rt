@@ -69,8 +69,17 @@ impl Trusts {
         }
     }
 
+    /// All trusts, in the order of their ids.
+    pub fn rows(&self) -> &[TrustRow]
+        ensures rows { result.now ≡ self.now }
+        ensures ascending { IsAscending id_cmp (λ row. row.id) self.now }
+        ensures chained { AreChained self.now }
+    {
+        self.rows.as_slice()
+    }
+
     /// The trust of which this one is a redelegation.
-    pub(crate) fn parent(&self, trust: &TrustRow) -> Option<&TrustRow>
+    pub fn parent(&self, trust: &TrustRow) -> Option<&TrustRow>
         ensures { option_copied result ≡ parent_trust self.now trust.now.parent }
     {
         match &trust.parent {
