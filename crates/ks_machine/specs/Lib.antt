@@ -33,4 +33,5 @@ pub mod FactLaws
 pub mod Ranges
 pub mod Fit
 pub mod Lawful
+pub mod Told
 pub mod TokenLaws

@@ -1,0 +1,45 @@
+-- Which replies can be told: each moment in them has a text of RFC 3339, whose year has four digits.
+use Rattle.std.specs.Prelude.{IfSome}
+use Rattle.std.specs.List.{AllByRecursion}
+use Rattle.ks_base.specs.declared.events.EventRow.{EventRow}
+use Rattle.ks_machine.specs.declared.body_out.BodyOut.{BodyOut}
+use Rattle.ks_machine.specs.declared.body_out.BodyOut.TheVariants as body
+use Rattle.ks_machine.specs.declared.body_out.Row.{Row}
+use Rattle.ks_machine.specs.declared.body_out.Row.TheVariants as row
+use Rattle.ks_machine.specs.declared.body_out.TokenOut.{TokenOut}
+use Rattle.ks_machine.specs.declared.reply.Reply.{Reply}
+use Rattle.ks_machine.specs.declared.reply.Reply.TheVariants as reply
+use Rattle.ks_machine.specs.Ranges.{IsExpiry}
+
+abbrev pub IsTokenTellable : TokenOut → Type 0
+IsTokenTellable told = IsExpiry told.issued × IsExpiry told.expires
+
+abbrev pub IsRowTellable : Row → Type 0
+IsRowTellable (row.Domain domain) = Unit {0}
+IsRowTellable (row.Project project) = Unit {0}
+IsRowTellable (row.User user) = Unit {0}
+IsRowTellable (row.Group group) = Unit {0}
+IsRowTellable (row.Role role) = Unit {0}
+IsRowTellable (row.Trust trust roles) = IfSome trust.expires IsExpiry
+
+abbrev pub IsEventTellable : EventRow → Type 0
+IsEventTellable event = IsExpiry event.moment
+
+abbrev pub IsBodyTellable : BodyOut → Type 0
+IsBodyTellable body.Nothing = Unit {0}
+IsBodyTellable body.Version = Unit {0}
+IsBodyTellable (body.Token token) = IsTokenTellable token
+IsBodyTellable (body.One told made) = IsRowTellable told
+IsBodyTellable (body.Many kind rows path) = AllByRecursion IsRowTellable rows
+IsBodyTellable (body.Inference prior implied made) = Unit {0}
+IsBodyTellable (body.Inferences prior implied) = Unit {0}
+IsBodyTellable (body.Grants roles path) = Unit {0}
+IsBodyTellable (body.Assignments grants path) = Unit {0}
+IsBodyTellable (body.Trusts rows path) = AllByRecursion IsRowTellable rows
+IsBodyTellable (body.TrustRoles roles path) = Unit {0}
+IsBodyTellable (body.Events events path) = AllByRecursion IsEventTellable events
+IsBodyTellable (body.Keys indices sealing) = Unit {0}
+
+abbrev pub IsTellable : Reply → Type 0
+IsTellable (reply.Ok told) = IsBodyTellable told
+IsTellable (reply.Refused why) = Unit {0}
