@@ -8,7 +8,7 @@ use Rattle.ks_machine.specs.Attempts.{Attempt, Go, Stop, Lacks, Keys, ◌>>=◌,
 use Rattle.ks_machine.specs.States.{State, is_user_on}
 use Rattle.ks_machine.specs.TokenLines.{payload_lines, token_lines}
 use Rattle.ks_machine.specs.Validity.{Valid, has_roles, held_lines, holder, is_scope_on, is_trust_line, opens, roles_of, validity}
-use Rattle.ks_machine.specs.declared.lines.Held.{Held}
+use Rattle.ks_machine.specs.declared.lines.ReadToken.{ReadToken}
 use Rattle.ks_machine.specs.declared.why.Why.{Why}
 use Rattle.ks_machine.specs.declared.why.Why.TheVariants as why
 use Rattle.ks_payload.specs.declared.payload.Payload.{Payload}
@@ -18,17 +18,17 @@ use Rattle.ks_auth.specs.Answers.{Tells, rows_told}
 use Rattle.ks_auth.specs.Lines.{IsOpened, token_held, row_lines}
 
 -- an opened token whose next lines hold
-pub held_of : (known : Known) (keys : List HeldKey) (life moment : ℕ) (late : Bool) (text : Text) (issued : ℕ) (plain : List ℕ) (held : Held) →
+pub held_of : (known : Known) (keys : List HeldKey) (life moment : ℕ) (late : Bool) (text : Text) (issued : ℕ) (plain : List ℕ) (held : ReadToken) →
     IsOpened (opens known keys text) issued plain → payload_lines life moment late issued plain ≡ Ok held → token_held known keys life moment late text ≡ Go held
 unfolding token_held
 held_of known keys life moment late text issued plain held opened lines =
     ap (λ said. said >>= (λ answer. decided (token_lines life moment late answer))) opened ∙ ap decided lines
 
 -- what follows upon a part
-abbrev pub after_held : State → ℕ → Held → Attempt Why Valid
+abbrev pub after_held : State → ℕ → ReadToken → Attempt Why Valid
 after_held S moment held = row_lines S.rows S.events moment held.payload held.issued
 
-regrouped : (said : Attempt Why OpenAnswer) (first : OpenAnswer → Attempt Why Held) (rest : Held → Attempt Why Valid) →
+regrouped : (said : Attempt Why OpenAnswer) (first : OpenAnswer → Attempt Why ReadToken) (rest : ReadToken → Attempt Why Valid) →
     said >>= (λ answer. first answer >>= rest) ≡ (said >>= first) >>= rest
 regrouped (Go answer) first rest = refl
 regrouped (Stop why) first rest = refl
@@ -41,7 +41,7 @@ in_parts known S moment late text =
     regrouped (opens known S.ring.held text) (λ answer. decided (token_lines S.settings.life moment late answer)) (after_held S moment)
 
 -- the same by the tables that tell the state
-abbrev pub held_by : Known → Tables → ℕ → Bool → Text → Attempt Why Held
+abbrev pub held_by : Known → Tables → ℕ → Bool → Text → Attempt Why ReadToken
 held_by known tables moment late text = token_held known tables.ring.now.held tables.settings.now.life moment late text
 
 pub in_told_parts : (known : Known) (tables : Tables) (S : State) (moment : ℕ) (late : Bool) (text : Text) → Tells tables S →
@@ -63,7 +63,7 @@ pub held_lacks : (known : Known) (tables : Tables) (S : State) (moment : ℕ) (l
 held_lacks known tables S moment late text keys tells lacks =
     in_told_parts known tables S moment late text tells ∙ ap (λ said. said >>= after_held S moment) lacks
 
-pub held_goes : (known : Known) (tables : Tables) (S : State) (moment : ℕ) (late : Bool) (text : Text) (held : Held) → Tells tables S →
+pub held_goes : (known : Known) (tables : Tables) (S : State) (moment : ℕ) (late : Bool) (text : Text) (held : ReadToken) → Tells tables S →
     held_by known tables moment late text ≡ Go held →
     validity known S moment late text ≡ row_lines (rows_told tables) S.events moment held.payload held.issued
 held_goes known tables S moment late text held tells goes =

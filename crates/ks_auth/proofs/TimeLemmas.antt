@@ -10,7 +10,7 @@ use Rattle.ks_machine.specs.Attempts as attempts
 use Rattle.ks_machine.specs.Attempts.{Attempt, Go, Stop, Lacks, Known, decided}
 use Rattle.ks_machine.specs.TokenLines.{◌>>=◌, end_of, found, need, payload_lines, token_lines}
 use Rattle.ks_machine.specs.Validity.{opens}
-use Rattle.ks_machine.specs.declared.lines.Held.{Held}
+use Rattle.ks_machine.specs.declared.lines.ReadToken.{ReadToken}
 use Rattle.ks_machine.specs.declared.why.Why.{Why}
 use Rattle.ks_machine.specs.declared.why.Why.TheVariants as why
 use Rattle.ks_payload.specs.Readings.{payload_of}
@@ -35,7 +35,7 @@ in_time_by : (late : Bool) (moment expires issued life : ℕ) → moment < end_o
 in_time_by true moment expires issued life before span = omega (arith, before, span)
 in_time_by false moment expires issued life before span = omega (arith, before, span)
 
-lines_in_time : (life moment : ℕ) (late : Bool) (issued : ℕ) (plain : List ℕ) (held : Held) → payload_lines life moment late issued plain ≡ Ok held →
+lines_in_time : (life moment : ℕ) (late : Bool) (issued : ℕ) (plain : List ℕ) (held : ReadToken) → payload_lines life moment late issued plain ≡ Ok held →
     moment < held.issued + life + window
 unfolding payload_lines
 lines_in_time life moment late issued plain held is =
@@ -51,18 +51,18 @@ decided_ok : {A : Type 0} (r : Result A Why) (a : A) → decided r ≡ Go a → 
 decided_ok (Ok x) a is = cc
 decided_ok (Err e) a is = cc
 
-by_answer : (life moment : ℕ) (late : Bool) (answer : OpenAnswer) (held : Held) → decided (token_lines life moment late answer) ≡ Go held → moment < held.issued + life + window
+by_answer : (life moment : ℕ) (late : Bool) (answer : OpenAnswer) (held : ReadToken) → decided (token_lines life moment late answer) ≡ Go held → moment < held.issued + life + window
 by_answer life moment late NotText held is = cc
 by_answer life moment late No held is = cc
 by_answer life moment late (Yes issued plain) held is = lines_in_time life moment late issued plain held (decided_ok _ held is)
 
-by_opening : (life moment : ℕ) (late : Bool) (said : Attempt Why OpenAnswer) (held : Held) →
+by_opening : (life moment : ℕ) (late : Bool) (said : Attempt Why OpenAnswer) (held : ReadToken) →
     attempts.◌>>=◌ said (λ answer. decided (token_lines life moment late answer)) ≡ Go held → moment < held.issued + life + window
 by_opening life moment late (Go answer) held is = by_answer life moment late answer held is
 by_opening life moment late (Stop w) held is = cc
 by_opening life moment late (Lacks lack) held is = cc
 
-pub held_in_time : (known : Known) (keys : List HeldKey) (life moment : ℕ) (late : Bool) (text : Text) (held : Held) →
+pub held_in_time : (known : Known) (keys : List HeldKey) (life moment : ℕ) (late : Bool) (text : Text) (held : ReadToken) →
     token_held known keys life moment late text ≡ Go held → moment < held.issued + life + window
 unfolding token_held
 held_in_time known keys life moment late text held is = by_opening life moment late (opens known keys text) held is

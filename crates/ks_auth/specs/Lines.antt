@@ -10,7 +10,7 @@ use Rattle.ks_machine.specs.Attempts.{Attempt, Go, Stop, Lacks, Keys, ◌>>=◌,
 use Rattle.ks_machine.specs.States.{is_user_on}
 use Rattle.ks_machine.specs.TokenLines.{token_lines}
 use Rattle.ks_machine.specs.Validity.{Valid, holder, opens, has_roles, is_scope_on, is_trust_line, roles_of}
-use Rattle.ks_machine.specs.declared.lines.Held.{Held}
+use Rattle.ks_machine.specs.declared.lines.ReadToken.{ReadToken}
 use Rattle.ks_machine.specs.declared.why.Why.{Why}
 use Rattle.ks_machine.specs.declared.why.Why.TheVariants as why
 use Rattle.ks_payload.specs.declared.payload.Payload.{Payload}
@@ -19,7 +19,7 @@ use Rattle.ks_auth.specs.declared.opening.Halt.{Halt}
 use Rattle.ks_auth.specs.declared.opening.Halt.TheVariants as halt
 
 -- what the token holds
-unfoldable pub token_held : Known → List HeldKey → ℕ → ℕ → Bool → Text → Attempt Why Held
+unfoldable pub token_held : Known → List HeldKey → ℕ → ℕ → Bool → Text → Attempt Why ReadToken
 token_held known keys life moment late text = do
   answer ← opens known keys text
   decided (token_lines life moment late answer)
@@ -40,7 +40,7 @@ IsStopped lines (halt.Refused why) = lines ≡ Stop why
 IsStopped lines halt.Needs = (keys : List HeldKey) × (lines ≡ Lacks (Keys keys))
 
 -- a payload and when it was issued, or what stands in the way
-abbrev pub IsHeld : Attempt Why Held → Result (Payload × ℕ) Halt → Type 0
+abbrev pub IsHeld : Attempt Why ReadToken → Result (Payload × ℕ) Halt → Type 0
 IsHeld lines (Ok (payload, issued)) = (plain : List ℕ) × (lines ≡ Go (record { payload = payload; issued = issued; plain = plain }))
 IsHeld lines (Err stop) = IsStopped lines stop
 

@@ -31,7 +31,7 @@ use Rattle.ks_machine.specs.declared.cause.Cause.{Cause}
 use Rattle.ks_machine.specs.declared.change.Change.{Change}
 use Rattle.ks_machine.specs.declared.command.Command.{Command}
 use Rattle.ks_machine.specs.declared.command.Command.TheVariants as command
-use Rattle.ks_machine.specs.declared.lines.Held.{Held}
+use Rattle.ks_machine.specs.declared.lines.ReadToken.{ReadToken}
 use Rattle.ks_machine.specs.declared.why.Why.{Why}
 use Rattle.ks_machine.specs.Attempts.{Attempt, Go, Stop, Lacks, Lack, ◌>>=◌, blame, decided, each, everything, found, need, unless}
 use Rattle.ks_machine.specs.Creations.{create, create_domain, create_group, create_project, create_role, create_user}
@@ -117,7 +117,7 @@ unfolding opens
 whole_opens keys text =
     subst (λ (none : List HeldKey). IsWhole {E = Why} (unless_lacking none (opened everything text keys))) (sym (nothing_lacking text keys)) (whole_go Why _)
 
-whole_lines : (S : State) (moment : ℕ) (held : Held) → IsWhole (held_lines S moment held)
+whole_lines : (S : State) (moment : ℕ) (held : ReadToken) → IsWhole (held_lines S moment held)
 unfolding held_lines
 whole_lines S moment held = search (whole_bind, whole_go, whole_need) depth 14
 

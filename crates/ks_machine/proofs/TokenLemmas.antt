@@ -13,7 +13,7 @@ use Rattle.ks_base.specs.Tables.{Among}
 use Rattle.ks_base.specs.Trusts.{first_trustor}
 use Rattle.ks_base.proofs.RowLemmas.{among_filter}
 use Rattle.ks_base.proofs.WalkLemmas.{walk_then}
-use Rattle.ks_machine.specs.declared.lines.Held.{Held}
+use Rattle.ks_machine.specs.declared.lines.ReadToken.{ReadToken}
 use Rattle.ks_machine.specs.declared.why.Why.TheVariants as why
 use Rattle.ks_machine.specs.Attempts.{Attempt, Go, Stop, Lacks, ◌>>=◌, Known, decided, need}
 use Rattle.ks_machine.specs.Effective.{closure, in_order, leads, roles_implied}
@@ -42,10 +42,10 @@ pub record Holds (S : State) (moment : ℕ) (token : Valid) : Type 0 where
   pub has_roles_of : has_roles S.rows token.payload ≡ true
   pub roles : token.roles ≡ roles_of S.rows token.payload
 
-given : Held → List Id → Valid
+given : ReadToken → List Id → Valid
 given held roles = record { payload = held.payload; issued = held.issued; roles = roles }
 
-of_lines : (S : State) (moment : ℕ) (held : Held) (token : Valid) → held_lines S moment held ≡ Go token → Holds S moment token
+of_lines : (S : State) (moment : ℕ) (held : ReadToken) (token : Valid) → held_lines S moment held ≡ Go token → Holds S moment token
 unfolding held_lines
 of_lines S moment held token goes =
     let revoked = goes_need (not (is_revoked S.events (holder S.rows held.payload) held.issued)) why.Revoked _ token goes in

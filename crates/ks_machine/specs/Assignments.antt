@@ -18,38 +18,38 @@ use Rattle.ks_machine.specs.Outcomes.{Outcome, tells}
 abbrev pub agrees : Fields → Text → Option Id → Bool
 agrees filters name id = option_map_or (λ wanted. option_map_or (same wanted) id false) (value_in filters name) true
 
-abbrev pub user_in : Actor → Option Id
-user_in (actor.User id) = Some id
-user_in (actor.Group id) = None
+abbrev pub user_of_actor : Actor → Option Id
+user_of_actor (actor.User id) = Some id
+user_of_actor (actor.Group id) = None
 
-abbrev pub group_in : Actor → Option Id
-group_in (actor.User id) = None
-group_in (actor.Group id) = Some id
+abbrev pub group_of_actor : Actor → Option Id
+group_of_actor (actor.User id) = None
+group_of_actor (actor.Group id) = Some id
 
-abbrev pub project_in : Target → Option Id
-project_in (target.Project id) = Some id
-project_in (target.Domain id) = None
-project_in target.System = None
+abbrev pub project_of_target : Target → Option Id
+project_of_target (target.Project id) = Some id
+project_of_target (target.Domain id) = None
+project_of_target target.System = None
 
-abbrev pub domain_in : Target → Option Id
-domain_in (target.Project id) = None
-domain_in (target.Domain id) = Some id
-domain_in target.System = None
+abbrev pub domain_of_target : Target → Option Id
+domain_of_target (target.Project id) = None
+domain_of_target (target.Domain id) = Some id
+domain_of_target target.System = None
 
 -- what the filter of the system compares
-abbrev pub system_in : Target → Option Text
-system_in (target.Project id) = None
-system_in (target.Domain id) = None
-system_in target.System = Some (codes "all")
+abbrev pub system_of_target : Target → Option Text
+system_of_target (target.Project id) = None
+system_of_target (target.Domain id) = None
+system_of_target target.System = Some (codes "all")
 
 abbrev pub is_listed : Fields → GrantRow → Bool
 is_listed filters row =
-    agrees filters (codes "user.id") (user_in row.actor)
-    && (agrees filters (codes "group.id") (group_in row.actor)
+    agrees filters (codes "user.id") (user_of_actor row.actor)
+    && (agrees filters (codes "group.id") (group_of_actor row.actor)
     && (agrees filters (codes "role.id") (Some row.role)
-    && (agrees filters (codes "scope.project.id") (project_in row.target)
-    && (agrees filters (codes "scope.domain.id") (domain_in row.target)
-    && agrees filters (codes "scope.system") (system_in row.target)))))
+    && (agrees filters (codes "scope.project.id") (project_of_target row.target)
+    && (agrees filters (codes "scope.domain.id") (domain_of_target row.target)
+    && agrees filters (codes "scope.system") (system_of_target row.target)))))
 
 abbrev pub is_yes : Text → Bool
 is_yes text = not (bytes_eq text (codes "0") || bytes_eq text (codes "false"))

@@ -124,14 +124,14 @@ no_target rows (target.Domain id) = no_domain rows id
 no_target rows target.System = None
 
 -- a parent comes earlier, in the same domain
-abbrev pub no_parent : List ProjectRow → ProjectRow → Option OpenFault
-no_parent before row =
+abbrev pub parent_absent : List ProjectRow → ProjectRow → Option OpenFault
+parent_absent before row =
     fault_if (not (is_top row) && not (list_any (λ other. same other.id row.parent && same other.domain row.domain) before))
     (fault.Absent kind.Project row.parent)
 
 unfoldable pub absent_fault : Rows → PlainOpening → Option OpenFault
 absent_fault rows opening = first_of (
-    first_fault (λ before row. option_or (no_domain rows row.domain) (no_parent before row)) opening.projects ∷
+    first_fault (λ before row. option_or (no_domain rows row.domain) (parent_absent before row)) opening.projects ∷
     first_alone (λ row. no_domain rows row.domain) opening.users ∷
     first_alone (λ row. no_domain rows row.domain) opening.groups ∷
     first_alone (λ row. option_or (no_group rows row.group) (no_user rows row.user)) opening.members ∷

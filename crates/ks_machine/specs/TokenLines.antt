@@ -7,7 +7,7 @@ use Rattle.ks_fernet.specs.Token.{envelope_of}
 use Rattle.ks_fernet.specs.declared.opening.OpenAnswer.{OpenAnswer}
 use Rattle.ks_fernet.specs.declared.opening.OpenAnswer.TheVariants.{NotText, No, Yes}
 use Rattle.ks_payload.specs.Readings.{payload_of}
-use Rattle.ks_machine.specs.declared.lines.Held.{Held}
+use Rattle.ks_machine.specs.declared.lines.ReadToken.{ReadToken}
 use Rattle.ks_machine.specs.declared.why.Why.{Why}
 use Rattle.ks_machine.specs.declared.why.Why.TheVariants as why
 
@@ -47,7 +47,7 @@ end_of true expires = expires + window
 
 -- the lines behind the opening, where `life` is how long a token may live, `moment` is now, and `late` says whether
 -- the request allows an expired token
-unfoldable pub payload_lines : ℕ → ℕ → Bool → ℕ → List ℕ → Result Held Why
+unfoldable pub payload_lines : ℕ → ℕ → Bool → ℕ → List ℕ → Result ReadToken Why
 payload_lines life moment late issued plain = do
   payload ← found (payload_of plain) why.Payload
   _ ← need (nat_le issued moment) why.Future
@@ -56,7 +56,7 @@ payload_lines life moment late issued plain = do
   Ok (record { payload = payload; issued = issued; plain = plain })
 
 -- the first line that does not hold, or what the token holds
-abbrev pub token_lines : ℕ → ℕ → Bool → OpenAnswer → Result Held Why
+abbrev pub token_lines : ℕ → ℕ → Bool → OpenAnswer → Result ReadToken Why
 token_lines life moment late NotText = Err why.Text
 token_lines life moment late No = Err why.Key
 token_lines life moment late (Yes issued plain) = payload_lines life moment late issued plain

@@ -11,7 +11,7 @@ use Rattle.ks_base.specs.Trusts.{first_trustor, is_expired}
 use Rattle.ks_fernet.specs.declared.opening.OpenAnswer.{OpenAnswer}
 use Rattle.ks_fernet.specs.declared.opening.OpenAnswer.TheVariants.{NotText, No, Yes}
 use Rattle.ks_machine.specs.TokenLines.{token_lines}
-use Rattle.ks_machine.specs.declared.lines.Held.{Held}
+use Rattle.ks_machine.specs.declared.lines.ReadToken.{ReadToken}
 use Rattle.ks_machine.specs.declared.why.Why.{Why}
 use Rattle.ks_machine.specs.declared.why.Why.TheVariants as why
 use Rattle.ks_payload.specs.declared.payload.Payload.{Payload}
@@ -141,7 +141,7 @@ pub record Valid : Type 0 where
   pub roles : List Id
 
 -- the lines that the revocations and the rows decide
-unfoldable pub held_lines : State → ℕ → Held → Attempt Why Valid
+unfoldable pub held_lines : State → ℕ → ReadToken → Attempt Why Valid
 held_lines S moment held = do
   _ ← need (not (is_revoked S.events (holder S.rows held.payload) held.issued)) why.Revoked
   _ ← need (is_user_on S.rows held.payload.user) why.User

@@ -4,7 +4,8 @@ ghost use Rattle.ks_machine.specs.FactLaws.{AllFactsSuffice, FewFactsSuffice};
 ghost use Rattle.ks_machine.specs.TokenLaws.{HasItsTrust, IsRefusedEverAfter, IsTrustBound};
 ghost use Rattle.ks_machine.specs.Laws.{AnswersAtCuts, AreComparable, AreOrderedByNumbers, AreSame, CutsComeBefore, CutsGoOn, EventsAreCutOff, EventsGoOn, EventsKeepSound, GoesOn, IsReflexive, IsTransitive, ReplaysEachChange, RolesAreEffective, RolesAreImplied};
 
-/// That one front goes on from another is an order; of two from which one goes on, one goes on from the other.
+/// That one front goes on from another is an order. Of two sound fronts from which one third goes on, and of which as many changes
+/// are kept, one goes on from the other.
 pub fn fronts_are_ordered()
     ensures reflexive { IsReflexive }
     ensures transitive { IsTransitive }

@@ -32,7 +32,7 @@ pub use laws::{
     fronts_are_ordered, journals_go_on, revoked_tokens_stay_refused, roles_are_effective,
     roles_are_implied, trusts_are_bounded,
 };
-pub use lines::{Held, first_answer, read_payload, token_lines};
+pub use lines::{ReadToken, first_answer, read_payload, token_lines};
 pub use reply::Reply;
 pub use settings::{OpenFault, Settings};
 pub use why::Why;

@@ -11,7 +11,7 @@ use std::alloc::Global;
 
 /// What a token holds whose lines up to `Span` hold.
 #[derive(Drop)]
-pub struct Held {
+pub struct ReadToken {
     pub payload: Payload,
     /// When it was issued, in seconds since 1970.
     pub issued: u64,
@@ -47,7 +47,7 @@ fn unopened(alloc: Global, text: &[u8]) -> Result<OpenAnswer, Memory>
 
 /// What a token holds, or the first line up to `Span` that does not hold. `life` is how long a token may
 /// live and `moment` is now, both in seconds; `late` says whether an expired token is allowed for two days.
-pub fn token_lines(life: u64, moment: u64, late: bool, answer: OpenAnswer) -> Result<Held, Why>
+pub fn token_lines(life: u64, moment: u64, late: bool, answer: OpenAnswer) -> Result<ReadToken, Why>
     ensures { result ≡ lines_of life moment late answer }
 {
     match answer {
@@ -57,11 +57,17 @@ pub fn token_lines(life: u64, moment: u64, late: bool, answer: OpenAnswer) -> Re
     }
 }
 
-fn hold_payload(life: u64, moment: u64, late: bool, issued: u64, plain: Bytes) -> Result<Held, Why>
+fn hold_payload(
+    life: u64,
+    moment: u64,
+    late: bool,
+    issued: u64,
+    plain: Bytes,
+) -> Result<ReadToken, Why>
     ensures { result ≡ payload_lines life moment late issued plain }
 {
     let payload = read_payload(life, moment, late, issued, plain.as_slice())?;
-    Ok(Held {
+    Ok(ReadToken {
         payload,
         issued,
         plain,

@@ -4,7 +4,7 @@ use Rattle.std.specs.Option.{option_map}
 use Rattle.hex.specs.Hex.{encode_lower}
 use Rattle.ks_base.specs.declared.key.Key.{Key}
 use Rattle.ks_fernet.specs.KeyText.{key_of}
-use Rattle.ks_machine.specs.declared.lines.Held.{Held}
+use Rattle.ks_machine.specs.declared.lines.ReadToken.{ReadToken}
 use Rattle.ks_machine.specs.declared.why.Why.{Why}
 use Rattle.ks_machine.specs.Moment.{moment_of}
 use Rattle.ks_machine.specs.Names.{name_of}
@@ -31,7 +31,7 @@ abbrev pub life : ℕ
 life = 3600
 
 -- the line that answers a token: what it holds, in lower hex, or why it is refused
-abbrev pub answer_line : Result Held Why → List ℕ
+abbrev pub answer_line : Result ReadToken Why → List ℕ
 answer_line (Ok held) = codes "valid " ++ (encode_lower held.plain ++ codes "\n")
 answer_line (Err why) = codes "refused " ++ (name_of why ++ codes "\n")
 

@@ -4,7 +4,7 @@ ghost use Rattle.ks_machine.specs.Names.{name_of};
 ghost use Rattle.ks_top.specs.Check.{answer_line, answer_of};
 
 use ks_base::{Key, Memory};
-use ks_machine::{Held, Why, first_answer, token_lines};
+use ks_machine::{ReadToken, Why, first_answer, token_lines};
 use std::alloc::{AllocError, Global};
 
 /// How long a token may live that is checked without a server's settings, in seconds.
@@ -25,7 +25,11 @@ pub fn answer(
     push_line(alloc, answers, &token_lines(LIFE, moment, false, said))
 }
 
-fn push_line(alloc: Global, answers: &mut Vec<u8>, said: &Result<Held, Why>) -> Result<(), Memory>
+fn push_line(
+    alloc: Global,
+    answers: &mut Vec<u8>,
+    said: &Result<ReadToken, Why>,
+) -> Result<(), Memory>
     ensures ok { OnOk result (answers.new.items ≡ answers.old.items ++ answer_line said.now) }
     ensures err { OnErr result (answers.new.items ≡ answers.old.items) }
 {
