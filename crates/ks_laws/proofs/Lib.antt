@@ -1,0 +1,7 @@
+mod ListLemmas
+mod OpeningLemmas
+mod TreeLemmas
+mod PeopleLemmas
+mod TrustLemmas
+mod StateLemmas
+mod FrontLemmas

@@ -1,0 +1,3 @@
+pub mod Ancestries
+pub mod Orderly
+pub mod Laws

@@ -1,0 +1,71 @@
+-- What holds of the state of every lawful front: rows have their ranges, and what they name stands.
+use Rattle.std.specs.Prelude.{◌≡◌, ℕ, ◌+◌, ◌*◌, ◌≤◌, List, length, IfSome}
+use Rattle.ks_base.specs.declared.events.EventRow.{EventRow}
+use Rattle.ks_base.specs.declared.limits.TheConstants.{REDELEGATIONS, TRUST_ROLES, USES}
+use Rattle.ks_base.specs.declared.rows.DomainRow.{DomainRow}
+use Rattle.ks_base.specs.declared.rows.GroupRow.{GroupRow}
+use Rattle.ks_base.specs.declared.rows.ProjectRow.{ProjectRow}
+use Rattle.ks_base.specs.declared.trusts.TrustRow.{TrustRow}
+use Rattle.ks_base.specs.declared.users.UserRow.{UserRow}
+use Rattle.ks_base.specs.Rows.{Id, Rows, domain_of}
+use Rattle.ks_base.specs.Tables.{Among, IsAscending, id_cmp}
+use Rattle.ks_base.specs.Trusts.{AreChained}
+use Rattle.ks_laws.specs.Ancestries.{HasAncestry}
+use Rattle.ks_machine.specs.Lawful.{IsStanding}
+use Rattle.ks_machine.specs.Ranges.{IsDomainInRange, IsExpiry, IsGroupInRange, IsProjectInRange, IsRoleInRange, IsSettings, IsUserInRange}
+use Rattle.ks_machine.specs.States.{State}
+
+-- each of the rows
+abbrev pub Each : {X : Type 0} → (X → Type 0) → List X → Type 0
+Each {X} P rows = (row : X) → Among rows row → P row
+
+abbrev pub DomainStands : List DomainRow → Id → Type 0
+DomainStands domains id = IsStanding (domain_of id domains)
+
+-- domains and projects: in range, each project in a domain that stands and below projects that stand, up to a top project
+pub record AreTreesOrderly (domains : List DomainRow) (projects : List ProjectRow) : Type 0 where
+  pub domains_range : Each IsDomainInRange domains
+  pub range : Each IsProjectInRange projects
+  pub order : IsAscending id_cmp (λ (row : ProjectRow). row.id) projects
+  pub homes : Each (λ row. DomainStands domains row.domain) projects
+  pub ancestries : Each (HasAncestry projects) projects
+
+-- no two users of a domain have one name
+abbrev pub AreNamesUnique : List UserRow → Type 0
+AreNamesUnique users =
+    (a b : UserRow) → Among users a → Among users b → a.domain ≡ b.domain → a.name ≡ b.name → a.id ≡ b.id
+
+-- users and groups: in range, and each in a domain that stands
+pub record ArePeopleOrderly (domains : List DomainRow) (users : List UserRow) (groups : List GroupRow) : Type 0 where
+  pub users_range : Each IsUserInRange users
+  pub groups_range : Each IsGroupInRange groups
+  pub user_homes : Each (λ row. DomainStands domains row.domain) users
+  pub group_homes : Each (λ row. DomainStands domains row.domain) groups
+  pub names : AreNamesUnique users
+
+-- a trust that stands: as it was made, with no more uses
+pub record IsTrustHeld (trust : TrustRow) : Type 0 where
+  pub roles_least : 1 ≤ length trust.roles
+  pub roles_most : length trust.roles ≤ TRUST_ROLES
+  pub expires : IfSome trust.expires IsExpiry
+  pub remaining : IfSome trust.remaining (λ uses. uses ≤ USES)
+  pub count : trust.count ≤ REDELEGATIONS
+
+-- trusts: in range, and each behind its parent, with a lower count
+pub record AreTrustsOrderly (trusts : List TrustRow) : Type 0 where
+  pub range : Each IsTrustHeld trusts
+  pub order : IsAscending id_cmp (λ (row : TrustRow). row.id) trusts
+  pub chains : AreChained trusts
+
+pub record AreRowsOrderly (rows : Rows) : Type 0 where
+  pub trees : AreTreesOrderly rows.domains rows.projects
+  pub people : ArePeopleOrderly rows.domains rows.users rows.groups
+  pub roles : Each IsRoleInRange rows.roles
+  pub trusts : AreTrustsOrderly rows.trusts
+
+-- and no revocation is later than the highest moment, nor was a key's number skipped
+pub record IsOrderly (S : State) : Type 0 where
+  pub settings : IsSettings S.settings
+  pub rows : AreRowsOrderly S.rows
+  pub events : Each (λ (event : EventRow). event.moment ≤ S.high) S.events
+  pub ring : S.ring.next ≤ 32 * (S.made + 1)
