@@ -1,14 +1,11 @@
 -- The state of a lawful front is orderly, and its walks are the whole climbs.
-use Rattle.std.proofs.Common.{◌≡◌, ℕ, suc, ◌+◌, ◌≤◌, List, [], ◌∷◌, length, Some, None, refl, sym, ap, subst, ◌∙◌, arith}
+use Rattle.std.proofs.Common.{◌≡◌, ℕ, ◌+◌, ◌≤◌, List, [], ◌∷◌, length, refl, arith}
 use Rattle.std.specs.List.{AllByRecursion}
 use Rattle.ks_base.specs.declared.rows.ProjectRow.{ProjectRow}
 use Rattle.ks_base.specs.declared.trusts.TrustRow.{TrustRow}
-use Rattle.ks_base.specs.Rows.{Id, project_of, trust_of}
-use Rattle.ks_base.specs.Tree.{above}
-use Rattle.ks_base.specs.Trusts.{LeadsTo, first_trustor}
+use Rattle.ks_base.specs.Trusts.{first_trustor}
 use Rattle.ks_base.proofs.ChainLemmas.{first_leads}
-use Rattle.ks_laws.specs.Ancestries.{IsAncestry}
-use Rattle.ks_laws.specs.Laws.{opened_front}
+use Rattle.ks_laws.specs.Laws.{CountsChanges, LawfulIsOrderly, LawfulIsSound, OpeningIsLawful, ProjectsAreClimbed, TrustsLead}
 use Rattle.ks_laws.specs.Orderly.{IsOrderly}
 use Rattle.ks_laws.proofs.ListLemmas.{found_is_among}
 use Rattle.ks_laws.proofs.OpeningLemmas.{opened_is_orderly}
@@ -17,10 +14,9 @@ use Rattle.ks_laws.proofs.TreeLemmas.{above_is_ancestry}
 use Rattle.ks_machine.specs.declared.change.Change.{Change}
 use Rattle.ks_machine.specs.declared.change.Entry.{Entry}
 use Rattle.ks_machine.specs.Changes.{apply, ring_after}
-use Rattle.ks_machine.specs.Fronts.{Front, IsSound, replay, replayed}
-use Rattle.ks_machine.specs.Lawful.{AreLawful, Fits, IsLawful, IsOpeningInRange}
-use Rattle.ks_machine.specs.Opened.{open_fault, opened_state}
-use Rattle.ks_machine.specs.Openings.{PlainOpening}
+use Rattle.ks_machine.specs.Fronts.{replay, replayed}
+use Rattle.ks_machine.specs.Lawful.{AreLawful, Fits}
+use Rattle.ks_machine.specs.Opened.{opened_state}
 use Rattle.ks_machine.specs.States.{State}
 
 -- moments
@@ -37,10 +33,10 @@ all_within S last [] high lawful = tt
 all_within S last (entry ∷ entries) high lawful =
     (last_within (apply S entry.moment entry.change) entry.moment entries high lawful.4, all_within (apply S entry.moment entry.change) entry.moment entries high lawful.4)
 
-pub lawful_is_sound : (f : Front) → IsLawful f → f.kept ≤ length f.changes → IsSound f
+pub lawful_is_sound : LawfulIsSound
 lawful_is_sound f lawful kept = record { moments = all_within (opened_state f.opening) 0 f.changes f.high lawful.changes; kept = kept }
 
-pub opening_is_lawful : (opening : PlainOpening) → IsOpeningInRange opening → open_fault opening ≡ None → IsLawful (opened_front opening)
+pub opening_is_lawful : OpeningIsLawful
 unfolding AreLawful
 opening_is_lawful opening range accepted =
     record { range = range; accepted = accepted; changes = omega arith; high = omega arith; count = omega arith }
@@ -61,7 +57,7 @@ orderly_after S last (entry ∷ entries) high lawful old =
     (orderly_kept (record S { high = high }) entry.moment entry.change (fits_at S high entry.moment entry.change lawful.2)
     (last_within (apply S entry.moment entry.change) entry.moment entries high lawful.4) old)
 
-pub lawful_is_orderly : (f : Front) → IsLawful f → IsOrderly (replay f)
+pub lawful_is_orderly : LawfulIsOrderly
 unfolding replay opened_state
 lawful_is_orderly f lawful =
     orderly_after (opened_state f.opening) 0 f.changes f.high lawful.changes
@@ -73,20 +69,18 @@ unfolding replayed apply
 made_after S [] = omega arith
 made_after S (entry ∷ entries) = omega (arith, made_after (apply S entry.moment entry.change) entries)
 
-pub changes_are_counted : (f : Front) → IsLawful f → (replay f).made ≡ length f.changes
+pub changes_are_counted : CountsChanges
 unfolding replay opened_state
 changes_are_counted f lawful = omega (arith, made_after (opened_state f.opening) f.changes)
 
 -- walks
 
-pub projects_are_climbed : (f : Front) (id : Id) (row : ProjectRow) → IsLawful f → project_of id (replay f).rows.projects ≡ Some row →
-    IsAncestry (replay f).rows.projects row (above (replay f).rows.projects row)
+pub projects_are_climbed : ProjectsAreClimbed
 projects_are_climbed f id row lawful found =
     above_is_ancestry (replay f).rows.domains (replay f).rows.projects row (lawful_is_orderly f lawful).rows.trees
     (found_is_among (λ (r : ProjectRow). r.id) id (replay f).rows.projects row found)
 
-pub trusts_lead : (f : Front) (id : Id) (trust : TrustRow) → IsLawful f → trust_of id (replay f).rows.trusts ≡ Some trust →
-    LeadsTo (replay f).rows.trusts trust (first_trustor (replay f).rows.trusts trust)
+pub trusts_lead : TrustsLead
 trusts_lead f id trust lawful found =
     let chains = (lawful_is_orderly f lawful).rows.trusts.chains in
     (first_leads (replay f).rows.trusts trust (first_trustor (replay f).rows.trusts trust) chains

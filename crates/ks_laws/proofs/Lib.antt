@@ -4,4 +4,11 @@ mod TreeLemmas
 mod PeopleLemmas
 mod TrustLemmas
 mod StateLemmas
+mod GivesLemmas
+mod LineLemmas
+mod TokenLemmas
+mod RowCommands
+mod TrustCommands
+mod CommandLemmas
 mod FrontLemmas
+mod LawLemmas

@@ -1,25 +1,21 @@
 -- An accepted opening opens an orderly state.
-use Rattle.std.proofs.Common.{◌≡◌, ℕ, ◌+◌, ◌*◌, ◌≤◌, Bool, true, false, ◌&&◌, ◌||◌, ◌⊎◌, inl, inr, List, [], ◌∷◌, ◌++◌, length, Option, Some, None, is_some, option_map, refl, sym, ap, subst, ◌∙◌, append_assoc, arith}
+use Rattle.std.proofs.Common.{◌≡◌, ℕ, ◌≤◌, Bool, true, false, ◌&&◌, ◌⊎◌, inl, inr, List, [], ◌∷◌, ◌++◌, length, Option, Some, None, is_some, option_map, refl, sym, ap, subst, ◌∙◌, append_assoc, arith}
 use Rattle.std.specs.Prelude.{not, nat_lt, ◌==◌, if◌then◌else◌}
-use Rattle.std.specs.List.{AllByRecursion, find, list_any}
+use Rattle.std.specs.List.{find, list_any}
 use Rattle.std.specs.Option.{option_or}
-use Rattle.std.specs.declared.cmp.Ordering.{Ordering}
-use Rattle.std.specs.Cmp.{IsTotalOrder}
 use Rattle.std.proofs.lemmas.Bool.Decides.{nat_tests}
 use Rattle.std.proofs.lemmas.Cmp.{nat_list_cmp_total}
 use Rattle.std.proofs.lemmas.Bool.{and_parts}
 use Rattle.ks_base.specs.declared.faults.LoadFault.{LoadFault}
-use Rattle.ks_base.specs.declared.faults.LoadFault.TheVariants.{Empty, Repeated, TooMany}
+use Rattle.ks_base.specs.declared.faults.LoadFault.TheVariants.{Empty, TooMany}
 use Rattle.ks_base.specs.declared.key.Key.{Key}
 use Rattle.ks_base.specs.declared.kinds.Kind.{Kind}
 use Rattle.ks_base.specs.declared.kinds.Kind.TheVariants as kind
-use Rattle.ks_base.specs.declared.rows.DomainRow.{DomainRow}
 use Rattle.ks_base.specs.declared.rows.GroupRow.{GroupRow}
 use Rattle.ks_base.specs.declared.rows.ProjectRow.{ProjectRow}
-use Rattle.ks_base.specs.declared.trusts.TrustRow.{TrustRow}
 use Rattle.ks_base.specs.declared.users.UserRow.{UserRow}
 use Rattle.ks_base.specs.People.{is_group_named, is_user_named}
-use Rattle.ks_base.specs.Refusals.{fault_if, first_of}
+use Rattle.ks_base.specs.Refusals.{first_of}
 use Rattle.ks_base.specs.Rows.{Id, Rows, same, domain_of, project_of}
 use Rattle.ks_base.specs.Tables.{Among, IsAscending, find_row, id_cmp, put_row}
 use Rattle.ks_base.specs.RoleLists.{is_named}
@@ -27,8 +23,8 @@ use Rattle.ks_base.specs.Tree.{is_top}
 use Rattle.ks_base.specs.Trees.{is_domain_named, is_project_named}
 use Rattle.ks_base.proofs.RowLemmas.{among_put, find_put}
 use Rattle.ks_base.proofs.TableLemmas.{ascending_put}
-use Rattle.ks_laws.specs.Ancestries.{HasAncestry, IsAncestry}
-use Rattle.ks_laws.specs.Orderly.{AreNamesUnique, ArePeopleOrderly, AreRowsOrderly, AreTreesOrderly, AreTrustsOrderly, DomainStands, Each, IsOrderly}
+use Rattle.ks_laws.specs.Ancestries.{HasAncestry}
+use Rattle.ks_laws.specs.Orderly.{AreNamesUnique, ArePeopleOrderly, AreTreesOrderly, AreTrustsOrderly, DomainStands, Each, IsOrderly}
 use Rattle.ks_laws.proofs.ListLemmas.{after_put, among_both, among_first, among_last, any_from, any_to, each_of_all, found_none, is_same, is_there, none_apply, none_mapped, same_is, unless_fault}
 use Rattle.ks_machine.specs.declared.settings.OpenFault.{OpenFault}
 use Rattle.ks_machine.specs.declared.settings.OpenFault.TheVariants as fault
@@ -36,7 +32,7 @@ use Rattle.ks_machine.specs.Lawful.{IsOpeningInRange}
 use Rattle.ks_machine.specs.Opened.{absent_fault, disabled_above, first_alone, first_fault, first_in, full_fault, id_repeated, ids_fault, name_taken, names_fault, no_actor, no_domain, no_group, no_role, no_target, no_user, open_fault, opened_state, parent_absent, prohibited, put_all, rows_opened, too_deep}
 use Rattle.ks_machine.specs.Openings.{PlainOpening}
 use Rattle.ks_machine.specs.Ranges.{IsDomainInRange, IsGroupInRange, IsProjectInRange, IsRoleInRange, IsUserInRange}
-use Rattle.ks_ring.specs.Rings.{RingState, new_of, no_ring, refusal_of}
+use Rattle.ks_ring.specs.Rings.{no_ring, refusal_of}
 use Rattle.ks_ring.proofs.LawLemmas.{loading_adds_few}
 
 -- rows that are put one after the other

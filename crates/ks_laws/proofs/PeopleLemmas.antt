@@ -1,8 +1,7 @@
 -- Each change of domains, users and groups keeps them orderly.
-use Rattle.std.proofs.Common.{◌≡◌, Bool, true, false, ◌&&◌, ◌⊎◌, inl, inr, List, [], ◌∷◌, Option, Some, None, option_map, refl, sym, ap, subst, ◌∙◌}
+use Rattle.std.proofs.Common.{◌≡◌, Bool, true, false, ◌&&◌, ◌⊎◌, inl, inr, List, [], ◌∷◌, Option, Some, None, refl, sym, ap, subst, ◌∙◌}
 use Rattle.std.specs.Prelude.{not}
 use Rattle.std.specs.List.{filter, find}
-use Rattle.ks_base.specs.declared.faults.RowFault.{RowFault}
 use Rattle.ks_base.specs.declared.faults.RowFault.TheVariants as fault
 use Rattle.ks_base.specs.declared.rows.DomainRow.{DomainRow}
 use Rattle.ks_base.specs.declared.rows.GroupRow.{GroupRow}
@@ -12,7 +11,7 @@ use Rattle.ks_base.specs.PeopleFaults.{add_user_fault, is_other_user_named, othe
 use Rattle.ks_base.specs.Rows.{Id, same, user_of}
 use Rattle.ks_base.specs.Tables.{Among, drop_row, id_cmp, put_row}
 use Rattle.ks_base.proofs.RowLemmas.{among_drop, among_filter, among_put}
-use Rattle.ks_laws.specs.Orderly.{AreNamesUnique, ArePeopleOrderly, DomainStands, Each}
+use Rattle.ks_laws.specs.Orderly.{AreNamesUnique, ArePeopleOrderly, DomainStands}
 use Rattle.ks_laws.proofs.ListLemmas.{each_drop, each_filter, each_put, found_none, is_same, none_apply, none_mapped, same_is}
 use Rattle.ks_laws.proofs.TreeLemmas.{homes_left, homes_put}
 use Rattle.ks_machine.specs.Lawful.{IsPut}

@@ -1,14 +1,8 @@
 -- Each change that fits keeps a state orderly.
-use Rattle.std.proofs.Common.{◌≡◌, ℕ, suc, ◌+◌, ◌*◌, ◌≤◌, ◌⊎◌, inl, inr, List, [], ◌∷◌, ◌++◌, length, Option, Some, None, refl, sym, ap, subst, ◌∙◌, arith}
+use Rattle.std.proofs.Common.{◌≡◌, ℕ, ◌+◌, ◌≤◌, ◌⊎◌, inl, inr, List, ◌++◌, subst, arith}
 use Rattle.ks_base.specs.declared.events.EventRow.{EventRow}
 use Rattle.ks_base.specs.declared.events.Revoke.{Revoke}
-use Rattle.ks_base.specs.declared.rows.DomainRow.{DomainRow}
-use Rattle.ks_base.specs.declared.rows.GroupRow.{GroupRow}
-use Rattle.ks_base.specs.declared.rows.ProjectRow.{ProjectRow}
 use Rattle.ks_base.specs.declared.rows.RoleRow.{RoleRow}
-use Rattle.ks_base.specs.declared.trusts.TrustRow.{TrustRow}
-use Rattle.ks_base.specs.declared.users.UserRow.{UserRow}
-use Rattle.ks_base.specs.Rows.{Id, Rows}
 use Rattle.ks_base.specs.Tables.{Among}
 use Rattle.ks_laws.specs.Orderly.{AreRowsOrderly, Each, IsOrderly}
 use Rattle.ks_laws.proofs.ListLemmas.{among_both, among_mapped, each_drop, each_put}
@@ -22,7 +16,7 @@ use Rattle.ks_machine.specs.Changes.{apply, domain_dropped, ended_by, events_at,
 use Rattle.ks_machine.specs.Lawful.{Fits}
 use Rattle.ks_machine.specs.Ranges.{IsRoleInRange}
 use Rattle.ks_machine.specs.States.{State}
-use Rattle.ks_machine.specs.Tables.{people, roles, trees}
+use Rattle.ks_machine.specs.Tables.{people, trees}
 use Rattle.ks_ring.proofs.LawLemmas.{loading_adds_few, rotation_rises}
 
 rows_kept : (S : State) (moment : ℕ) (what : Change) → Fits S moment what → AreRowsOrderly S.rows → AreRowsOrderly (rows_after S.rows what)

@@ -1,5 +1,5 @@
 -- Each change of domains and projects keeps them orderly, and what is computed as the projects above one is its whole climb.
-use Rattle.std.proofs.Common.{◌≡◌, ℕ, zero, suc, ◌+◌, ◌<◌, ◌≤◌, Bool, true, false, ◌&&◌, ◌⊎◌, inl, inr, List, [], ◌∷◌, length, cond, nat_lt, Option, Some, None, is_some, option_map, refl, sym, ap, subst, ◌∙◌, arith}
+use Rattle.std.proofs.Common.{◌≡◌, ℕ, zero, suc, ◌<◌, ◌≤◌, Bool, true, false, ◌⊎◌, inl, inr, List, [], ◌∷◌, length, cond, nat_lt, Option, Some, None, is_some, refl, sym, ap, subst, ◌∙◌, arith}
 use Rattle.std.specs.Prelude.{not}
 use Rattle.std.specs.List.{filter, find}
 use Rattle.std.proofs.lemmas.Bool.Decides.{nat_tests}
@@ -9,18 +9,17 @@ use Rattle.ks_base.specs.declared.faults.TreeFault.TheVariants as fault
 use Rattle.ks_base.specs.declared.kinds.Kind.TheVariants as kind
 use Rattle.ks_base.specs.declared.rows.DomainRow.{DomainRow}
 use Rattle.ks_base.specs.declared.rows.ProjectRow.{ProjectRow}
-use Rattle.ks_base.specs.Refusals.{fault_if}
 use Rattle.ks_base.specs.Rows.{Id, same, domain_of, project_of}
 use Rattle.ks_base.specs.Tables.{Among, drop_row, find_row, has_key, id_cmp, put_row}
-use Rattle.ks_base.specs.Tree.{above, above_within, is_child_of, is_top, parent_of, with_parent}
+use Rattle.ks_base.specs.Tree.{above, above_within, is_child_of, is_top}
 use Rattle.ks_base.specs.TreeFaults.{add_project_fault, disabled_above, domain_absent, drop_project_fault, has_children, no_parent, parent_wrong, project_absent, project_id_taken, project_name_taken, projects_full, too_deep}
 use Rattle.ks_base.specs.Trees.{TreeState, lies_in}
 use Rattle.ks_base.proofs.RowLemmas.{among_drop, among_filter, among_put}
 use Rattle.ks_base.proofs.TableLemmas.{ascending_drop, ascending_filter, ascending_put}
 use Rattle.ks_laws.specs.Ancestries.{HasAncestry, IsAncestry}
 use Rattle.ks_laws.specs.Orderly.{AreTreesOrderly, DomainStands, Each}
-use Rattle.ks_laws.proofs.ListLemmas.{after_drop, after_put, each_drop, each_filter, each_put, found_is_among, found_kept, found_none, id_found, is_free, is_same, is_there, none_apply, none_mapped, same_is, some_there, stands_put, unless_fault}
-use Rattle.ks_machine.specs.Lawful.{IsPut, IsStanding}
+use Rattle.ks_laws.proofs.ListLemmas.{after_drop, after_put, each_drop, each_filter, each_put, found_is_among, found_kept, found_none, is_same, is_there, none_apply, none_mapped, same_is, stands_put, unless_fault}
+use Rattle.ks_machine.specs.Lawful.{IsPut}
 use Rattle.ks_machine.specs.Ranges.{IsDomainInRange, IsProjectInRange}
 
 -- domains

@@ -1,7 +1,7 @@
 -- Each change of trusts keeps them orderly.
-use Rattle.std.proofs.Common.{◌≡◌, ℕ, zero, suc, ◌+◌, ◌-◌, ◌<◌, ◌≤◌, Bool, true, false, ◌&&◌, ◌⊎◌, inl, inr, List, [], ◌∷◌, length, map, cond, Option, Some, None, IfSome, IsSome, IsSomeAnd, is_some, option_map, refl, sym, ap, subst, ◌∙◌, arith}
+use Rattle.std.proofs.Common.{◌≡◌, ℕ, ◌+◌, ◌-◌, ◌<◌, ◌≤◌, Bool, true, false, ◌&&◌, ◌⊎◌, inl, inr, List, [], ◌∷◌, length, map, cond, Option, Some, None, IfSome, IsSomeAnd, is_some, option_map, refl, sym, ap, subst, ◌∙◌, arith}
 use Rattle.std.specs.Prelude.{not, nat_le, ◌==◌, if◌then◌else◌}
-use Rattle.std.specs.List.{filter, find}
+use Rattle.std.specs.List.{find}
 use Rattle.std.specs.Ordering.{is_eq}
 use Rattle.std.proofs.lemmas.Bool.Decides.{nat_tests}
 use Rattle.std.proofs.lemmas.Cmp.{nat_list_cmp_total}
@@ -11,15 +11,15 @@ use Rattle.ks_base.specs.declared.kinds.Kind.TheVariants as kind
 use Rattle.ks_base.specs.declared.limits.TheConstants.{REDELEGATIONS, TRUST_ROLES, USES}
 use Rattle.ks_base.specs.declared.trusts.TrustRow.{TrustRow}
 use Rattle.ks_base.specs.Limits.{limit}
-use Rattle.ks_base.specs.Refusals.{fault_if, first_of}
+use Rattle.ks_base.specs.Refusals.{fault_if}
 use Rattle.ks_base.specs.Rows.{Id, Rows, same, trust_of}
-use Rattle.ks_base.specs.Tables.{AreAbove, Among, IsAscending, drop_row, find_row, has_key, id_cmp, put_row}
-use Rattle.ks_base.specs.Trusts.{AreChained, Follows, FollowsParent, IsChained, creation_fault, first_missing, goes, is_expired, is_later, is_set, parent_fault, parent_trust, trusts_left, under_fault, use_trust, used}
-use Rattle.ks_base.proofs.ChainLemmas.{goes_down, parent_among}
-use Rattle.ks_base.proofs.RowLemmas.{among_filter, among_put, find_put}
+use Rattle.ks_base.specs.Tables.{AreAbove, Among, IsAscending, find_row, has_key, id_cmp, put_row}
+use Rattle.ks_base.specs.Trusts.{AreChained, Follows, IsChained, creation_fault, first_missing, goes, is_expired, is_later, is_set, parent_fault, parent_trust, trusts_left, under_fault, use_trust, used}
+use Rattle.ks_base.proofs.ChainLemmas.{goes_down}
+use Rattle.ks_base.proofs.RowLemmas.{among_filter, among_put}
 use Rattle.ks_base.proofs.TableLemmas.{ascending_filter, ascending_put}
-use Rattle.ks_laws.specs.Orderly.{AreTrustsOrderly, Each, IsTrustHeld}
-use Rattle.ks_laws.proofs.ListLemmas.{after_put, among_mapped, each_filter, each_put, found_kept, found_passes, none_apply, none_mapped, unless_fault}
+use Rattle.ks_laws.specs.Orderly.{AreTrustsOrderly, IsTrustHeld}
+use Rattle.ks_laws.proofs.ListLemmas.{after_put, among_mapped, each_filter, each_put, found_kept, none_apply, none_mapped, unless_fault}
 use Rattle.ks_machine.specs.Lawful.{IsTrustMade}
 use Rattle.ks_machine.specs.Ranges.{AreUses, IsExpiry, IsTrustInRange}
 use Rattle.ks_machine.specs.TrustCommands.{roles_to_give}

@@ -1,5 +1,5 @@
 -- What holds of the state of every lawful front: rows have their ranges, and what they name stands.
-use Rattle.std.specs.Prelude.{◌≡◌, ℕ, ◌+◌, ◌*◌, ◌≤◌, List, length, IfSome}
+use Rattle.std.specs.Prelude.{◌≡◌, ◌+◌, ◌*◌, ◌≤◌, List, length, IfSome}
 use Rattle.ks_base.specs.declared.events.EventRow.{EventRow}
 use Rattle.ks_base.specs.declared.limits.TheConstants.{REDELEGATIONS, TRUST_ROLES, USES}
 use Rattle.ks_base.specs.declared.rows.DomainRow.{DomainRow}
@@ -63,7 +63,7 @@ pub record AreRowsOrderly (rows : Rows) : Type 0 where
   pub roles : Each IsRoleInRange rows.roles
   pub trusts : AreTrustsOrderly rows.trusts
 
--- and no revocation is later than the highest moment, nor was a key's number skipped
+-- and no revocation is later than the highest moment, and the opening and each change gave at most 32 numbers to keys
 pub record IsOrderly (S : State) : Type 0 where
   pub settings : IsSettings S.settings
   pub rows : AreRowsOrderly S.rows

@@ -2,11 +2,12 @@
 //! a function that does nothing.
 #![tactic(auto)]
 
-ghost use Rattle.ks_laws.specs.Laws.{CountsChanges, LawfulIsOrderly, LawfulIsSound, OpeningIsLawful, ProjectsAreClimbed, TrustsLead};
+ghost use Rattle.ks_laws.specs.Laws.{CountsChanges, LawfulGoesOn, LawfulIsOrderly, LawfulIsSound, OpeningIsLawful, ProjectsAreClimbed, RepliesAreTellable, TrustsLead};
 
-/// An accepted opening opens a lawful front, and a lawful front that keeps no more changes than it has is sound.
-pub fn fronts_are_lawful()
+/// An accepted opening opens a lawful front, and the front after a call is as lawful as the one before it.
+pub fn lawful_fronts_go_on()
     ensures opened { OpeningIsLawful }
+    ensures later { LawfulGoesOn }
     ensures sound { LawfulIsSound }
 {}
 
@@ -14,6 +15,11 @@ pub fn fronts_are_lawful()
 pub fn lawful_states_are_orderly()
     ensures orderly { LawfulIsOrderly }
     ensures counted { CountsChanges }
+{}
+
+/// Each moment in a reply has a text.
+pub fn replies_can_be_told()
+    ensures { RepliesAreTellable }
 {}
 
 /// What is computed of the projects above one, and of the first trustor of a trust, is what the relations say.

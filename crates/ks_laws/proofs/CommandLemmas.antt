@@ -1,0 +1,402 @@
+-- Every command: the change that it makes fits, and what it tells can be told.
+use Rattle.std.proofs.Common.{◌≡◌, ℕ, ◌≤◌, ◌<◌, ◌^◌, Bool, true, false, List, [], ◌∷◌, Option, Some, None, is_some, codes, refl, ap, arith}
+use Rattle.std.specs.Prelude.{not, nat_lt}
+use Rattle.std.specs.List.{AllByRecursion, filter}
+use Rattle.std.proofs.lemmas.Bool.Decides.{nat_tests}
+use Rattle.ks_base.specs.declared.events.EventRow.{EventRow}
+use Rattle.ks_base.specs.declared.faults.KeysFault.TheVariants as keys
+use Rattle.ks_base.specs.declared.faults.RowFault.TheVariants as row_fault
+use Rattle.ks_base.specs.declared.grants.Actor.{Actor}
+use Rattle.ks_base.specs.declared.grants.Actor.TheVariants as actor
+use Rattle.ks_base.specs.declared.grants.GrantRow.{GrantRow}
+use Rattle.ks_base.specs.declared.grants.ImplyRow.{ImplyRow}
+use Rattle.ks_base.specs.declared.grants.Target.{Target}
+use Rattle.ks_base.specs.declared.grants.Target.TheVariants as target
+use Rattle.ks_base.specs.declared.key.Key.{Key}
+use Rattle.ks_base.specs.declared.kinds.Kind.{Kind}
+use Rattle.ks_base.specs.declared.kinds.Kind.TheVariants as kind
+use Rattle.ks_base.specs.declared.receipt.Drawn.{Drawn}
+use Rattle.ks_base.specs.declared.shapes.Filter.{Filter}
+use Rattle.ks_base.specs.declared.users.MemberRow.{MemberRow}
+use Rattle.ks_base.specs.Grants.{grant_fault, stands, ungrant_fault}
+use Rattle.ks_base.specs.People.{member_of}
+use Rattle.ks_base.specs.PeopleFaults.{drop_group_fault, drop_user_fault, join_group_fault, leave_group_fault}
+use Rattle.ks_base.specs.Refusals.{fault_if, first_of}
+use Rattle.ks_base.specs.Revocation.{is_live, live}
+use Rattle.ks_base.specs.RoleFaults.{imply_fault, unimply_fault}
+use Rattle.ks_base.specs.RoleLists.{is_implication}
+use Rattle.ks_base.specs.Rows.{Id, Text, Rows, domain_of, group_of, project_of, role_of, user_of}
+use Rattle.ks_base.specs.TreeFaults.{drop_domain_fault, drop_project_fault}
+use Rattle.ks_laws.specs.Orderly.{IsOrderly}
+use Rattle.ks_laws.proofs.GivesLemmas.{Gives, IsGood, gives_bind, gives_blame, gives_fault, gives_found, gives_go, gives_need, gives_past, gives_stop, good_changes, good_tells}
+use Rattle.ks_laws.proofs.ListLemmas.{all_mapped, all_of_each, each_filter}
+use Rattle.ks_laws.proofs.RowCommands.{good_change_password, good_create, good_update}
+use Rattle.ks_laws.proofs.TokenLemmas.{IsToken, good_login, token_tellable, valid_token}
+use Rattle.ks_laws.proofs.TrustCommands.{good_create_trust, good_delete_trust, good_get_trust, good_list_trusts, good_roles_of_trust}
+use Rattle.ks_machine.specs.declared.body_out.BodyOut.{BodyOut}
+use Rattle.ks_machine.specs.declared.body_out.BodyOut.TheVariants as body
+use Rattle.ks_machine.specs.declared.body_out.Row.{Row}
+use Rattle.ks_machine.specs.declared.body_out.Row.TheVariants as row
+use Rattle.ks_machine.specs.declared.call.Call.{Call}
+use Rattle.ks_machine.specs.declared.call.FolderRead.{FolderRead}
+use Rattle.ks_machine.specs.declared.call.FolderRead.TheVariants as folder
+use Rattle.ks_machine.specs.declared.cause.Cause.{Cause}
+use Rattle.ks_machine.specs.declared.cause.Cause.TheVariants as cause
+use Rattle.ks_machine.specs.declared.change.Change.{Change}
+use Rattle.ks_machine.specs.declared.change.Change.TheVariants as change
+use Rattle.ks_machine.specs.declared.command.Command.{Command}
+use Rattle.ks_machine.specs.declared.command.Command.TheVariants as command
+use Rattle.ks_machine.specs.Actions.{requirements}
+use Rattle.ks_machine.specs.Assignments.{assignments}
+use Rattle.ks_machine.specs.Attempts.{Attempt, Go, Known, found, need}
+use Rattle.ks_machine.specs.Fit.{AreFields, IsFolderFor, IsGrant}
+use Rattle.ks_machine.specs.Keys.{keys_read, load_keys, rotate_keys}
+use Rattle.ks_machine.specs.Lawful.{ActorStands, Fits, IsStanding, TakesKeys, TargetStands}
+use Rattle.ks_machine.specs.Listings.{delete, events, get, is_domain_listed, is_group_listed, is_project_listed, is_role_listed, is_user_listed, list, row_at, rows_listed}
+use Rattle.ks_machine.specs.Members.{actor_stands, all_stand, grant, grants_of, groups_of, implication, implied, implies, imply, is_granted, is_implied, is_in, join, leave, members_of, target_stands, told_inference, ungrant, unimply, unless_standing}
+use Rattle.ks_machine.specs.Moment.{last_moment}
+use Rattle.ks_machine.specs.Outcomes.{Outcome, key, tells}
+use Rattle.ks_machine.specs.States.{State}
+use Rattle.ks_machine.specs.Steps.{answered, as_caller, as_caller_about, caller_of, is_allowed, missing, revoked_subject, subject_of, told_subject}
+use Rattle.ks_machine.specs.Tables.{of_row, of_tree, people, roles, standing_domain, standing_group, standing_project, standing_role, standing_user, trees, unless_row, unless_tree}
+use Rattle.ks_machine.specs.Told.{IsBodyTellable, IsEventTellable, IsRowTellable}
+use Rattle.ks_machine.specs.Validity.{Valid, validity}
+use Rattle.ks_ring.specs.Rings.{highest, refusal_of}
+
+-- who asks, and the token that a command is about
+
+caller_valid : (known : Known) (S : State) (moment : ℕ) (text : Option Text) → Gives (IsToken S moment) (caller_of known S moment text)
+unfolding caller_of
+caller_valid known S moment text =
+    gives_past (IsToken S moment) (found text cause.NoToken) _ (λ text.
+    gives_blame (IsToken S moment) (λ why. cause.CallerToken why) (validity known S moment false text) (valid_token known S moment false text))
+
+subject_valid : (known : Known) (S : State) (moment : ℕ) (late : Bool) (text : Option Text) → Gives (IsToken S moment) (subject_of known S moment late text)
+unfolding subject_of
+subject_valid known S moment late text =
+    gives_past (IsToken S moment) (found text (missing (codes "X-Subject-Token"))) _ (λ text.
+    gives_blame (IsToken S moment) (λ why. cause.SubjectToken why) (validity known S moment late text) (valid_token known S moment late text))
+
+good_as_caller : (known : Known) (S : State) (moment : ℕ) (call : Call) (own : Valid → Attempt Cause Outcome) →
+    ((caller : Valid) → IsToken S moment caller → Gives (IsGood S moment) (own caller)) → Gives (IsGood S moment) (as_caller known S moment call own)
+unfolding as_caller
+good_as_caller known S moment call own each =
+    gives_bind (IsToken S moment) (IsGood S moment) (caller_of known S moment call.caller) _ (caller_valid known S moment call.caller) (λ caller is.
+    gives_past (IsGood S moment) (is_allowed S caller None call.command) _ (λ _. each caller is))
+
+good_about : (known : Known) (S : State) (moment : ℕ) (call : Call) (late : Bool) (own : Text → Valid → Outcome) →
+    ((text : Text) (subject : Valid) → IsToken S moment subject → IsGood S moment (own text subject)) → Gives (IsGood S moment) (as_caller_about known S moment call late own)
+unfolding as_caller_about
+good_about known S moment call late own each =
+    gives_past (IsGood S moment) (caller_of known S moment call.caller) _ (λ caller.
+    gives_bind (IsToken S moment) (IsGood S moment) (subject_of known S moment late call.subject) _ (subject_valid known S moment late call.subject) (λ subject is.
+    gives_past (IsGood S moment) (is_allowed S caller (Some subject) call.command) _ (λ _.
+    gives_past (IsGood S moment) (found call.subject (missing (codes "X-Subject-Token"))) _ (λ text.
+    gives_go Cause (IsGood S moment) (own text subject) (each text subject is)))))
+
+subject_good : (S : State) (moment : ℕ) (text : Text) (subject : Valid) → moment ≤ last_moment → IsToken S moment subject → IsGood S moment (told_subject S text subject)
+subject_good S moment text subject le is = record {
+  fits = λ room. tt;
+  told = token_tellable S.rows text false subject.payload subject.issued subject.roles (omega (arith, is.issued, le)) is.range.expires;
+}
+
+revoked_good : (S : State) (moment : ℕ) (text : Text) (subject : Valid) → IsToken S moment subject → IsGood S moment (revoked_subject text subject)
+unfolding Fits
+revoked_good S moment text subject is = record { fits = λ room. is.range.audit.0; told = tt }
+
+-- rows of the five kinds
+
+row_tellable : (rows : Rows) (kind_of_row : Kind) (id : Id) → Gives IsRowTellable (row_at rows kind_of_row id)
+unfolding row_at
+row_tellable rows kind.Domain id = gives_past IsRowTellable (standing_domain rows id) _ (λ found. gives_go Cause IsRowTellable (row.Domain found) tt)
+row_tellable rows kind.Project id = gives_past IsRowTellable (standing_project rows id) _ (λ found. gives_go Cause IsRowTellable (row.Project found) tt)
+row_tellable rows kind.User id = gives_past IsRowTellable (standing_user rows id) _ (λ found. gives_go Cause IsRowTellable (row.User found) tt)
+row_tellable rows kind.Group id = gives_past IsRowTellable (standing_group rows id) _ (λ found. gives_go Cause IsRowTellable (row.Group found) tt)
+row_tellable rows kind.Role id = gives_past IsRowTellable (standing_role rows id) _ (λ found. gives_go Cause IsRowTellable (row.Role found) tt)
+row_tellable rows kind.Implication id = gives_stop Row IsRowTellable (cause.Absent kind.Implication id)
+row_tellable rows kind.Grant id = gives_stop Row IsRowTellable (cause.Absent kind.Grant id)
+row_tellable rows kind.Member id = gives_stop Row IsRowTellable (cause.Absent kind.Member id)
+row_tellable rows kind.Trust id = gives_stop Row IsRowTellable (cause.Absent kind.Trust id)
+row_tellable rows kind.Event id = gives_stop Row IsRowTellable (cause.Absent kind.Event id)
+
+good_get : (S : State) (moment : ℕ) (kind_of_row : Kind) (id : Id) → Gives (IsGood S moment) (get S.rows kind_of_row id)
+unfolding get
+good_get S moment kind_of_row id =
+    gives_bind IsRowTellable (IsGood S moment) (row_at S.rows kind_of_row id) _ (row_tellable S.rows kind_of_row id) (λ found is. good_tells S moment (body.One found false) is)
+
+listed_tellable : (rows : Rows) (kind_of_row : Kind) (filters : Filter) → AllByRecursion IsRowTellable (rows_listed rows kind_of_row filters.fields)
+unfolding rows_listed
+listed_tellable rows kind.Domain filters = all_mapped IsRowTellable (λ found. row.Domain found) (filter (is_domain_listed filters.fields) rows.domains) (λ x among. tt)
+listed_tellable rows kind.Project filters = all_mapped IsRowTellable (λ found. row.Project found) (filter (is_project_listed filters.fields) rows.projects) (λ x among. tt)
+listed_tellable rows kind.User filters = all_mapped IsRowTellable (λ found. row.User found) (filter (is_user_listed filters.fields) rows.users) (λ x among. tt)
+listed_tellable rows kind.Group filters = all_mapped IsRowTellable (λ found. row.Group found) (filter (is_group_listed filters.fields) rows.groups) (λ x among. tt)
+listed_tellable rows kind.Role filters = all_mapped IsRowTellable (λ found. row.Role found) (filter (is_role_listed filters.fields) rows.roles) (λ x among. tt)
+listed_tellable rows kind.Implication filters = tt
+listed_tellable rows kind.Grant filters = tt
+listed_tellable rows kind.Member filters = tt
+listed_tellable rows kind.Trust filters = tt
+listed_tellable rows kind.Event filters = tt
+
+good_list : (S : State) (moment : ℕ) (kind_of_row : Kind) (filters : Filter) → Gives {E = Cause} (IsGood S moment) (Go (list S.rows kind_of_row filters))
+unfolding list
+good_list S moment kind_of_row filters = good_tells S moment _ (listed_tellable S.rows kind_of_row filters)
+
+good_delete : (S : State) (moment : ℕ) (kind_of_row : Kind) (id : Id) → Gives (IsGood S moment) (delete S.rows kind_of_row id)
+unfolding delete Fits drop_user_fault drop_group_fault
+good_delete S moment kind.Domain id =
+    gives_bind (λ _. drop_domain_fault (trees S.rows) id ≡ None) (IsGood S moment) (unless_tree (drop_domain_fault (trees S.rows) id)) _
+    (gives_fault of_tree (drop_domain_fault (trees S.rows) id)) (λ _ free. good_changes S moment (change.DropDomain id) body.Nothing (λ room. free) tt)
+good_delete S moment kind.Project id =
+    gives_bind (λ _. drop_project_fault (trees S.rows) id ≡ None) (IsGood S moment) (unless_tree (drop_project_fault (trees S.rows) id)) _
+    (gives_fault of_tree (drop_project_fault (trees S.rows) id)) (λ _ free. good_changes S moment (change.DropProject id) body.Nothing (λ room. free) tt)
+good_delete S moment kind.User id =
+    gives_bind (λ old. user_of id S.rows.users ≡ Some old) (IsGood S moment) (standing_user S.rows id) _
+    (gives_found (user_of id S.rows.users) (cause.Absent kind.User id)) (λ old is.
+    good_changes S moment (change.DropUser id) body.Nothing
+    (λ room. ap (λ o. first_of (fault_if (not (is_some o)) (row_fault.Absent kind.User id) ∷ [])) is) tt)
+good_delete S moment kind.Group id =
+    gives_bind (λ old. group_of id S.rows.groups ≡ Some old) (IsGood S moment) (standing_group S.rows id) _
+    (gives_found (group_of id S.rows.groups) (cause.Absent kind.Group id)) (λ old is.
+    good_changes S moment (change.DropGroup id) body.Nothing
+    (λ room. ap (λ o. first_of (fault_if (not (is_some o)) (row_fault.Absent kind.Group id) ∷ [])) is) tt)
+good_delete S moment kind.Role id =
+    gives_bind (λ old. role_of id S.rows.roles ≡ Some old) (IsGood S moment) (standing_role S.rows id) _
+    (gives_found (role_of id S.rows.roles) (cause.Absent kind.Role id)) (λ old is.
+    good_changes S moment (change.DropRole id) body.Nothing (λ room. ap (λ o. fault_if (not (is_some o)) (row_fault.Absent kind.Role id)) is) tt)
+good_delete S moment kind.Implication id = gives_stop Outcome (IsGood S moment) (cause.Absent kind.Implication id)
+good_delete S moment kind.Grant id = gives_stop Outcome (IsGood S moment) (cause.Absent kind.Grant id)
+good_delete S moment kind.Member id = gives_stop Outcome (IsGood S moment) (cause.Absent kind.Member id)
+good_delete S moment kind.Trust id = gives_stop Outcome (IsGood S moment) (cause.Absent kind.Trust id)
+good_delete S moment kind.Event id = gives_stop Outcome (IsGood S moment) (cause.Absent kind.Event id)
+
+-- memberships, implications and grants
+
+good_unless : (S : State) (moment : ℕ) (is : Bool) (what : Change) (told : BodyOut) → Fits S moment what → IsBodyTellable told →
+    Gives {E = Cause} (IsGood S moment) (Go (unless_standing is what told))
+good_unless S moment true what told fits tellable = good_tells S moment told tellable
+good_unless S moment false what told fits tellable = good_changes S moment what told (λ room. fits) tellable
+
+good_groups_of : (S : State) (moment : ℕ) (id : Id) → Gives (IsGood S moment) (groups_of S.rows id)
+unfolding groups_of
+good_groups_of S moment id =
+    gives_past (IsGood S moment) (standing_user S.rows id) _ (λ _. good_tells S moment _ (all_mapped IsRowTellable (λ found. row.Group found) _ (λ x among. tt)))
+
+good_members_of : (S : State) (moment : ℕ) (id : Id) → Gives (IsGood S moment) (members_of S.rows id)
+unfolding members_of
+good_members_of S moment id =
+    gives_past (IsGood S moment) (standing_group S.rows id) _ (λ _. good_tells S moment _ (all_mapped IsRowTellable (λ found. row.User found) _ (λ x among. tt)))
+
+good_join : (S : State) (moment : ℕ) (member : MemberRow) → Gives (IsGood S moment) (join S.rows member)
+unfolding join Fits
+good_join S moment member =
+    gives_bind (λ _. join_group_fault (people S.rows) member ≡ None) (IsGood S moment) (unless_row (join_group_fault (people S.rows) member)) _
+    (gives_fault of_row (join_group_fault (people S.rows) member)) (λ _ free.
+    good_unless S moment (is_some (member_of member S.rows.members)) (change.Join member) body.Nothing free tt)
+
+may_leave : (rows : Rows) (member : MemberRow) → Gives (λ _. leave_group_fault (people rows) member ≡ None) (is_in rows member)
+unfolding is_in
+may_leave rows member =
+    gives_bind (λ _. leave_group_fault (people rows) member ≡ None) (λ _. leave_group_fault (people rows) member ≡ None) (unless_row (leave_group_fault (people rows) member)) _
+    (gives_fault of_row (leave_group_fault (people rows) member)) (λ _ free.
+    gives_go Cause (λ _. leave_group_fault (people rows) member ≡ None) (tells body.Nothing) free)
+
+good_is_in : (S : State) (moment : ℕ) (member : MemberRow) → Gives (IsGood S moment) (is_in S.rows member)
+unfolding is_in
+good_is_in S moment member =
+    gives_past (IsGood S moment) (unless_row (leave_group_fault (people S.rows) member)) _ (λ _. good_tells S moment body.Nothing tt)
+
+good_leave : (S : State) (moment : ℕ) (member : MemberRow) → Gives (IsGood S moment) (leave S.rows member)
+unfolding leave Fits
+good_leave S moment member =
+    gives_bind (λ _. leave_group_fault (people S.rows) member ≡ None) (IsGood S moment) (is_in S.rows member) _ (may_leave S.rows member) (λ _ free.
+    good_changes S moment (change.Leave member) body.Nothing (λ room. free) tt)
+
+good_implied : (S : State) (moment : ℕ) (prior : Id) → Gives (IsGood S moment) (implied S.rows prior)
+unfolding implied
+good_implied S moment prior = gives_past (IsGood S moment) (standing_role S.rows prior) _ (λ _. good_tells S moment _ tt)
+
+good_imply : (S : State) (moment : ℕ) (inference : ImplyRow) → Gives (IsGood S moment) (imply S.rows inference)
+unfolding imply Fits
+good_imply S moment inference =
+    gives_bind (λ _. imply_fault (roles S.rows) inference ≡ None) (IsGood S moment) (unless_row (imply_fault (roles S.rows) inference)) _
+    (gives_fault of_row (imply_fault (roles S.rows) inference)) (λ _ free.
+    good_unless S moment (is_implication inference S.rows.implications) (change.Imply inference) (told_inference S.rows inference true) free tt)
+
+good_implication : (S : State) (moment : ℕ) (inference : ImplyRow) → Gives (IsGood S moment) (implication S.rows inference)
+unfolding implication
+good_implication S moment inference = gives_past (IsGood S moment) (implies S.rows inference) _ (λ _. good_tells S moment _ tt)
+
+good_is_implied : (S : State) (moment : ℕ) (inference : ImplyRow) → Gives (IsGood S moment) (is_implied S.rows inference)
+unfolding is_implied
+good_is_implied S moment inference = gives_past (IsGood S moment) (implies S.rows inference) _ (λ _. good_tells S moment body.Nothing tt)
+
+good_unimply : (S : State) (moment : ℕ) (inference : ImplyRow) → Gives (IsGood S moment) (unimply S.rows inference)
+unfolding unimply Fits
+good_unimply S moment inference =
+    gives_bind (λ _. unimply_fault (roles S.rows) inference ≡ None) (IsGood S moment) (unless_row (unimply_fault (roles S.rows) inference)) _
+    (gives_fault of_row (unimply_fault (roles S.rows) inference)) (λ _ free.
+    good_changes S moment (change.Unimply inference) body.Nothing (λ room. free) tt)
+
+gives_target : (rows : Rows) (at : Target) → Gives (λ _. TargetStands rows at) (target_stands rows at)
+unfolding target_stands
+gives_target rows (target.Project id) =
+    gives_bind (λ found. project_of id rows.projects ≡ Some found) (λ _. TargetStands rows (target.Project id)) (standing_project rows id) _
+    (gives_found (project_of id rows.projects) (cause.Absent kind.Project id)) (λ found is. gives_go Cause (λ _. TargetStands rows (target.Project id)) tt (ap is_some is))
+gives_target rows (target.Domain id) =
+    gives_bind (λ found. domain_of id rows.domains ≡ Some found) (λ _. TargetStands rows (target.Domain id)) (standing_domain rows id) _
+    (gives_found (domain_of id rows.domains) (cause.Absent kind.Domain id)) (λ found is. gives_go Cause (λ _. TargetStands rows (target.Domain id)) tt (ap is_some is))
+gives_target rows target.System = gives_go Cause (λ _. TargetStands rows target.System) tt tt
+
+gives_actor : (rows : Rows) (who : Actor) → Gives (λ _. ActorStands rows who) (actor_stands rows who)
+unfolding actor_stands
+gives_actor rows (actor.User id) =
+    gives_bind (λ found. user_of id rows.users ≡ Some found) (λ _. ActorStands rows (actor.User id)) (standing_user rows id) _
+    (gives_found (user_of id rows.users) (cause.Absent kind.User id)) (λ found is. gives_go Cause (λ _. ActorStands rows (actor.User id)) tt (ap is_some is))
+gives_actor rows (actor.Group id) =
+    gives_bind (λ found. group_of id rows.groups ≡ Some found) (λ _. ActorStands rows (actor.Group id)) (standing_group rows id) _
+    (gives_found (group_of id rows.groups) (cause.Absent kind.Group id)) (λ found is. gives_go Cause (λ _. ActorStands rows (actor.Group id)) tt (ap is_some is))
+
+-- what a grant names stands
+record Stand (rows : Rows) (granted : GrantRow) : Type 0 where
+  at : TargetStands rows granted.target
+  who : ActorStands rows granted.actor
+  role : IsStanding (role_of granted.role rows.roles)
+
+gives_stand : (rows : Rows) (granted : GrantRow) → Gives (λ _. Stand rows granted) (all_stand rows granted)
+unfolding all_stand
+gives_stand rows granted =
+    gives_bind (λ _. TargetStands rows granted.target) (λ _. Stand rows granted) (target_stands rows granted.target) _ (gives_target rows granted.target) (λ _ at.
+    gives_bind (λ _. ActorStands rows granted.actor) (λ _. Stand rows granted) (actor_stands rows granted.actor) _ (gives_actor rows granted.actor) (λ _ who.
+    gives_bind (λ role. role_of granted.role rows.roles ≡ Some role) (λ _. Stand rows granted) (standing_role rows granted.role) _
+    (gives_found (role_of granted.role rows.roles) (cause.Absent kind.Role granted.role)) (λ role is.
+    gives_go Cause (λ _. Stand rows granted) tt (record { at = at; who = who; role = ap is_some is }))))
+
+good_grants_of : (S : State) (moment : ℕ) (who : Actor) (at : Target) (inherited : Bool) → Gives (IsGood S moment) (grants_of S.rows who at inherited)
+unfolding grants_of
+good_grants_of S moment who at inherited =
+    gives_past (IsGood S moment) (target_stands S.rows at) _ (λ _. gives_past (IsGood S moment) (actor_stands S.rows who) _ (λ _. good_tells S moment _ tt))
+
+good_grant : (S : State) (moment : ℕ) (granted : GrantRow) → IsGrant granted → Gives (IsGood S moment) (grant S.rows granted)
+unfolding grant Fits
+good_grant S moment granted is =
+    gives_bind (λ _. Stand S.rows granted) (IsGood S moment) (all_stand S.rows granted) _ (gives_stand S.rows granted) (λ _ stand.
+    gives_bind (λ _. grant_fault S.rows.grants granted ≡ None) (IsGood S moment) (unless_row (grant_fault S.rows.grants granted)) _
+    (gives_fault of_row (grant_fault S.rows.grants granted)) (λ _ free.
+    good_unless S moment (stands S.rows.grants granted) (change.Grant granted) body.Nothing ((is, stand.at, stand.who, stand.role), free) tt))
+
+record Leaves (rows : Rows) (granted : GrantRow) : Type 0 where
+  stand : Stand rows granted
+  free : ungrant_fault rows.grants granted ≡ None
+
+may_ungrant : (rows : Rows) (granted : GrantRow) → Gives (λ _. Leaves rows granted) (is_granted rows granted)
+unfolding is_granted
+may_ungrant rows granted =
+    gives_bind (λ _. Stand rows granted) (λ _. Leaves rows granted) (all_stand rows granted) _ (gives_stand rows granted) (λ _ stand.
+    gives_bind (λ _. ungrant_fault rows.grants granted ≡ None) (λ _. Leaves rows granted) (unless_row (ungrant_fault rows.grants granted)) _
+    (gives_fault of_row (ungrant_fault rows.grants granted)) (λ _ free.
+    gives_go Cause (λ _. Leaves rows granted) (tells body.Nothing) (record { stand = stand; free = free })))
+
+good_is_granted : (S : State) (moment : ℕ) (granted : GrantRow) → Gives (IsGood S moment) (is_granted S.rows granted)
+unfolding is_granted
+good_is_granted S moment granted =
+    gives_past (IsGood S moment) (all_stand S.rows granted) _ (λ _.
+    gives_past (IsGood S moment) (unless_row (ungrant_fault S.rows.grants granted)) _ (λ _. good_tells S moment body.Nothing tt))
+
+good_ungrant : (S : State) (moment : ℕ) (granted : GrantRow) → IsGrant granted → Gives (IsGood S moment) (ungrant S.rows granted)
+unfolding ungrant Fits
+good_ungrant S moment granted is =
+    gives_bind (λ _. Leaves S.rows granted) (IsGood S moment) (is_granted S.rows granted) _ (may_ungrant S.rows granted) (λ _ may.
+    good_changes S moment (change.Ungrant granted) body.Nothing (λ room. ((is, may.stand.at, may.stand.who, may.stand.role), may.free)) tt)
+
+-- revocations and keys
+
+good_events : (S : State) (moment : ℕ) → IsOrderly S → S.high ≤ last_moment → Gives {E = Cause} (IsGood S moment) (Go (events S moment))
+unfolding events
+good_events S moment old le =
+    good_tells S moment _ (all_of_each IsEventTellable (live S.settings.life moment S.events) (λ event among.
+    let past = each_filter (λ (event : EventRow). event.moment ≤ S.high) (is_live S.settings.life moment) S.events old.events event among in
+    omega (arith, past, le)))
+
+is_off : (b : Bool) → not b ≡ true → b ≡ false
+is_off true is = cc
+is_off false is = refl
+
+under : (a b : ℕ) → nat_lt a b ≡ true → a < b
+under a b is = grind (arith, nat_tests, is)
+
+takes_keys : (S : State) → IsOrderly S → S.made < 2 ^ 58 → TakesKeys S.ring
+takes_keys S old room = omega (arith, old.ring, room)
+
+good_rotate : (S : State) (moment : ℕ) (drawn : Drawn) → IsOrderly S → Gives (IsGood S moment) (rotate_keys S drawn)
+unfolding rotate_keys Fits
+good_rotate S moment drawn old =
+    gives_bind (λ _. not S.settings.folder ≡ true) (IsGood S moment) (need (not S.settings.folder) cause.KeyMode) _ (gives_need (not S.settings.folder) cause.KeyMode) (λ _ off.
+    gives_bind (λ _. nat_lt (highest S.ring.held) 999999999 ≡ true) (IsGood S moment) (need (nat_lt (highest S.ring.held) 999999999) (cause.Keys keys.IndexEnd)) _
+    (gives_need (nat_lt (highest S.ring.held) 999999999) (cause.Keys keys.IndexEnd)) (λ _ index.
+    good_changes S moment (change.Rotate (key drawn)) _ (λ room. (is_off S.settings.folder off, under (highest S.ring.held) 999999999 index, takes_keys S old room)) tt))
+
+gives_keys : (read : FolderRead) → IsFolderFor true read → Gives (λ found. refusal_of found ≡ None) (keys_read read)
+gives_keys (folder.Keys found) is = gives_go Cause (λ found. refusal_of found ≡ None) found is
+gives_keys (folder.Fault why) is = gives_stop (List (ℕ × Key)) (λ found. refusal_of found ≡ None) (cause.Keys why)
+gives_keys folder.Unused is = gives_stop (List (ℕ × Key)) (λ found. refusal_of found ≡ None) cause.KeyDir
+
+good_load : (S : State) (moment : ℕ) (read : FolderRead) → IsOrderly S → IsFolderFor true read → Gives (IsGood S moment) (load_keys S read)
+unfolding load_keys Fits
+good_load S moment read old is =
+    gives_bind (λ _. S.settings.folder ≡ true) (IsGood S moment) (need S.settings.folder cause.KeyMode) _ (gives_need S.settings.folder cause.KeyMode) (λ _ on.
+    gives_bind (λ found. refusal_of found ≡ None) (IsGood S moment) (keys_read read) _ (gives_keys read is) (λ found ring.
+    good_changes S moment (change.Load found) _ (λ room. (on, ring, takes_keys S old room)) tt))
+
+good_assignments : (S : State) (moment : ℕ) (filters : Filter) → Gives {E = Cause} (IsGood S moment) (Go (assignments S.rows filters))
+unfolding assignments
+good_assignments S moment filters = good_tells S moment _ tt
+
+-- all commands
+
+pub good_answered : (known : Known) (S : State) (moment : ℕ) (call : Call) (asked : Command) → IsOrderly S → S.high ≤ last_moment → moment ≤ last_moment →
+    AreFields asked → IsFolderFor (requirements asked).loads call.folder → Gives (IsGood S moment) (answered known S moment call asked)
+unfolding answered requirements
+good_answered known S moment call command.Version old high le fields read = good_tells S moment body.Version tt
+good_answered known S moment call (command.Login asked) old high le fields read = good_login known S moment call.draw asked old le
+good_answered known S moment call (command.ChangePassword id original password) old high le fields read =
+    good_change_password known S moment call.draw id original password old
+good_answered known S moment call (command.Validate late) old high le fields read =
+    good_about known S moment call late (told_subject S) (λ text subject is. subject_good S moment text subject le is)
+good_answered known S moment call (command.Check late) old high le fields read =
+    good_about known S moment call late (told_subject S) (λ text subject is. subject_good S moment text subject le is)
+good_answered known S moment call command.RevokeToken old high le fields read =
+    good_about known S moment call false revoked_subject (λ text subject is. revoked_good S moment text subject is)
+good_answered known S moment call (command.Create made) old high le fields read =
+    good_as_caller known S moment call _ (λ caller is. good_create known S moment call.draw caller made old fields)
+good_answered known S moment call (command.List kind filters) old high le fields read =
+    good_as_caller known S moment call _ (λ caller is. good_list S moment kind filters)
+good_answered known S moment call (command.Get kind id) old high le fields read = good_as_caller known S moment call _ (λ caller is. good_get S moment kind id)
+good_answered known S moment call (command.Update id made) old high le fields read =
+    good_as_caller known S moment call _ (λ caller is. good_update known S moment call.draw id made old fields)
+good_answered known S moment call (command.Delete kind id) old high le fields read = good_as_caller known S moment call _ (λ caller is. good_delete S moment kind id)
+good_answered known S moment call (command.GroupsOf id) old high le fields read = good_as_caller known S moment call _ (λ caller is. good_groups_of S moment id)
+good_answered known S moment call (command.MembersOf id) old high le fields read = good_as_caller known S moment call _ (λ caller is. good_members_of S moment id)
+good_answered known S moment call (command.Join row) old high le fields read = good_as_caller known S moment call _ (λ caller is. good_join S moment row)
+good_answered known S moment call (command.IsIn row) old high le fields read = good_as_caller known S moment call _ (λ caller is. good_is_in S moment row)
+good_answered known S moment call (command.Leave row) old high le fields read = good_as_caller known S moment call _ (λ caller is. good_leave S moment row)
+good_answered known S moment call (command.Implied id) old high le fields read = good_as_caller known S moment call _ (λ caller is. good_implied S moment id)
+good_answered known S moment call (command.Imply row) old high le fields read = good_as_caller known S moment call _ (λ caller is. good_imply S moment row)
+good_answered known S moment call (command.Implication row) old high le fields read = good_as_caller known S moment call _ (λ caller is. good_implication S moment row)
+good_answered known S moment call (command.IsImplied row) old high le fields read = good_as_caller known S moment call _ (λ caller is. good_is_implied S moment row)
+good_answered known S moment call (command.Unimply row) old high le fields read = good_as_caller known S moment call _ (λ caller is. good_unimply S moment row)
+good_answered known S moment call (command.GrantsOf who at inherited) old high le fields read =
+    good_as_caller known S moment call _ (λ caller is. good_grants_of S moment who at inherited)
+good_answered known S moment call (command.Grant row) old high le fields read = good_as_caller known S moment call _ (λ caller is. good_grant S moment row fields)
+good_answered known S moment call (command.IsGranted row) old high le fields read = good_as_caller known S moment call _ (λ caller is. good_is_granted S moment row)
+good_answered known S moment call (command.Ungrant row) old high le fields read = good_as_caller known S moment call _ (λ caller is. good_ungrant S moment row fields)
+good_answered known S moment call (command.Assignments filters) old high le fields read =
+    good_as_caller known S moment call _ (λ caller is. good_assignments S moment filters)
+good_answered known S moment call (command.CreateTrust asked) old high le fields read =
+    good_as_caller known S moment call _ (λ caller is. good_create_trust S moment call.draw caller asked old fields is)
+good_answered known S moment call (command.Trusts filters) old high le fields read = good_as_caller known S moment call _ (λ caller is. good_list_trusts S moment filters old)
+good_answered known S moment call (command.Trust id) old high le fields read = good_as_caller known S moment call _ (λ caller is. good_get_trust S moment id old)
+good_answered known S moment call (command.DeleteTrust id) old high le fields read = good_as_caller known S moment call _ (λ caller is. good_delete_trust S moment id)
+good_answered known S moment call (command.TrustRoles id) old high le fields read = good_as_caller known S moment call _ (λ caller is. good_roles_of_trust S moment id)
+good_answered known S moment call command.Events old high le fields read = good_as_caller known S moment call _ (λ caller is. good_events S moment old high)
+good_answered known S moment call command.RotateKeys old high le fields read = good_as_caller known S moment call _ (λ caller is. good_rotate S moment call.draw old)
+good_answered known S moment call command.LoadKeys old high le fields read = good_as_caller known S moment call _ (λ caller is. good_load S moment call.folder old read)

@@ -1,0 +1,149 @@
+-- The front after a call is lawful, and its reply can be told.
+use Rattle.std.proofs.Common.{◌≡◌, ℕ, ◌≤◌, ◌<◌, ◌^◌, List, [], ◌∷◌, ◌++◌, length, Option, Some, None, refl, sym, length-append, arith}
+use Rattle.std.specs.Prelude.{not, ◌||◌, ◌&&◌}
+use Rattle.ks_laws.specs.Orderly.{IsOrderly}
+use Rattle.ks_laws.specs.Laws.{LawfulGoesOn, RepliesAreTellable}
+use Rattle.ks_laws.proofs.CommandLemmas.{good_answered}
+use Rattle.ks_laws.proofs.FrontLemmas.{changes_are_counted, lawful_is_orderly}
+use Rattle.ks_laws.proofs.GivesLemmas.{FitsIf, Gives, IsGood, gives_bind, gives_go, gives_past, gives_self}
+use Rattle.ks_laws.proofs.StateLemmas.{orderly_later}
+use Rattle.ks_machine.specs.declared.call.Call.{Call}
+use Rattle.ks_machine.specs.declared.cause.Cause.{Cause}
+use Rattle.ks_machine.specs.declared.cause.Cause.TheVariants as cause
+use Rattle.ks_machine.specs.declared.change.Change.{Change}
+use Rattle.ks_machine.specs.declared.change.Entry.{Entry}
+use Rattle.ks_machine.specs.Actions.{requirements}
+use Rattle.ks_machine.specs.Attempts.{Attempt, Go, Stop, Lacks, Known, everything, need, unless}
+use Rattle.ks_machine.specs.Changes.{apply}
+use Rattle.ks_machine.specs.Fit.{Fit}
+use Rattle.ks_machine.specs.Fronts.{Front, after, answer, change_of, replay, replayed, reply_of, then}
+use Rattle.ks_machine.specs.Keys.{is_failed}
+use Rattle.ks_machine.specs.Lawful.{AreLawful, Fits, IsLawful}
+use Rattle.ks_machine.specs.Moment.{last_moment, moment_of}
+use Rattle.ks_machine.specs.Opened.{opened_state}
+use Rattle.ks_machine.specs.Outcomes.{Outcome}
+use Rattle.ks_machine.specs.Room.{room_for}
+use Rattle.ks_machine.specs.States.{State, raised}
+use Rattle.ks_machine.specs.Steps.{answered, checked, has_drawn, lacking_of, step_at, stepped}
+use Rattle.ks_machine.specs.Told.{IsTellable}
+
+-- one call
+
+record IsDone (S : State) (moment : ℕ) (outcome : Outcome) : Type 0 where
+  good : IsGood S moment outcome
+  room : room_for S moment outcome.change ≡ Go tt
+
+call_done : (known : Known) (S : State) (moment : ℕ) (call : Call) → IsOrderly S → S.high ≤ last_moment → moment ≤ last_moment → Fit call →
+    Gives (IsDone S moment) (checked known S moment call)
+unfolding checked
+call_done known S moment call old high le fit =
+    gives_past (IsDone S moment) (unless (lacking_of (requirements call.command) call.subject)) _ (λ _.
+    gives_past (IsDone S moment) (need (not (requirements call.command).draws || has_drawn call.draw) cause.Random) _ (λ _.
+    gives_past (IsDone S moment) (need (not ((requirements call.command).loads && is_failed call.folder)) cause.KeyDir) _ (λ _.
+    gives_bind (IsGood S moment) (IsDone S moment) (answered known S moment call call.command) _ (good_answered known S moment call call.command old high le fit.fields fit.folder) (λ outcome good.
+    gives_bind (λ u. room_for S moment outcome.change ≡ Go u) (IsDone S moment) (room_for S moment outcome.change) _ (gives_self (room_for S moment outcome.change)) (λ _ room.
+    gives_go Cause (IsDone S moment) outcome (record { good = good; room = room }))))))
+
+-- what a step says is good, whether it is granted or refused
+
+change_fits : (S : State) (moment : ℕ) (a : Attempt Cause Outcome) → Gives (IsDone S moment) a → S.made < 2 ^ 58 → FitsIf S moment (change_of (stepped a))
+unfolding Gives
+change_fits S moment (Go outcome) done few = done.good.fits few
+change_fits S moment (Stop why) done few = tt
+change_fits S moment (Lacks lack) done few = tt
+
+change_has_room : (S : State) (moment : ℕ) (a : Attempt Cause Outcome) → Gives (IsDone S moment) a → room_for S moment (change_of (stepped a)) ≡ Go tt
+unfolding Gives room_for
+change_has_room S moment (Go outcome) done = done.room
+change_has_room S moment (Stop why) done = refl
+change_has_room S moment (Lacks lack) done = refl
+
+reply_tellable : (S : State) (moment : ℕ) (a : Attempt Cause Outcome) → Gives (IsDone S moment) a → IsTellable (reply_of (stepped a))
+unfolding Gives
+reply_tellable S moment (Go outcome) done = done.good.told
+reply_tellable S moment (Stop why) done = tt
+reply_tellable S moment (Lacks lack) done = tt
+
+-- one change more
+
+lawful_longer : (S : State) (last : ℕ) (entries : List Entry) (high moment : ℕ) → AreLawful S last entries high → high ≤ moment → AreLawful S last entries moment
+unfolding AreLawful
+lawful_longer S last [] high moment lawful le = omega (arith, lawful, le)
+lawful_longer S last (entry ∷ entries) high moment lawful le =
+    (lawful.0, lawful.1, lawful.2, lawful.3, lawful_longer (apply S entry.moment entry.change) entry.moment entries high moment lawful.4 le)
+
+one_more : (S : State) (last : ℕ) (entries : List Entry) (high number moment : ℕ) (what : Change) → AreLawful S last entries high → high ≤ moment →
+    number ≡ (replayed S entries).made → Fits (replayed S entries) moment what → room_for (replayed S entries) moment (Some what) ≡ Go tt →
+    AreLawful S last (entries ++ record { number = number; moment = moment; change = what } ∷ []) moment
+unfolding AreLawful replayed
+one_more S last [] high number moment what lawful le counts fits room = (counts, omega (arith, lawful, le), fits, room, omega arith)
+one_more S last (entry ∷ entries) high number moment what lawful le counts fits room = (
+  lawful.0,
+  lawful.1,
+  lawful.2,
+  lawful.3,
+  one_more (apply S entry.moment entry.change) entry.moment entries high number moment what lawful.4 le counts fits room,
+)
+
+-- neither hangs on the highest moment
+fits_before : (S : State) (high moment : ℕ) (what : Change) → Fits (raised S high) moment what → Fits S moment what
+unfolding Fits
+fits_before S high moment what fits = fits
+
+room_before : (S : State) (high moment : ℕ) (what : Change) → room_for (raised S high) moment (Some what) ≡ Go tt → room_for S moment (Some what) ≡ Go tt
+unfolding room_for
+room_before S high moment what room = room
+
+lawful_then : (f : Front) (moment : ℕ) (what : Option Change) → IsLawful f → f.high ≤ moment → moment ≤ last_moment → length f.changes < 2 ^ 58 →
+    FitsIf (raised (replay f) moment) moment what → room_for (raised (replay f) moment) moment what ≡ Go tt → IsLawful (then f moment what)
+unfolding replay
+lawful_then f moment None lawful low le few fits room = record {
+  range = lawful.range;
+  accepted = lawful.accepted;
+  changes = lawful_longer (opened_state f.opening) 0 f.changes f.high moment lawful.changes low;
+  high = le;
+  count = lawful.count;
+}
+lawful_then f moment (Some what) lawful low le few fits room = record {
+  range = lawful.range;
+  accepted = lawful.accepted;
+  changes = one_more (opened_state f.opening) 0 f.changes f.high (length f.changes) moment what lawful.changes low (sym (changes_are_counted f lawful))
+      (fits_before (replayed (opened_state f.opening) f.changes) moment moment what fits)
+      (room_before (replayed (opened_state f.opening) f.changes) moment moment what room);
+  high = le;
+  count = omega (arith, few, length-append f.changes (record { number = length f.changes; moment = moment; change = what } ∷ []));
+}
+
+-- a call after a lawful front
+
+not_below : (high reading : ℕ) → high ≤ moment_of high reading
+not_below high reading = omega arith
+
+not_behind : (high reading : ℕ) → high ≤ last_moment → moment_of high reading ≤ last_moment
+not_behind high reading le = omega (arith, le)
+
+after_done : (f : Front) (call : Call) (moment : ℕ) → IsLawful f → Fit call → f.high ≤ moment → moment ≤ last_moment →
+    Gives (IsDone (raised (replay f) moment) moment) (checked everything (raised (replay f) moment) moment call)
+unfolding replay
+after_done f call moment lawful fit low le =
+    call_done everything (raised (replay f) moment) moment call (orderly_later (replay f) moment low (lawful_is_orderly f lawful)) le le fit
+
+pub lawful_goes_on : LawfulGoesOn
+unfolding after step_at replay
+lawful_goes_on f call lawful fit few =
+    let moment : ℕ = moment_of f.high call.reading in
+    let low = not_below f.high call.reading in
+    let le = not_behind f.high call.reading lawful.high in
+    let done = after_done f call moment lawful fit low le in
+    let counted = changes_are_counted f lawful in
+    lawful_then f moment (change_of (stepped (checked everything (raised (replay f) moment) moment call))) lawful low le few
+    (change_fits (raised (replay f) moment) moment (checked everything (raised (replay f) moment) moment call) done (omega (arith, counted, few)))
+    (change_has_room (raised (replay f) moment) moment (checked everything (raised (replay f) moment) moment call) done)
+
+pub replies_are_tellable : RepliesAreTellable
+unfolding answer step_at replay
+replies_are_tellable f call lawful fit =
+    let moment : ℕ = moment_of f.high call.reading in
+    let low = not_below f.high call.reading in
+    let le = not_behind f.high call.reading lawful.high in
+    reply_tellable (raised (replay f) moment) moment (checked everything (raised (replay f) moment) moment call) (after_done f call moment lawful fit low le)
