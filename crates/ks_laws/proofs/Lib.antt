@@ -3,6 +3,8 @@ mod OpeningLemmas
 mod TreeLemmas
 mod PeopleLemmas
 mod TrustLemmas
+mod OrderLemmas
+mod AnchorLemmas
 mod StateLemmas
 mod GivesLemmas
 mod LineLemmas

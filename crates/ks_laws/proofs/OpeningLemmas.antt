@@ -3,20 +3,33 @@ use Rattle.std.proofs.Common.{◌≡◌, ℕ, ◌≤◌, Bool, true, false, ◌&
 use Rattle.std.specs.Prelude.{not, nat_lt, ◌==◌, if◌then◌else◌}
 use Rattle.std.specs.List.{find, list_any}
 use Rattle.std.specs.Option.{option_or}
+use Rattle.std.specs.declared.cmp.Ordering.{Ordering}
+use Rattle.std.specs.Cmp.{IsTotalOrder}
 use Rattle.std.proofs.lemmas.Bool.Decides.{nat_tests}
 use Rattle.std.proofs.lemmas.Cmp.{nat_list_cmp_total}
 use Rattle.std.proofs.lemmas.Bool.{and_parts}
 use Rattle.ks_base.specs.declared.faults.LoadFault.{LoadFault}
 use Rattle.ks_base.specs.declared.faults.LoadFault.TheVariants.{Empty, TooMany}
+use Rattle.ks_base.specs.declared.grants.Actor.{Actor}
+use Rattle.ks_base.specs.declared.grants.Actor.TheVariants as actor
+use Rattle.ks_base.specs.declared.grants.GrantRow.{GrantRow}
+use Rattle.ks_base.specs.declared.grants.ImplyRow.{ImplyRow}
+use Rattle.ks_base.specs.declared.grants.Target.{Target}
+use Rattle.ks_base.specs.declared.grants.Target.TheVariants as target
 use Rattle.ks_base.specs.declared.key.Key.{Key}
 use Rattle.ks_base.specs.declared.kinds.Kind.{Kind}
 use Rattle.ks_base.specs.declared.kinds.Kind.TheVariants as kind
+use Rattle.ks_base.specs.declared.rows.DomainRow.{DomainRow}
 use Rattle.ks_base.specs.declared.rows.GroupRow.{GroupRow}
 use Rattle.ks_base.specs.declared.rows.ProjectRow.{ProjectRow}
+use Rattle.ks_base.specs.declared.rows.RoleRow.{RoleRow}
+use Rattle.ks_base.specs.declared.users.MemberRow.{MemberRow}
 use Rattle.ks_base.specs.declared.users.UserRow.{UserRow}
+use Rattle.ks_base.specs.OrderLaws.{grant_total, imply_total, member_total}
+use Rattle.ks_base.specs.Orders.{grant_cmp, imply_cmp, member_cmp}
 use Rattle.ks_base.specs.People.{is_group_named, is_user_named}
-use Rattle.ks_base.specs.Refusals.{first_of}
-use Rattle.ks_base.specs.Rows.{Id, Rows, same, domain_of, project_of}
+use Rattle.ks_base.specs.Refusals.{fault_if, first_of}
+use Rattle.ks_base.specs.Rows.{Id, Rows, same, domain_of, group_of, project_of, role_of, user_of}
 use Rattle.ks_base.specs.Tables.{Among, IsAscending, find_row, id_cmp, put_row}
 use Rattle.ks_base.specs.RoleLists.{is_named}
 use Rattle.ks_base.specs.Tree.{is_top}
@@ -24,11 +37,11 @@ use Rattle.ks_base.specs.Trees.{is_domain_named, is_project_named}
 use Rattle.ks_base.proofs.RowLemmas.{among_put, find_put}
 use Rattle.ks_base.proofs.TableLemmas.{ascending_put}
 use Rattle.ks_laws.specs.Ancestries.{HasAncestry}
-use Rattle.ks_laws.specs.Orderly.{AreNamesUnique, ArePeopleOrderly, AreTreesOrderly, AreTrustsOrderly, DomainStands, Each, IsOrderly}
+use Rattle.ks_laws.specs.Orderly.{AreAnchored, AreInOrder, AreNamesUnique, ArePeopleOrderly, AreTreesOrderly, AreTrustsOrderly, DomainStands, Each, IsGrantAnchored, IsImplicationAnchored, IsMemberAnchored, IsOrderly}
 use Rattle.ks_laws.proofs.ListLemmas.{after_put, among_both, among_first, among_last, any_from, any_to, each_of_all, found_none, is_same, is_there, none_apply, none_mapped, same_is, unless_fault}
 use Rattle.ks_machine.specs.declared.settings.OpenFault.{OpenFault}
 use Rattle.ks_machine.specs.declared.settings.OpenFault.TheVariants as fault
-use Rattle.ks_machine.specs.Lawful.{IsOpeningInRange}
+use Rattle.ks_machine.specs.Lawful.{ActorStands, IsOpeningInRange, IsStanding, TargetStands}
 use Rattle.ks_machine.specs.Opened.{absent_fault, disabled_above, first_alone, first_fault, first_in, full_fault, id_repeated, ids_fault, name_taken, names_fault, no_actor, no_domain, no_group, no_role, no_target, no_user, open_fault, opened_state, parent_absent, prohibited, put_all, rows_opened, too_deep}
 use Rattle.ks_machine.specs.Openings.{PlainOpening}
 use Rattle.ks_machine.specs.Ranges.{IsDomainInRange, IsGroupInRange, IsProjectInRange, IsRoleInRange, IsUserInRange}
@@ -41,17 +54,17 @@ among_all_by : {X : Type 0} (row x : X) (rows placed : List X) → (row ≡ x) �
 among_all_by row x rows placed (inl is) later = inl is
 among_all_by row x rows placed (inr among) later = inr (later among)
 
-among_all : {X : Type 0} (id_of : X → Id) (rows : List X) (x : X) → Among (put_all (put_row id_cmp id_of) rows) x → Among rows x
-among_all id_of [] x among = among
-among_all id_of (row ∷ rows) x among =
-    among_all_by row x rows (put_all (put_row id_cmp id_of) rows) (among_put id_cmp id_of row (put_all (put_row id_cmp id_of) rows) x among) (among_all id_of rows x)
+among_all : {K X : Type 0} (cmp : K → K → Ordering) (key : X → K) (rows : List X) (x : X) → Among (put_all (put_row cmp key) rows) x → Among rows x
+among_all cmp key [] x among = among
+among_all cmp key (row ∷ rows) x among =
+    among_all_by row x rows (put_all (put_row cmp key) rows) (among_put cmp key row (put_all (put_row cmp key) rows) x among) (among_all cmp key rows x)
 
-each_opened : {X : Type 0} (id_of : X → Id) (P : X → Type 0) (rows : List X) → Each P rows → Each P (put_all (put_row id_cmp id_of) rows)
-each_opened id_of P rows each x among = each x (among_all id_of rows x among)
+each_opened : {K X : Type 0} (cmp : K → K → Ordering) (key : X → K) (P : X → Type 0) (rows : List X) → Each P rows → Each P (put_all (put_row cmp key) rows)
+each_opened cmp key P rows each x among = each x (among_all cmp key rows x among)
 
-ascending_all : {X : Type 0} (id_of : X → Id) (rows : List X) → IsAscending id_cmp id_of (put_all (put_row id_cmp id_of) rows)
-ascending_all id_of [] = tt
-ascending_all id_of (row ∷ rows) = ascending_put id_cmp id_of nat_list_cmp_total row (put_all (put_row id_cmp id_of) rows) (ascending_all id_of rows)
+ascending_all : {K X : Type 0} (cmp : K → K → Ordering) (key : X → K) → IsTotalOrder cmp → (rows : List X) → IsAscending cmp key (put_all (put_row cmp key) rows)
+ascending_all cmp key o [] = tt
+ascending_all cmp key o (row ∷ rows) = ascending_put cmp key o row (put_all (put_row cmp key) rows) (ascending_all cmp key o rows)
 
 -- where no two have one id, each is found by its own
 abbrev IsUnique : {X : Type 0} → (X → Id) → List X → Type 0
@@ -263,11 +276,10 @@ trees_opened : (opening : PlainOpening) → IsOpeningInRange opening → ids_fau
     AreTreesOrderly (rows_opened opening).domains (rows_opened opening).projects
 unfolding ids_fault absent_fault rows_opened
 trees_opened opening range ids absent = record {
-  domains_range = each_opened (λ r. r.id) IsDomainInRange opening.domains (each_of_all IsDomainInRange opening.domains range.domains);
-  range = each_opened (λ r. r.id) IsProjectInRange opening.projects (each_of_all IsProjectInRange opening.projects range.projects);
-  order = ascending_all (λ (r : ProjectRow). r.id) opening.projects;
-  homes = each_opened (λ r. r.id) _ opening.projects (project_homes (rows_opened opening) [] opening.projects pass);
-  ancestries = each_opened (λ r. r.id) _ opening.projects
+  domains_range = each_opened id_cmp (λ r. r.id) IsDomainInRange opening.domains (each_of_all IsDomainInRange opening.domains range.domains);
+  range = each_opened id_cmp (λ r. r.id) IsProjectInRange opening.projects (each_of_all IsProjectInRange opening.projects range.projects);
+  homes = each_opened id_cmp (λ r. r.id) _ opening.projects (project_homes (rows_opened opening) [] opening.projects pass);
+  ancestries = each_opened id_cmp (λ r. r.id) _ opening.projects
       (ancestries_of (rows_opened opening) (by_id (λ r. r.id) opening.projects) [] opening.projects pass
       (λ other among. found_all (λ (r : ProjectRow). r.id) opening.projects other unique among) (λ x among. absurd among));
 }
@@ -282,11 +294,11 @@ people_opened : (opening : PlainOpening) → IsOpeningInRange opening → names_
     ArePeopleOrderly (rows_opened opening).domains (rows_opened opening).users (rows_opened opening).groups
 unfolding names_fault absent_fault rows_opened
 people_opened opening range names absent = record {
-  users_range = each_opened (λ r. r.id) IsUserInRange opening.users (each_of_all IsUserInRange opening.users range.users);
-  groups_range = each_opened (λ r. r.id) IsGroupInRange opening.groups (each_of_all IsGroupInRange opening.groups range.groups);
-  user_homes = each_opened (λ r. r.id) _ opening.users (λ (x : UserRow) among. home_stands (rows_opened opening) x.domain (users_pass x among));
-  group_homes = each_opened (λ r. r.id) _ opening.groups (λ (x : GroupRow) among. home_stands (rows_opened opening) x.domain (groups_pass x among));
-  names = λ a b first second. unique_names opening.users names_pass a b (among_all (λ (r : UserRow). r.id) opening.users a first) (among_all (λ (r : UserRow). r.id) opening.users b second);
+  users_range = each_opened id_cmp (λ r. r.id) IsUserInRange opening.users (each_of_all IsUserInRange opening.users range.users);
+  groups_range = each_opened id_cmp (λ r. r.id) IsGroupInRange opening.groups (each_of_all IsGroupInRange opening.groups range.groups);
+  user_homes = each_opened id_cmp (λ r. r.id) _ opening.users (λ (x : UserRow) among. home_stands (rows_opened opening) x.domain (users_pass x among));
+  group_homes = each_opened id_cmp (λ r. r.id) _ opening.groups (λ (x : GroupRow) among. home_stands (rows_opened opening) x.domain (groups_pass x among));
+  names = λ a b first second. unique_names opening.users names_pass a b (among_all id_cmp (λ (r : UserRow). r.id) opening.users a first) (among_all id_cmp (λ (r : UserRow). r.id) opening.users b second);
 }
   where
     users_pass : Each (λ (row : UserRow). no_domain (rows_opened opening) row.domain ≡ None) opening.users
@@ -301,7 +313,74 @@ people_opened opening range names absent = record {
     names_pass = (none_apply (name_faults opening) names).1.1.0
 
 no_trusts : AreTrustsOrderly []
-no_trusts = record { range = λ trust among. absurd among; order = tt; chains = λ trust among. absurd among }
+no_trusts = record { range = λ trust among. absurd among; chains = λ trust among. absurd among }
+
+in_order_opened : (opening : PlainOpening) → AreInOrder (rows_opened opening)
+unfolding rows_opened
+in_order_opened opening = record {
+  domains = ascending_all id_cmp (λ (r : DomainRow). r.id) nat_list_cmp_total opening.domains;
+  projects = ascending_all id_cmp (λ (r : ProjectRow). r.id) nat_list_cmp_total opening.projects;
+  users = ascending_all id_cmp (λ (r : UserRow). r.id) nat_list_cmp_total opening.users;
+  groups = ascending_all id_cmp (λ (r : GroupRow). r.id) nat_list_cmp_total opening.groups;
+  members = ascending_all member_cmp (λ (r : MemberRow). r) member_total opening.members;
+  roles = ascending_all id_cmp (λ (r : RoleRow). r.id) nat_list_cmp_total opening.roles;
+  implications = ascending_all imply_cmp (λ (r : ImplyRow). r) imply_total opening.implications;
+  grants = ascending_all grant_cmp (λ (r : GrantRow). r) grant_total opening.assignments;
+  trusts = tt;
+}
+
+-- what memberships, implications and grants of a file name stands
+
+stands_unless : {R : Type 0} (row : Option R) (fault : OpenFault) → fault_if (not (is_some row)) fault ≡ None → IsStanding row
+stands_unless row fault none = is_there row (unless_fault (not (is_some row)) fault none)
+
+member_anchored : (rows : Rows) (row : MemberRow) → option_or (no_group rows row.group) (no_user rows row.user) ≡ None → IsMemberAnchored rows row
+member_anchored rows row none =
+    let both = or_none (no_group rows row.group) (no_user rows row.user) none in record {
+      group = stands_unless (group_of row.group rows.groups) (fault.Absent kind.Group row.group) both.0;
+      user = stands_unless (user_of row.user rows.users) (fault.Absent kind.User row.user) both.1;
+    }
+
+implication_anchored : (rows : Rows) (row : ImplyRow) → option_or (no_role rows row.prior) (no_role rows row.implied) ≡ None → IsImplicationAnchored rows row
+implication_anchored rows row none =
+    let both = or_none (no_role rows row.prior) (no_role rows row.implied) none in record {
+      prior = stands_unless (role_of row.prior rows.roles) (fault.Absent kind.Role row.prior) both.0;
+      implied = stands_unless (role_of row.implied rows.roles) (fault.Absent kind.Role row.implied) both.1;
+    }
+
+actor_stands : (rows : Rows) (who : Actor) → no_actor rows who ≡ None → ActorStands rows who
+actor_stands rows (actor.User id) none = stands_unless (user_of id rows.users) (fault.Absent kind.User id) none
+actor_stands rows (actor.Group id) none = stands_unless (group_of id rows.groups) (fault.Absent kind.Group id) none
+
+target_stands : (rows : Rows) (at : Target) → no_target rows at ≡ None → TargetStands rows at
+target_stands rows (target.Project id) none = stands_unless (project_of id rows.projects) (fault.Absent kind.Project id) none
+target_stands rows (target.Domain id) none = stands_unless (domain_of id rows.domains) (fault.Absent kind.Domain id) none
+target_stands rows target.System none = tt
+
+grant_anchored : (rows : Rows) (row : GrantRow) → first_of (no_actor rows row.actor ∷ no_target rows row.target ∷ no_role rows row.role ∷ []) ≡ None → IsGrantAnchored rows row
+grant_anchored rows row none =
+    let faults = none_apply (no_actor rows row.actor ∷ no_target rows row.target ∷ no_role rows row.role ∷ []) none in record {
+      target = target_stands rows row.target faults.1.0;
+      actor = actor_stands rows row.actor faults.0;
+      role = stands_unless (role_of row.role rows.roles) (fault.Absent kind.Role row.role) faults.1.1.0;
+    }
+
+-- each row that passes alone
+pass_alone : {R : Type 0} (fault_of : R → Option OpenFault) (rows : List R) → first_alone fault_of rows ≡ None → Each (λ row. fault_of row ≡ None) rows
+pass_alone fault_of rows none = each_alone fault_of [] rows (all_pass (λ _. fault_of) [] rows none)
+
+anchored_opened : (opening : PlainOpening) → absent_fault (rows_opened opening) opening ≡ None → AreAnchored (rows_opened opening)
+unfolding absent_fault rows_opened
+anchored_opened opening absent =
+    let faults = none_apply (absent_faults (rows_opened opening) opening) absent in record {
+      members = each_opened member_cmp (λ (r : MemberRow). r) (IsMemberAnchored (rows_opened opening)) opening.members
+          (λ row among. member_anchored (rows_opened opening) row (pass_alone _ opening.members faults.1.1.1.0 row among));
+      implications = each_opened imply_cmp (λ (r : ImplyRow). r) (IsImplicationAnchored (rows_opened opening)) opening.implications
+          (λ row among. implication_anchored (rows_opened opening) row (pass_alone _ opening.implications faults.1.1.1.1.0 row among));
+      grants = each_opened grant_cmp (λ (r : GrantRow). r) (IsGrantAnchored (rows_opened opening)) opening.assignments
+          (λ row among. grant_anchored (rows_opened opening) row (pass_alone _ opening.assignments faults.1.1.1.1.1.0 row among));
+      trusts = λ trust among. absurd among;
+    }
 
 pub opened_is_orderly : (opening : PlainOpening) → IsOpeningInRange opening → open_fault opening ≡ None → IsOrderly (opened_state opening)
 unfolding open_fault opened_state rows_opened
@@ -310,9 +389,11 @@ opened_is_orderly opening range none = record {
   rows = record {
     trees = trees_opened opening range ids absent;
     people = people_opened opening range names absent;
-    roles = each_opened (λ r. r.id) IsRoleInRange opening.roles (each_of_all IsRoleInRange opening.roles range.roles);
+    roles = each_opened id_cmp (λ r. r.id) IsRoleInRange opening.roles (each_of_all IsRoleInRange opening.roles range.roles);
     trusts = no_trusts;
   };
+  anchored = anchored_opened opening absent;
+  order = in_order_opened opening;
   events = λ event among. absurd among;
   ring = omega (arith, loading_adds_few no_ring opening.ring, few_keys opening.ring ring);
 }

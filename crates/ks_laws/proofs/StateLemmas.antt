@@ -5,8 +5,10 @@ use Rattle.ks_base.specs.declared.events.Revoke.{Revoke}
 use Rattle.ks_base.specs.declared.rows.RoleRow.{RoleRow}
 use Rattle.ks_base.specs.Tables.{Among}
 use Rattle.ks_laws.specs.Orderly.{AreRowsOrderly, Each, IsOrderly}
+use Rattle.ks_laws.proofs.AnchorLemmas.{anchored_kept}
 use Rattle.ks_laws.proofs.ListLemmas.{among_both, among_mapped, each_drop, each_put}
 use Rattle.ks_laws.proofs.OpeningLemmas.{few_keys}
+use Rattle.ks_laws.proofs.OrderLemmas.{order_kept}
 use Rattle.ks_laws.proofs.PeopleLemmas.{is_alone, people_domain_dropped, people_domain_put, people_group_dropped, people_group_put, people_user_dropped, people_user_put}
 use Rattle.ks_laws.proofs.TreeLemmas.{has_no_children, is_placed, trees_domain_dropped, trees_domain_put, trees_project_dropped, trees_project_put}
 use Rattle.ks_laws.proofs.TrustLemmas.{trusts_gone_from, trusts_put, trusts_used}
@@ -158,6 +160,8 @@ unfolding apply
 orderly_kept S moment what fits le old = record {
   settings = old.settings;
   rows = rows_kept S moment what fits old.rows;
+  anchored = anchored_kept S moment what fits old.anchored;
+  order = order_kept S.rows what old.order;
   events = events_kept moment S.high S.events (ended_by S.rows what) le old.events;
   ring = omega (arith, ring_kept S moment what fits, old.ring);
 }
@@ -167,6 +171,8 @@ pub orderly_later : (S : State) (high : ℕ) → S.high ≤ high → IsOrderly S
 orderly_later S high le old = record {
   settings = old.settings;
   rows = old.rows;
+  anchored = old.anchored;
+  order = old.order;
   events = λ event among. omega (arith, le, old.events event among);
   ring = old.ring;
 }

@@ -3,7 +3,6 @@ use Rattle.std.proofs.Common.{◌≡◌, ℕ, zero, suc, ◌<◌, ◌≤◌, Boo
 use Rattle.std.specs.Prelude.{not}
 use Rattle.std.specs.List.{filter, find}
 use Rattle.std.proofs.lemmas.Bool.Decides.{nat_tests}
-use Rattle.std.proofs.lemmas.Cmp.{nat_list_cmp_total}
 use Rattle.ks_base.specs.declared.faults.TreeFault.{TreeFault}
 use Rattle.ks_base.specs.declared.faults.TreeFault.TheVariants as fault
 use Rattle.ks_base.specs.declared.kinds.Kind.TheVariants as kind
@@ -15,7 +14,6 @@ use Rattle.ks_base.specs.Tree.{above, above_within, is_child_of, is_top}
 use Rattle.ks_base.specs.TreeFaults.{add_project_fault, disabled_above, domain_absent, drop_project_fault, has_children, no_parent, parent_wrong, project_absent, project_id_taken, project_name_taken, projects_full, too_deep}
 use Rattle.ks_base.specs.Trees.{TreeState, lies_in}
 use Rattle.ks_base.proofs.RowLemmas.{among_drop, among_filter, among_put}
-use Rattle.ks_base.proofs.TableLemmas.{ascending_drop, ascending_filter, ascending_put}
 use Rattle.ks_laws.specs.Ancestries.{HasAncestry, IsAncestry}
 use Rattle.ks_laws.specs.Orderly.{AreTreesOrderly, DomainStands, Each}
 use Rattle.ks_laws.proofs.ListLemmas.{after_drop, after_put, each_drop, each_filter, each_put, found_is_among, found_kept, found_none, is_same, is_there, none_apply, none_mapped, same_is, stands_put, unless_fault}
@@ -107,7 +105,6 @@ pub trees_domain_put : (row : DomainRow) (domains : List DomainRow) (projects : 
 trees_domain_put row domains projects range old = record {
   domains_range = each_put (λ r. r.id) IsDomainInRange row domains range old.domains_range;
   range = old.range;
-  order = old.order;
   homes = homes_put (λ (r : ProjectRow). r.domain) row domains projects old.homes;
   ancestries = old.ancestries;
 }
@@ -123,7 +120,6 @@ pub trees_project_put : (row : ProjectRow) (domains : List DomainRow) (projects 
 trees_project_put row domains projects range placed old = record {
   domains_range = old.domains_range;
   range = each_put (λ r. r.id) IsProjectInRange row projects range old.range;
-  order = ascending_put id_cmp (λ (r : ProjectRow). r.id) nat_list_cmp_total row projects old.order;
   homes = each_put (λ r. r.id) _ row projects placed.home old.homes;
   ancestries = λ x among. by x (among_put id_cmp (λ (r : ProjectRow). r.id) row projects x among);
 }
@@ -147,7 +143,6 @@ pub trees_domain_dropped : (gone : Id) (domains : List DomainRow) (projects : Li
 trees_domain_dropped gone domains projects old = record {
   domains_range = each_drop (λ r. r.id) IsDomainInRange gone domains old.domains_range;
   range = each_filter IsProjectInRange _ projects old.range;
-  order = ascending_filter id_cmp (λ (r : ProjectRow). r.id) _ projects old.order;
   homes = homes_left (λ (r : ProjectRow). r.domain) gone domains projects old.homes;
   ancestries = λ x among.
       let both = among_filter (λ row. not (lies_in gone row)) projects x among in
@@ -160,7 +155,6 @@ pub trees_project_dropped : (gone : Id) (domains : List DomainRow) (projects : L
 trees_project_dropped gone domains projects alone old = record {
   domains_range = old.domains_range;
   range = each_drop (λ r. r.id) IsProjectInRange gone projects old.range;
-  order = ascending_drop id_cmp (λ (r : ProjectRow). r.id) gone projects old.order;
   homes = each_drop (λ r. r.id) _ gone projects old.homes;
   ancestries = λ x among.
       let still = (among_drop id_cmp (λ (r : ProjectRow). r.id) gone projects x among).0 in

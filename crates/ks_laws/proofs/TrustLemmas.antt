@@ -4,7 +4,6 @@ use Rattle.std.specs.Prelude.{not, nat_le, ◌==◌, if◌then◌else◌}
 use Rattle.std.specs.List.{find}
 use Rattle.std.specs.Ordering.{is_eq}
 use Rattle.std.proofs.lemmas.Bool.Decides.{nat_tests}
-use Rattle.std.proofs.lemmas.Cmp.{nat_list_cmp_total}
 use Rattle.ks_base.specs.declared.faults.TrustFault.{TrustFault}
 use Rattle.ks_base.specs.declared.faults.TrustFault.TheVariants as fault
 use Rattle.ks_base.specs.declared.kinds.Kind.TheVariants as kind
@@ -17,7 +16,6 @@ use Rattle.ks_base.specs.Tables.{AreAbove, Among, IsAscending, find_row, has_key
 use Rattle.ks_base.specs.Trusts.{AreChained, Follows, IsChained, creation_fault, first_missing, goes, is_expired, is_later, is_set, parent_fault, parent_trust, trusts_left, under_fault, use_trust, used}
 use Rattle.ks_base.proofs.ChainLemmas.{goes_down}
 use Rattle.ks_base.proofs.RowLemmas.{among_filter, among_put}
-use Rattle.ks_base.proofs.TableLemmas.{ascending_filter, ascending_put}
 use Rattle.ks_laws.specs.Orderly.{AreTrustsOrderly, IsTrustHeld}
 use Rattle.ks_laws.proofs.ListLemmas.{after_put, among_mapped, each_filter, each_put, found_kept, none_apply, none_mapped, unless_fault}
 use Rattle.ks_machine.specs.Lawful.{IsTrustMade}
@@ -152,7 +150,6 @@ still_chained old new trust keeps under = chained_by new trust trust.parent refl
 pub trusts_put : (rows : Rows) (moment : ℕ) (new : TrustRow) → IsTrustMade rows moment new → AreTrustsOrderly rows.trusts → AreTrustsOrderly (put_row id_cmp (λ r. r.id) new rows.trusts)
 trusts_put rows moment new made old = record {
   range = each_put (λ r. r.id) IsTrustHeld new rows.trusts (new_held new made.range) old.range;
-  order = ascending_put id_cmp (λ (r : TrustRow). r.id) nat_list_cmp_total new rows.trusts old.order;
   chains = λ trust among. by trust (among_put id_cmp (λ (r : TrustRow). r.id) new rows.trusts trust among);
 }
   where
@@ -187,7 +184,6 @@ parent_stays trusts touched trust parent id chains among stays is found =
 pub trusts_gone_from : (trusts : List TrustRow) (touched : TrustRow → Bool) → AreTrustsOrderly trusts → AreTrustsOrderly (trusts_left trusts touched)
 trusts_gone_from trusts touched old = record {
   range = each_filter IsTrustHeld (λ trust. not (goes trusts touched trust)) trusts old.range;
-  order = ascending_filter id_cmp (λ (r : TrustRow). r.id) (λ trust. not (goes trusts touched trust)) trusts old.order;
   chains = λ trust among.
       let both = among_filter (λ trust. not (goes trusts touched trust)) trusts trust among in
       still_chained trusts (trusts_left trusts touched) trust (λ id parent is found. parent_stays trusts touched trust parent id old.chains both.0 both.1 is found)
@@ -245,7 +241,7 @@ above_used : (of low : Id) (trusts : List TrustRow) → AreAbove id_cmp (λ (r :
 above_used of low [] above = tt
 above_used of low (trust ∷ trusts) above = (ap (λ (k : Id). id_cmp low k) (alike of trust).id ∙ above.0, above_used of low trusts above.1)
 
-ascending_used : (of : Id) (trusts : List TrustRow) → IsAscending id_cmp (λ (r : TrustRow). r.id) trusts → IsAscending id_cmp (λ (r : TrustRow). r.id) (use_trust of trusts)
+pub ascending_used : (of : Id) (trusts : List TrustRow) → IsAscending id_cmp (λ (r : TrustRow). r.id) trusts → IsAscending id_cmp (λ (r : TrustRow). r.id) (use_trust of trusts)
 ascending_used of [] up = tt
 ascending_used of (trust ∷ trusts) up =
     (subst (λ (k : Id). AreAbove id_cmp (λ (r : TrustRow). r.id) k (use_trust of trusts)) (sym (alike of trust).id) (above_used of trust.id trusts up.0), ascending_used of trusts up.1)
@@ -266,7 +262,6 @@ under_used of trusts trust (Some id) (parent, found, project, count) =
 pub trusts_used : (of : Id) (trusts : List TrustRow) → AreTrustsOrderly trusts → AreTrustsOrderly (use_trust of trusts)
 trusts_used of trusts old = record {
   range = λ next among. of_one next (among_mapped (after_use of) trusts next among);
-  order = ascending_used of trusts old.order;
   chains = λ next among. chained next (among_mapped (after_use of) trusts next among);
 }
   where

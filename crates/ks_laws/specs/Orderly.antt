@@ -1,17 +1,22 @@
 -- What holds of the state of every lawful front: rows have their ranges, and what they name stands.
 use Rattle.std.specs.Prelude.{◌≡◌, ◌+◌, ◌*◌, ◌≤◌, List, length, IfSome}
 use Rattle.ks_base.specs.declared.events.EventRow.{EventRow}
+use Rattle.ks_base.specs.declared.grants.GrantRow.{GrantRow}
+use Rattle.ks_base.specs.declared.grants.ImplyRow.{ImplyRow}
 use Rattle.ks_base.specs.declared.limits.TheConstants.{REDELEGATIONS, TRUST_ROLES, USES}
 use Rattle.ks_base.specs.declared.rows.DomainRow.{DomainRow}
 use Rattle.ks_base.specs.declared.rows.GroupRow.{GroupRow}
 use Rattle.ks_base.specs.declared.rows.ProjectRow.{ProjectRow}
+use Rattle.ks_base.specs.declared.rows.RoleRow.{RoleRow}
 use Rattle.ks_base.specs.declared.trusts.TrustRow.{TrustRow}
+use Rattle.ks_base.specs.declared.users.MemberRow.{MemberRow}
 use Rattle.ks_base.specs.declared.users.UserRow.{UserRow}
-use Rattle.ks_base.specs.Rows.{Id, Rows, domain_of}
+use Rattle.ks_base.specs.Orders.{grant_cmp, imply_cmp, member_cmp}
+use Rattle.ks_base.specs.Rows.{Id, Rows, domain_of, group_of, project_of, role_of, user_of}
 use Rattle.ks_base.specs.Tables.{Among, IsAscending, id_cmp}
 use Rattle.ks_base.specs.Trusts.{AreChained}
 use Rattle.ks_laws.specs.Ancestries.{HasAncestry}
-use Rattle.ks_machine.specs.Lawful.{IsStanding}
+use Rattle.ks_machine.specs.Lawful.{ActorStands, IsStanding, TargetStands}
 use Rattle.ks_machine.specs.Ranges.{IsDomainInRange, IsExpiry, IsGroupInRange, IsProjectInRange, IsRoleInRange, IsSettings, IsUserInRange}
 use Rattle.ks_machine.specs.States.{State}
 
@@ -26,7 +31,6 @@ DomainStands domains id = IsStanding (domain_of id domains)
 pub record AreTreesOrderly (domains : List DomainRow) (projects : List ProjectRow) : Type 0 where
   pub domains_range : Each IsDomainInRange domains
   pub range : Each IsProjectInRange projects
-  pub order : IsAscending id_cmp (λ (row : ProjectRow). row.id) projects
   pub homes : Each (λ row. DomainStands domains row.domain) projects
   pub ancestries : Each (HasAncestry projects) projects
 
@@ -54,8 +58,46 @@ pub record IsTrustHeld (trust : TrustRow) : Type 0 where
 -- trusts: in range, and each behind its parent, with a lower count
 pub record AreTrustsOrderly (trusts : List TrustRow) : Type 0 where
   pub range : Each IsTrustHeld trusts
-  pub order : IsAscending id_cmp (λ (row : TrustRow). row.id) trusts
   pub chains : AreChained trusts
+
+-- what memberships, implications, grants and trusts name stands
+
+pub record IsMemberAnchored (rows : Rows) (row : MemberRow) : Type 0 where
+  pub group : IsStanding (group_of row.group rows.groups)
+  pub user : IsStanding (user_of row.user rows.users)
+
+pub record IsImplicationAnchored (rows : Rows) (row : ImplyRow) : Type 0 where
+  pub prior : IsStanding (role_of row.prior rows.roles)
+  pub implied : IsStanding (role_of row.implied rows.roles)
+
+pub record IsGrantAnchored (rows : Rows) (row : GrantRow) : Type 0 where
+  pub target : TargetStands rows row.target
+  pub actor : ActorStands rows row.actor
+  pub role : IsStanding (role_of row.role rows.roles)
+
+pub record IsTrustAnchored (rows : Rows) (trust : TrustRow) : Type 0 where
+  pub trustor : IsStanding (user_of trust.trustor rows.users)
+  pub trustee : IsStanding (user_of trust.trustee rows.users)
+  pub project : IsStanding (project_of trust.project rows.projects)
+  pub roles : Each (λ role. IsStanding (role_of role rows.roles)) trust.roles
+
+pub record AreAnchored (rows : Rows) : Type 0 where
+  pub members : Each (IsMemberAnchored rows) rows.members
+  pub implications : Each (IsImplicationAnchored rows) rows.implications
+  pub grants : Each (IsGrantAnchored rows) rows.grants
+  pub trusts : Each (IsTrustAnchored rows) rows.trusts
+
+-- each list stands in its order, with no key twice
+pub record AreInOrder (rows : Rows) : Type 0 where
+  pub domains : IsAscending id_cmp (λ (row : DomainRow). row.id) rows.domains
+  pub projects : IsAscending id_cmp (λ (row : ProjectRow). row.id) rows.projects
+  pub users : IsAscending id_cmp (λ (row : UserRow). row.id) rows.users
+  pub groups : IsAscending id_cmp (λ (row : GroupRow). row.id) rows.groups
+  pub members : IsAscending member_cmp (λ (row : MemberRow). row) rows.members
+  pub roles : IsAscending id_cmp (λ (row : RoleRow). row.id) rows.roles
+  pub implications : IsAscending imply_cmp (λ (row : ImplyRow). row) rows.implications
+  pub grants : IsAscending grant_cmp (λ (row : GrantRow). row) rows.grants
+  pub trusts : IsAscending id_cmp (λ (row : TrustRow). row.id) rows.trusts
 
 pub record AreRowsOrderly (rows : Rows) : Type 0 where
   pub trees : AreTreesOrderly rows.domains rows.projects
@@ -67,5 +109,7 @@ pub record AreRowsOrderly (rows : Rows) : Type 0 where
 pub record IsOrderly (S : State) : Type 0 where
   pub settings : IsSettings S.settings
   pub rows : AreRowsOrderly S.rows
+  pub anchored : AreAnchored S.rows
+  pub order : AreInOrder S.rows
   pub events : Each (λ (event : EventRow). event.moment ≤ S.high) S.events
   pub ring : S.ring.next ≤ 32 * (S.made + 1)
