@@ -54,15 +54,15 @@ unfolding AreLawful replayed apply ring_after
 orderly_after S last [] high lawful old = old
 orderly_after S last (entry ∷ entries) high lawful old =
     orderly_after (apply S entry.moment entry.change) entry.moment entries high lawful.4
-    (orderly_kept (record S { high = high }) entry.moment entry.change (fits_at S high entry.moment entry.change lawful.2)
-    (last_within (apply S entry.moment entry.change) entry.moment entries high lawful.4) old)
+    (orderly_kept (record S { high = high }) entry.moment entry.change old (last_within (apply S entry.moment entry.change) entry.moment entries high lawful.4)
+    (fits_at S high entry.moment entry.change lawful.2))
 
 pub lawful_is_orderly : LawfulIsOrderly
 unfolding replay opened_state
 lawful_is_orderly f lawful =
     orderly_after (opened_state f.opening) 0 f.changes f.high lawful.changes
-    (orderly_later (opened_state f.opening) f.high (last_within (opened_state f.opening) 0 f.changes f.high lawful.changes)
-    (opened_is_orderly f.opening lawful.range lawful.accepted))
+    (orderly_later (opened_state f.opening) f.high (opened_is_orderly f.opening lawful.range lawful.accepted)
+    (last_within (opened_state f.opening) 0 f.changes f.high lawful.changes))
 
 made_after : (S : State) (entries : List Entry) → (replayed S entries).made ≡ S.made + length entries
 unfolding replayed apply

@@ -1,6 +1,7 @@
 -- What holds of all that a check gives where it goes on, and which outcomes of commands are good ones: the change fits, and what is told
 -- can be.
 use Rattle.std.proofs.Common.{◌≡◌, ℕ, ◌<◌, ◌^◌, Bool, true, false, Option, Some, None, Result, Ok, Err, refl, subst}
+use Rattle.ks_laws.specs.Laws.{FitsIf}
 use Rattle.ks_machine.specs.declared.body_out.BodyOut.{BodyOut}
 use Rattle.ks_machine.specs.declared.cause.Cause.{Cause}
 use Rattle.ks_machine.specs.declared.change.Change.{Change}
@@ -92,10 +93,6 @@ given P (Stop e) x is goes = cc
 given P (Lacks l) x is goes = cc
 
 -- good outcomes; the change need fit only while the journal has room
-
-abbrev pub FitsIf : State → ℕ → Option Change → Type 0
-FitsIf S moment None = Unit {0}
-FitsIf S moment (Some what) = Fits S moment what
 
 pub record IsGood (S : State) (moment : ℕ) (outcome : Outcome) : Type 0 where
   pub fits : S.made < 2 ^ 58 → FitsIf S moment outcome.change

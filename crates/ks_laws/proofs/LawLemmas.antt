@@ -1,11 +1,12 @@
 -- The front after a call is lawful, and its reply can be told.
-use Rattle.std.proofs.Common.{◌≡◌, ℕ, ◌≤◌, ◌<◌, ◌^◌, List, [], ◌∷◌, ◌++◌, length, Option, Some, None, refl, sym, length-append, arith}
+use Rattle.std.proofs.Common.{◌≡◌, ℕ, ◌+◌, ◌≤◌, ◌<◌, ◌^◌, List, [], ◌∷◌, ◌++◌, length, Option, Some, None, refl, sym, ap, subst, ◌∙◌, length-append, arith}
+use Rattle.std.specs.List.{AllByRecursion}
 use Rattle.std.specs.Prelude.{not, ◌||◌, ◌&&◌}
 use Rattle.ks_laws.specs.Orderly.{IsOrderly}
-use Rattle.ks_laws.specs.Laws.{LawfulGoesOn, RepliesAreTellable}
+use Rattle.ks_laws.specs.Laws.{FitsIf, EarlierIsLawful, LawfulGoesOn, MomentsKeepLawful, RepliesAreTellable, StepsFit}
 use Rattle.ks_laws.proofs.CommandLemmas.{good_answered}
 use Rattle.ks_laws.proofs.FrontLemmas.{changes_are_counted, lawful_is_orderly}
-use Rattle.ks_laws.proofs.GivesLemmas.{FitsIf, Gives, IsGood, gives_bind, gives_go, gives_past, gives_self}
+use Rattle.ks_laws.proofs.GivesLemmas.{Gives, IsGood, gives_bind, gives_go, gives_past, gives_self}
 use Rattle.ks_laws.proofs.StateLemmas.{orderly_later}
 use Rattle.ks_machine.specs.declared.call.Call.{Call}
 use Rattle.ks_machine.specs.declared.cause.Cause.{Cause}
@@ -18,9 +19,10 @@ use Rattle.ks_machine.specs.Changes.{apply}
 use Rattle.ks_machine.specs.Fit.{Fit}
 use Rattle.ks_machine.specs.Fronts.{Front, after, answer, change_of, replay, replayed, reply_of, then}
 use Rattle.ks_machine.specs.Keys.{is_failed}
-use Rattle.ks_machine.specs.Lawful.{AreLawful, Fits, IsLawful}
+use Rattle.ks_machine.specs.Lawful.{AreLawful, Fits, IsLawful, IsOpeningInRange}
 use Rattle.ks_machine.specs.Moment.{last_moment, moment_of}
-use Rattle.ks_machine.specs.Opened.{opened_state}
+use Rattle.ks_machine.specs.Opened.{open_fault, opened_state}
+use Rattle.ks_machine.specs.Openings.{PlainOpening}
 use Rattle.ks_machine.specs.Outcomes.{Outcome}
 use Rattle.ks_machine.specs.Room.{room_for}
 use Rattle.ks_machine.specs.States.{State, raised}
@@ -64,6 +66,31 @@ reply_tellable S moment (Go outcome) done = done.good.told
 reply_tellable S moment (Stop why) done = tt
 reply_tellable S moment (Lacks lack) done = tt
 
+-- neither hangs on the highest moment
+fits_before : (S : State) (high moment : ℕ) (what : Change) → Fits (raised S high) moment what → Fits S moment what
+unfolding Fits
+fits_before S high moment what fits = fits
+
+fits_if_before : (S : State) (high moment : ℕ) (what : Option Change) → FitsIf (raised S high) moment what → FitsIf S moment what
+fits_if_before S high moment None fits = fits
+fits_if_before S high moment (Some what) fits = fits_before S high moment what fits
+
+room_before : (S : State) (high moment : ℕ) (what : Option Change) → room_for (raised S high) moment what ≡ Go tt → room_for S moment what ≡ Go tt
+unfolding room_for
+room_before S high moment None room = refl
+room_before S high moment (Some what) room = room
+
+pub steps_fit : StepsFit
+unfolding step_at
+steps_fit known S moment call told change old low le few fit says =
+    let done = call_done known (raised S moment) moment call (orderly_later S moment old low) le le fit in
+    let step = checked known (raised S moment) moment call in (
+      subst IsTellable (ap reply_of says) (reply_tellable (raised S moment) moment step done),
+      subst (FitsIf S moment) (ap change_of says) (fits_if_before S moment moment (change_of (stepped step)) (change_fits (raised S moment) moment step done few)),
+      subst (λ (what : Option Change). room_for S moment what ≡ Go tt) (ap change_of says)
+          (room_before S moment moment (change_of (stepped step)) (change_has_room (raised S moment) moment step done)),
+    )
+
 -- one change more
 
 lawful_longer : (S : State) (last : ℕ) (entries : List Entry) (high moment : ℕ) → AreLawful S last entries high → high ≤ moment → AreLawful S last entries moment
@@ -85,34 +112,50 @@ one_more S last (entry ∷ entries) high number moment what lawful le counts fit
   one_more (apply S entry.moment entry.change) entry.moment entries high number moment what lawful.4 le counts fits room,
 )
 
--- neither hangs on the highest moment
-fits_before : (S : State) (high moment : ℕ) (what : Change) → Fits (raised S high) moment what → Fits S moment what
-unfolding Fits
-fits_before S high moment what fits = fits
-
-room_before : (S : State) (high moment : ℕ) (what : Change) → room_for (raised S high) moment (Some what) ≡ Go tt → room_for S moment (Some what) ≡ Go tt
-unfolding room_for
-room_before S high moment what room = room
-
-lawful_then : (f : Front) (moment : ℕ) (what : Option Change) → IsLawful f → f.high ≤ moment → moment ≤ last_moment → length f.changes < 2 ^ 58 →
-    FitsIf (raised (replay f) moment) moment what → room_for (raised (replay f) moment) moment what ≡ Go tt → IsLawful (then f moment what)
-unfolding replay
-lawful_then f moment None lawful low le few fits room = record {
+pub moments_keep_lawful : MomentsKeepLawful
+moments_keep_lawful f moment lawful low le = record {
   range = lawful.range;
   accepted = lawful.accepted;
   changes = lawful_longer (opened_state f.opening) 0 f.changes f.high moment lawful.changes low;
   high = le;
   count = lawful.count;
 }
+
+lawful_then : (f : Front) (moment : ℕ) (what : Option Change) → IsLawful f → f.high ≤ moment → moment ≤ last_moment → length f.changes < 2 ^ 58 →
+    FitsIf (raised (replay f) moment) moment what → room_for (raised (replay f) moment) moment what ≡ Go tt → IsLawful (then f moment what)
+unfolding replay
+lawful_then f moment None lawful low le few fits room = moments_keep_lawful f moment lawful low le
 lawful_then f moment (Some what) lawful low le few fits room = record {
   range = lawful.range;
   accepted = lawful.accepted;
   changes = one_more (opened_state f.opening) 0 f.changes f.high (length f.changes) moment what lawful.changes low (sym (changes_are_counted f lawful))
       (fits_before (replayed (opened_state f.opening) f.changes) moment moment what fits)
-      (room_before (replayed (opened_state f.opening) f.changes) moment moment what room);
+      (room_before (replayed (opened_state f.opening) f.changes) moment moment (Some what) room);
   high = le;
   count = omega (arith, few, length-append f.changes (record { number = length f.changes; moment = moment; change = what } ∷ []));
 }
+
+-- fewer changes
+
+lawful_first : (S : State) (last : ℕ) (first later : List Entry) (low high : ℕ) → AreLawful S last (first ++ later) high → last ≤ low →
+    AllByRecursion (λ entry. entry.moment ≤ low) first → AreLawful S last first low
+unfolding AreLawful
+lawful_first S last [] later low high lawful le within = le
+lawful_first S last (entry ∷ first) later low high lawful le within =
+    (lawful.0, lawful.1, lawful.2, lawful.3, lawful_first (apply S entry.moment entry.change) entry.moment first later low high lawful.4 within.0 within.1)
+
+pub earlier_is_lawful : EarlierIsLawful
+earlier_is_lawful f g lawful on sound =
+    let P : List Entry → Type 0 = λ changes. AreLawful (opened_state g.opening) 0 changes g.high in
+    let first = lawful_first (opened_state g.opening) 0 f.changes on.later f.high g.high (subst P on.changes lawful.changes) (omega arith) sound.moments in
+    let more : length g.changes ≡ length f.changes + length on.later = ap length on.changes ∙ length-append f.changes on.later in
+    record {
+      range = subst IsOpeningInRange (sym on.opening) lawful.range;
+      accepted = ap open_fault on.opening ∙ lawful.accepted;
+      changes = subst (λ (opening : PlainOpening). AreLawful (opened_state opening) 0 f.changes f.high) (sym on.opening) first;
+      high = omega (arith, on.high, lawful.high);
+      count = omega (arith, more, lawful.count);
+    }
 
 -- a call after a lawful front
 
@@ -126,7 +169,7 @@ after_done : (f : Front) (call : Call) (moment : ℕ) → IsLawful f → Fit cal
     Gives (IsDone (raised (replay f) moment) moment) (checked everything (raised (replay f) moment) moment call)
 unfolding replay
 after_done f call moment lawful fit low le =
-    call_done everything (raised (replay f) moment) moment call (orderly_later (replay f) moment low (lawful_is_orderly f lawful)) le le fit
+    call_done everything (raised (replay f) moment) moment call (orderly_later (replay f) moment (lawful_is_orderly f lawful) low) le le fit
 
 pub lawful_goes_on : LawfulGoesOn
 unfolding after step_at replay

@@ -1,4 +1,4 @@
-mod ListLemmas
+pub mod ListLemmas
 mod OpeningLemmas
 mod TreeLemmas
 mod PeopleLemmas
@@ -12,5 +12,5 @@ mod TokenLemmas
 mod RowCommands
 mod TrustCommands
 mod CommandLemmas
-mod FrontLemmas
-mod LawLemmas
+pub mod FrontLemmas
+pub mod LawLemmas

@@ -37,7 +37,8 @@ use Rattle.ks_base.specs.Trees.{is_domain_named, is_project_named}
 use Rattle.ks_base.proofs.RowLemmas.{among_put, find_put}
 use Rattle.ks_base.proofs.TableLemmas.{ascending_put}
 use Rattle.ks_laws.specs.Ancestries.{HasAncestry}
-use Rattle.ks_laws.specs.Orderly.{AreAnchored, AreInOrder, AreNamesUnique, ArePeopleOrderly, AreTreesOrderly, AreTrustsOrderly, DomainStands, Each, IsGrantAnchored, IsImplicationAnchored, IsMemberAnchored, IsOrderly}
+use Rattle.ks_laws.specs.Laws.{OpenedIsOrderly}
+use Rattle.ks_laws.specs.Orderly.{AreAnchored, AreInOrder, AreNamesUnique, ArePeopleOrderly, AreTreesOrderly, AreTrustsOrderly, DomainStands, Each, IsGrantAnchored, IsImplicationAnchored, IsMemberAnchored}
 use Rattle.ks_laws.proofs.ListLemmas.{after_put, among_both, among_first, among_last, any_from, any_to, each_of_all, found_none, is_same, is_there, none_apply, none_mapped, same_is, unless_fault}
 use Rattle.ks_machine.specs.declared.settings.OpenFault.{OpenFault}
 use Rattle.ks_machine.specs.declared.settings.OpenFault.TheVariants as fault
@@ -382,7 +383,7 @@ anchored_opened opening absent =
       trusts = λ trust among. absurd among;
     }
 
-pub opened_is_orderly : (opening : PlainOpening) → IsOpeningInRange opening → open_fault opening ≡ None → IsOrderly (opened_state opening)
+pub opened_is_orderly : OpenedIsOrderly
 unfolding open_fault opened_state rows_opened
 opened_is_orderly opening range none = record {
   settings = range.settings;

@@ -4,7 +4,8 @@ use Rattle.ks_base.specs.declared.events.EventRow.{EventRow}
 use Rattle.ks_base.specs.declared.events.Revoke.{Revoke}
 use Rattle.ks_base.specs.declared.rows.RoleRow.{RoleRow}
 use Rattle.ks_base.specs.Tables.{Among}
-use Rattle.ks_laws.specs.Orderly.{AreRowsOrderly, Each, IsOrderly}
+use Rattle.ks_laws.specs.Laws.{ChangesKeepOrderly, TimeKeepsOrderly}
+use Rattle.ks_laws.specs.Orderly.{AreRowsOrderly, Each}
 use Rattle.ks_laws.proofs.AnchorLemmas.{anchored_kept}
 use Rattle.ks_laws.proofs.ListLemmas.{among_both, among_mapped, each_drop, each_put}
 use Rattle.ks_laws.proofs.OpeningLemmas.{few_keys}
@@ -155,9 +156,9 @@ events_kept moment high events things le old event among = by (among_both events
     by (inr last) = at_moment moment high things le event last
 
 -- the state after a change; its highest moment is the one that was there before
-pub orderly_kept : (S : State) (moment : ℕ) (what : Change) → Fits S moment what → moment ≤ S.high → IsOrderly S → IsOrderly (apply S moment what)
+pub orderly_kept : ChangesKeepOrderly
 unfolding apply
-orderly_kept S moment what fits le old = record {
+orderly_kept S moment what old le fits = record {
   settings = old.settings;
   rows = rows_kept S moment what fits old.rows;
   anchored = anchored_kept S moment what fits old.anchored;
@@ -167,8 +168,8 @@ orderly_kept S moment what fits le old = record {
 }
 
 -- at a later moment it is orderly too
-pub orderly_later : (S : State) (high : ℕ) → S.high ≤ high → IsOrderly S → IsOrderly (record S { high = high })
-orderly_later S high le old = record {
+pub orderly_later : TimeKeepsOrderly
+orderly_later S high old le = record {
   settings = old.settings;
   rows = old.rows;
   anchored = old.anchored;

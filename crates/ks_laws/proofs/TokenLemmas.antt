@@ -14,8 +14,9 @@ use Rattle.ks_base.specs.Refusals.{fault_if, first_of}
 use Rattle.ks_base.specs.Revocation.{is_revoked}
 use Rattle.ks_base.specs.Rows.{Id, Text, Rows, same, project_of, trust_of, user_of}
 use Rattle.ks_base.specs.Trusts.{first_trustor, found_use_fault, is_expired, is_spent, use_fault}
+use Rattle.ks_laws.specs.Laws.{FitsIf}
 use Rattle.ks_laws.specs.Orderly.{IsOrderly}
-use Rattle.ks_laws.proofs.GivesLemmas.{FitsIf, Gives, IsGood, gives_any, gives_bind, gives_blame, gives_fault, gives_found, gives_go, gives_need, gives_past}
+use Rattle.ks_laws.proofs.GivesLemmas.{Gives, IsGood, gives_any, gives_bind, gives_blame, gives_fault, gives_found, gives_go, gives_need, gives_past}
 use Rattle.ks_laws.proofs.LineLemmas.{IsRead, Passes, token_read}
 use Rattle.ks_laws.proofs.ListLemmas.{found_by_own, is_same, none_apply}
 use Rattle.ks_machine.specs.declared.bodies.LoginBody.{LoginBody}

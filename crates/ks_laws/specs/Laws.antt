@@ -1,5 +1,6 @@
--- What holds of all lawful fronts: they go on, their replies can be told, and the walks of their state are the whole climbs.
-use Rattle.std.specs.Prelude.{◌≡◌, ◌<◌, ◌≤◌, ◌^◌, [], length, Some, None}
+-- What holds of all orderly states and of all lawful fronts: they go on, their replies can be told, and the walks of a lawful front's state
+-- are the whole climbs.
+use Rattle.std.specs.Prelude.{◌≡◌, ℕ, ◌<◌, ◌≤◌, ◌^◌, [], length, Option, Some, None}
 use Rattle.ks_base.specs.declared.rows.ProjectRow.{ProjectRow}
 use Rattle.ks_base.specs.declared.trusts.TrustRow.{TrustRow}
 use Rattle.ks_base.specs.Rows.{Id, project_of, trust_of}
@@ -8,12 +9,48 @@ use Rattle.ks_base.specs.Trusts.{LeadsTo, first_trustor}
 use Rattle.ks_laws.specs.Ancestries.{IsAncestry}
 use Rattle.ks_laws.specs.Orderly.{IsOrderly}
 use Rattle.ks_machine.specs.declared.call.Call.{Call}
+use Rattle.ks_machine.specs.declared.change.Change.{Change}
+use Rattle.ks_machine.specs.declared.reply.Reply.{Reply}
+use Rattle.ks_machine.specs.Attempts.{Go, Known}
+use Rattle.ks_machine.specs.Changes.{apply}
 use Rattle.ks_machine.specs.Fit.{Fit}
-use Rattle.ks_machine.specs.Fronts.{Front, IsSound, after, answer, replay}
-use Rattle.ks_machine.specs.Lawful.{IsLawful, IsOpeningInRange}
-use Rattle.ks_machine.specs.Opened.{open_fault}
+use Rattle.ks_machine.specs.Fronts.{Front, IsSound, ◌⊑◌, after, answer, replay, then}
+use Rattle.ks_machine.specs.Lawful.{Fits, IsLawful, IsOpeningInRange}
+use Rattle.ks_machine.specs.Moment.{last_moment}
+use Rattle.ks_machine.specs.Opened.{open_fault, opened_state}
 use Rattle.ks_machine.specs.Openings.{PlainOpening}
+use Rattle.ks_machine.specs.Room.{room_for}
+use Rattle.ks_machine.specs.States.{State, raised}
+use Rattle.ks_machine.specs.Steps.{Replies, step_at}
 use Rattle.ks_machine.specs.Told.{IsTellable}
+
+-- states
+
+-- a change, if there is one, fits
+abbrev pub FitsIf : State → ℕ → Option Change → Type 0
+FitsIf S moment None = Unit {0}
+FitsIf S moment (Some what) = Fits S moment what
+
+-- with whatever facts, a step of an orderly state tells what can be told, and makes a change that fits and has room
+abbrev pub StepsFit : Type 0
+StepsFit =
+    (known : Known) (S : State) (moment : ℕ) (call : Call) (told : Reply) (change : Option Change)
+    → IsOrderly S → S.high ≤ moment → moment ≤ last_moment → S.made < 2 ^ 58 → Fit call
+    → step_at known S moment call ≡ Replies told change
+    → IsTellable told × FitsIf S moment change × (room_for S moment change ≡ Go tt)
+
+-- a change that fits leaves the state orderly, and so does the time
+abbrev pub ChangesKeepOrderly : Type 0
+ChangesKeepOrderly =
+    (S : State) (moment : ℕ) (change : Change) → IsOrderly S → moment ≤ S.high → Fits S moment change → IsOrderly (apply S moment change)
+
+abbrev pub TimeKeepsOrderly : Type 0
+TimeKeepsOrderly = (S : State) (moment : ℕ) → IsOrderly S → S.high ≤ moment → IsOrderly (raised S moment)
+
+abbrev pub OpenedIsOrderly : Type 0
+OpenedIsOrderly = (opening : PlainOpening) → IsOpeningInRange opening → open_fault opening ≡ None → IsOrderly (opened_state opening)
+
+-- fronts
 
 -- the front before the first call
 abbrev pub opened_front : PlainOpening → Front
@@ -26,6 +63,14 @@ OpeningIsLawful = (opening : PlainOpening) → IsOpeningInRange opening → open
 -- the front after a call is as lawful as the one before, as long as the journal has room
 abbrev pub LawfulGoesOn : Type 0
 LawfulGoesOn = (f : Front) (call : Call) → IsLawful f → Fit call → length f.changes < 2 ^ 58 → IsLawful (after f call)
+
+-- so is the front at a later moment
+abbrev pub MomentsKeepLawful : Type 0
+MomentsKeepLawful = (f : Front) (moment : ℕ) → IsLawful f → f.high ≤ moment → moment ≤ last_moment → IsLawful (then f moment None)
+
+-- and each sound front from which a lawful one goes on
+abbrev pub EarlierIsLawful : Type 0
+EarlierIsLawful = (f g : Front) → IsLawful g → f ⊑ g → IsSound f → IsLawful f
 
 abbrev pub LawfulIsSound : Type 0
 LawfulIsSound = (f : Front) → IsLawful f → f.kept ≤ length f.changes → IsSound f

@@ -2,16 +2,30 @@
 //! a function that does nothing.
 #![tactic(auto)]
 
-ghost use Rattle.ks_laws.specs.Laws.{CountsChanges, LawfulGoesOn, LawfulIsOrderly, LawfulIsSound, OpeningIsLawful, ProjectsAreClimbed, RepliesAreTellable, TrustsLead};
+ghost use Rattle.ks_laws.specs.Laws.{ChangesKeepOrderly, CountsChanges, EarlierIsLawful, LawfulGoesOn, LawfulIsOrderly, LawfulIsSound, MomentsKeepLawful, OpenedIsOrderly, OpeningIsLawful, ProjectsAreClimbed, RepliesAreTellable, StepsFit, TimeKeepsOrderly, TrustsLead};
 
-/// An accepted opening opens a lawful front, and the front after a call is as lawful as the one before it.
+/// An accepted opening opens an orderly state. What a step of one tells can be told, and the change that it makes fits and
+/// leaves an orderly state, with whatever facts the step was taken.
+pub fn states_stay_orderly()
+    ensures opened { OpenedIsOrderly }
+    ensures steps { StepsFit }
+    ensures changes { ChangesKeepOrderly }
+    ensures time { TimeKeepsOrderly }
+{}
+
+/// An accepted opening opens a lawful front, and the front after a call, or at a later moment, is as lawful as the one
+/// before it. A lawful front that keeps no more changes than it has is sound, and what is sound before a lawful front is
+/// lawful.
 pub fn lawful_fronts_go_on()
     ensures opened { OpeningIsLawful }
     ensures later { LawfulGoesOn }
+    ensures moments { MomentsKeepLawful }
     ensures sound { LawfulIsSound }
+    ensures earlier { EarlierIsLawful }
 {}
 
-/// Rows of a lawful front's state have their ranges, and what they name stands; each change is counted.
+/// Rows of a lawful front's state have their ranges and stand in their order, and what they name stands; each change is
+/// counted.
 pub fn lawful_states_are_orderly()
     ensures orderly { LawfulIsOrderly }
     ensures counted { CountsChanges }
