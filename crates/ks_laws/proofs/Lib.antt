@@ -1,6 +1,6 @@
 pub mod ListLemmas
 mod OpeningLemmas
-mod TreeLemmas
+pub mod TreeLemmas
 mod PeopleLemmas
 mod TrustLemmas
 mod OrderLemmas
