@@ -14,3 +14,4 @@ mod TrustCommands
 mod CommandLemmas
 pub mod FrontLemmas
 pub mod LawLemmas
+mod LimitExamples
