@@ -51,7 +51,7 @@ apart_not_both (p ∷ ps) (q ∷ qs) (segment ∷ segments) d p_fits q_fits =
     apart_not_both ps qs segments behind (and_right (takes p segment) (fits ps segments) p_fits) (and_right (takes q segment) (fits qs segments) q_fits)
 
 -- a test of each element holds at one of them
-at_element : {X : Type 0} (test : X → Bool) (xs : List X) (k : ℕ) (x : X) → list_all test xs ≡ true → slice_get xs k ≡ Some x → test x ≡ true
+pub at_element : {X : Type 0} (test : X → Bool) (xs : List X) (k : ℕ) (x : X) → list_all test xs ≡ true → slice_get xs k ≡ Some x → test x ≡ true
 at_element test [] k x all at = cc
 at_element test (y ∷ xs) zero x all at = let same : y ≡ x = cc in ap test (sym same) ∙ and_left (test y) (list_all test xs) all
 at_element test (y ∷ xs) (suc k) x all at = at_element test xs k x (and_right (test y) (list_all test xs) all) at

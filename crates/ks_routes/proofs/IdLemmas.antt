@@ -1,5 +1,5 @@
 -- Reading an id answers whether the text is one.
-use Rattle.std.proofs.Common.{◌≡◌, ℕ, ◌<◌, Bool, true, false, List, [], length, Ok, Err, refl, sym, ap, arith}
+use Rattle.std.proofs.Common.{◌≡◌, ℕ, ◌<◌, Bool, true, false, List, [], length, Ok, Err, None, refl, sym, ap, ◌∙◌, arith}
 use Rattle.std.specs.Prelude.{Result, IfOk, ◌&&◌, not, nat_lt, nat_le, is_ok}
 use Rattle.std.specs.List.{list_all}
 use Rattle.std.proofs.lemmas.Bool.Decides.{nat_tests}
@@ -8,6 +8,7 @@ use Rattle.std.proofs.lemmas.List.Quantifiers.{position-Some}
 use Rattle.ks_base.specs.Ids.{IsId, IsFirstBadByte, is_id_byte}
 use Rattle.ks_base.specs.declared.id.IdFault.{IdFault}
 use Rattle.ks_base.specs.declared.id.IdFault.TheVariants.{Empty, TooLong, Byte}
+use Rattle.ks_routes.specs.Asked.{id_read}
 use Rattle.ks_routes.specs.Patterns.{is_id}
 
 not_true : (b : Bool) → not b ≡ true → b ≡ false
@@ -45,3 +46,11 @@ is_id_read (Err (Byte place)) text ok empty long byte =
     let at = position-Some (λ b. not (is_id_byte b)) text place 0 (byte place refl) in
     let bad = list_all_at is_id_byte text place 0 at.0 (not_true _ at.1) in
     sym (and_false (nat_lt 0 (length text)) (nat_le (length text) 64) (list_all is_id_byte text) bad)
+
+-- what is refused is no id
+pub not_read : (r : Result (List ℕ) IdFault) (text : List ℕ) → IfOk r (λ id. (id ≡ text) × IsId text)
+    → (r ≡ Err Empty → text ≡ []) → (r ≡ Err TooLong → 64 < length text)
+    → ((place : ℕ) → r ≡ Err (Byte place) → IsFirstBadByte text place) → is_ok r ≡ false → None ≡ id_read text
+not_read r text ok empty long byte fails =
+    let no : is_id text ≡ false = sym (is_id_read r text ok empty long byte) ∙ fails in
+    rw no refl

@@ -1,6 +1,8 @@
--- What the public contracts mean, in the order in which it is read: the patterns of paths, tables of routes, and
--- the table of the Identity API. Of `steps` only private clauses speak.
+-- What the public contracts mean, in the order in which it is read: the patterns of paths, tables of routes, queries, the
+-- commands that requests make, and the table of the Identity API. Of `steps` only private clauses speak.
 pub mod Patterns
 pub mod Tables
+pub mod Queries
+pub mod Asked
 pub mod Routes
 pub mod steps

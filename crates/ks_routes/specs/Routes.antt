@@ -1,37 +1,103 @@
--- The routes of the Identity API v3.
-use Rattle.std.specs.Prelude.{◌≡◌, ◌⊎◌, List, [], ◌∷◌, Option, Some, None, codes}
+-- The routes of the Identity API v3, OS-INHERIT, OS-TRUST and OS-REVOKE, and those of the keys, which are own.
+use Rattle.std.specs.Prelude.{◌≡◌, ◌⊎◌, true, false, List, [], ◌∷◌, Option, Some, None, codes}
 use Rattle.ks_http.specs.declared.request.Request.{Request}
-use Rattle.ks_machine.specs.declared.command.Command.{Command}
-use Rattle.ks_machine.specs.declared.command.Command.TheVariants as command
 use Rattle.ks_routes.specs.declared.action.Action.{Action}
 use Rattle.ks_routes.specs.declared.action.Action.TheVariants as action
+use Rattle.ks_routes.specs.declared.action.ActorKind.{ActorKind}
+use Rattle.ks_routes.specs.declared.action.ActorKind.TheVariants as actor_kind
+use Rattle.ks_routes.specs.declared.action.Place.{Place}
+use Rattle.ks_routes.specs.declared.action.RowKind.{RowKind}
+use Rattle.ks_routes.specs.declared.action.RowKind.TheVariants as row_kind
+use Rattle.ks_routes.specs.declared.action.TargetKind.{TargetKind}
+use Rattle.ks_routes.specs.declared.action.TargetKind.TheVariants as target_kind
 use Rattle.ks_routes.specs.declared.methods.Methods.{Methods}
 use Rattle.ks_routes.specs.declared.routed.Routed.{Routed}
 use Rattle.ks_routes.specs.declared.routed.Routed.TheVariants as routed
-use Rattle.ks_routes.specs.Patterns.{segments}
+use Rattle.ks_routes.specs.Asked.{asked, ids_in}
+use Rattle.ks_routes.specs.Patterns.{Part, segments}
 use Rattle.ks_routes.specs.Tables.{Row, row, found, action_of, allowed}
 
 -- a route with no method
 abbrev pub none : Methods Action
 none = record { get = None; head = None; post = None; patch = None; put = None; delete = None }
 
+-- all rows of a kind, and one of them
+abbrev pub all_of : RowKind → Methods Action
+all_of kind = record none { get = Some (action.List kind); post = Some (action.Create kind) }
+
+abbrev pub one_of : RowKind → Methods Action
+one_of kind = record none { get = Some (action.Get kind); patch = Some (action.Update kind); delete = Some (action.Delete kind) }
+
+-- grants that hold at a target, and those that its projects inherit
+abbrev pub direct : TargetKind → ActorKind → Place
+direct target actor = record { target = target; actor = actor; inherited = false }
+
+abbrev pub inherited : TargetKind → ActorKind → Place
+inherited target actor = record { target = target; actor = actor; inherited = true }
+
+-- all grants of an actor at a target, and one of them
+abbrev pub grants_at : Place → Methods Action
+grants_at place = record none { get = Some (action.GrantsOf place) }
+
+abbrev pub grant_at : Place → Methods Action
+grant_at place =
+    record none { head = Some (action.IsGranted place); put = Some (action.Grant place); delete = Some (action.Ungrant place) }
+
 abbrev pub table : List (Row Action)
 table =
     row (codes "/v3") (record none { get = Some action.Version }) ∷
     row (codes "/v3/") (record none { get = Some action.Version }) ∷
+    row (codes "/v3/auth/tokens") (record none { get = Some action.Validate; head = Some action.Check; post = Some action.Login; delete = Some action.RevokeToken }) ∷
+    row (codes "/v3/domains") (all_of row_kind.Domain) ∷
+    row (codes "/v3/domains/{domain}") (one_of row_kind.Domain) ∷
+    row (codes "/v3/projects") (all_of row_kind.Project) ∷
+    row (codes "/v3/projects/{project}") (one_of row_kind.Project) ∷
+    row (codes "/v3/users") (all_of row_kind.User) ∷
+    row (codes "/v3/users/{user}") (one_of row_kind.User) ∷
+    row (codes "/v3/groups") (all_of row_kind.Group) ∷
+    row (codes "/v3/groups/{group}") (one_of row_kind.Group) ∷
+    row (codes "/v3/roles") (all_of row_kind.Role) ∷
+    row (codes "/v3/roles/{role}") (one_of row_kind.Role) ∷
+    row (codes "/v3/users/{user}/password") (record none { post = Some action.ChangePassword }) ∷
+    row (codes "/v3/users/{user}/groups") (record none { get = Some action.GroupsOf }) ∷
+    row (codes "/v3/groups/{group}/users") (record none { get = Some action.MembersOf }) ∷
+    row (codes "/v3/groups/{group}/users/{user}") (record none { head = Some action.IsIn; put = Some action.Join; delete = Some action.Leave }) ∷
+    row (codes "/v3/roles/{role}/implies") (record none { get = Some action.Implied }) ∷
+    row (codes "/v3/roles/{role}/implies/{implied}") (record none { get = Some action.Implication; head = Some action.IsImplied; put = Some action.Imply; delete = Some action.Unimply }) ∷
+    row (codes "/v3/projects/{project}/users/{user}/roles") (grants_at (direct target_kind.Project actor_kind.User)) ∷
+    row (codes "/v3/projects/{project}/users/{user}/roles/{role}") (grant_at (direct target_kind.Project actor_kind.User)) ∷
+    row (codes "/v3/projects/{project}/groups/{group}/roles") (grants_at (direct target_kind.Project actor_kind.Group)) ∷
+    row (codes "/v3/projects/{project}/groups/{group}/roles/{role}") (grant_at (direct target_kind.Project actor_kind.Group)) ∷
+    row (codes "/v3/domains/{domain}/users/{user}/roles") (grants_at (direct target_kind.Domain actor_kind.User)) ∷
+    row (codes "/v3/domains/{domain}/users/{user}/roles/{role}") (grant_at (direct target_kind.Domain actor_kind.User)) ∷
+    row (codes "/v3/domains/{domain}/groups/{group}/roles") (grants_at (direct target_kind.Domain actor_kind.Group)) ∷
+    row (codes "/v3/domains/{domain}/groups/{group}/roles/{role}") (grant_at (direct target_kind.Domain actor_kind.Group)) ∷
+    row (codes "/v3/system/users/{user}/roles") (grants_at (direct target_kind.System actor_kind.User)) ∷
+    row (codes "/v3/system/users/{user}/roles/{role}") (grant_at (direct target_kind.System actor_kind.User)) ∷
+    row (codes "/v3/system/groups/{group}/roles") (grants_at (direct target_kind.System actor_kind.Group)) ∷
+    row (codes "/v3/system/groups/{group}/roles/{role}") (grant_at (direct target_kind.System actor_kind.Group)) ∷
+    row (codes "/v3/OS-INHERIT/projects/{project}/users/{user}/roles/{role}/inherited_to_projects") (grant_at (inherited target_kind.Project actor_kind.User)) ∷
+    row (codes "/v3/OS-INHERIT/projects/{project}/groups/{group}/roles/{role}/inherited_to_projects") (grant_at (inherited target_kind.Project actor_kind.Group)) ∷
+    row (codes "/v3/OS-INHERIT/domains/{domain}/users/{user}/roles/inherited_to_projects") (grants_at (inherited target_kind.Domain actor_kind.User)) ∷
+    row (codes "/v3/OS-INHERIT/domains/{domain}/users/{user}/roles/{role}/inherited_to_projects") (grant_at (inherited target_kind.Domain actor_kind.User)) ∷
+    row (codes "/v3/OS-INHERIT/domains/{domain}/groups/{group}/roles/inherited_to_projects") (grants_at (inherited target_kind.Domain actor_kind.Group)) ∷
+    row (codes "/v3/OS-INHERIT/domains/{domain}/groups/{group}/roles/{role}/inherited_to_projects") (grant_at (inherited target_kind.Domain actor_kind.Group)) ∷
+    row (codes "/v3/role_assignments") (record none { get = Some action.Assignments }) ∷
+    row (codes "/v3/OS-TRUST/trusts") (record none { get = Some action.Trusts; post = Some action.CreateTrust }) ∷
+    row (codes "/v3/OS-TRUST/trusts/{trust}") (record none { get = Some action.Trust; delete = Some action.DeleteTrust }) ∷
+    row (codes "/v3/OS-TRUST/trusts/{trust}/roles") (record none { get = Some action.TrustRoles }) ∷
+    row (codes "/v3/OS-REVOKE/events") (record none { get = Some action.Events }) ∷
+    row (codes "/v3/OS-KS-KEYS/rotate") (record none { post = Some action.RotateKeys }) ∷
+    row (codes "/v3/OS-KS-KEYS/load") (record none { post = Some action.LoadKeys }) ∷
     []
 
--- the command that a request makes of an action
-abbrev pub asked : Action → Request → Command
-asked action.Version request = command.Version
-
 -- what a route makes of a request whose method asks for this there
-abbrev pub answered : Methods Action → Option Action → Request → Routed
-answered methods (Some action) request = routed.Command (asked action request)
-answered methods None request = routed.NoMethod (allowed methods)
+abbrev pub answered : List Part → Methods Action → Option Action → Request → Routed
+answered pattern methods (Some action) request = asked action (ids_in pattern (segments request.path)) request
+answered pattern methods None request = routed.NoMethod (allowed methods)
 
 abbrev pub routed_by : Option (Row Action) → Request → Routed
-routed_by (Some row) request = answered row.methods (action_of request.method row.methods) request
+routed_by (Some row) request = answered row.pattern row.methods (action_of request.method row.methods) request
 routed_by None request = routed.NoRoute
 
 -- what a table makes of a request

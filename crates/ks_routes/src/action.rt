@@ -1,22 +1,92 @@
+//! What routes ask for.
 ghost use Rattle.std.specs.Prelude.{◌≡◌};
-ghost use Rattle.ks_routes.specs.Routes.{asked};
+ghost use Rattle.ks_routes.specs.Asked.{kind_of};
 
-use ks_http::Request;
-use ks_machine::Command;
+use ks_base::Kind;
+
+/// The kinds of rows that have routes of their own.
+#[derive(Clone, Copy, Debug, PartialEq, Eq)]
+pub enum RowKind {
+    Domain,
+    Project,
+    User,
+    Group,
+    Role,
+}
+
+/// Whose grants a route is about.
+#[derive(Clone, Copy, Debug, PartialEq, Eq)]
+pub enum ActorKind {
+    User,
+    Group,
+}
+
+/// Where the grants of a route hold.
+#[derive(Clone, Copy, Debug, PartialEq, Eq)]
+pub enum TargetKind {
+    Project,
+    Domain,
+    System,
+}
+
+/// The grants that a route is about; `inherited`: those that the target's projects inherit.
+#[derive(Clone, Copy, Debug, PartialEq, Eq)]
+pub struct Place {
+    pub target: TargetKind,
+    pub actor: ActorKind,
+    pub inherited: bool,
+}
 
 /// What a method asks for on its route.
 #[derive(Clone, Copy, Debug, PartialEq, Eq)]
 pub enum Action {
     Version,
+    Login,
+    Validate,
+    Check,
+    RevokeToken,
+    Create(RowKind),
+    List(RowKind),
+    Get(RowKind),
+    Update(RowKind),
+    Delete(RowKind),
+    ChangePassword,
+    GroupsOf,
+    MembersOf,
+    Join,
+    IsIn,
+    Leave,
+    Implied,
+    Imply,
+    Implication,
+    IsImplied,
+    Unimply,
+    GrantsOf(Place),
+    Grant(Place),
+    IsGranted(Place),
+    Ungrant(Place),
+    Assignments,
+    CreateTrust,
+    Trusts,
+    Trust,
+    DeleteTrust,
+    TrustRoles,
+    Events,
+    RotateKeys,
+    LoadKeys,
 }
 
-impl Action {
-    /// The command that the request makes of the action.
-    pub fn command(&self, _request: &Request) -> Command
-        ensures { result ≡ asked self.now _request.now }
+impl RowKind {
+    /// The kind.
+    pub fn kind(self) -> Kind
+        ensures { result ≡ kind_of self }
     {
         match self {
-            Action::Version => Command::Version,
+            RowKind::Domain => Kind::Domain,
+            RowKind::Project => Kind::Project,
+            RowKind::User => Kind::User,
+            RowKind::Group => Kind::Group,
+            RowKind::Role => Kind::Role,
         }
     }
 }

@@ -25,17 +25,22 @@ pub fn paths_have_one_route()
         → fits a.pattern (segments path) ≡ true → fits b.pattern (segments path) ≡ true → i ≡ j }
 {}
 
+/// Each route of the table is that of some path.
+pub fn routes_are_reached()
+    ensures { (k : ℕ) (row : Row Action) → slice_get table k ≡ Some row → (path : List (List ℕ)) × (fits row.pattern path ≡ true) }
+{}
+
 /// A request has no route exactly where its path fits no pattern.
 pub fn unrouted_paths_fit_nothing()
     ensures { (request : Request) → (command_of request ≡ routed.NoRoute)
         ↔ ((k : ℕ) (row : Row Action) → slice_get table k ≡ Some row → fits row.pattern (segments request.path) ≡ false) }
 {}
 
-/// A method that is not listed is told those that the path has, and only those: a request with one of
-/// them and the same path has a command.
-pub fn listed_methods_have_commands()
+/// A method that is not listed is told those that the path has, and only those: a request with one of them and the same
+/// path is told none.
+pub fn listed_methods_are_taken()
     ensures { (request : Request) (methods : List Method) → command_of request ≡ routed.NoMethod methods → (m : Method)
-        → Contains methods m ↔ ((command : Command) × (command_of (record request { method = m }) ≡ routed.Command command)) }
+        → Contains methods m ↔ ((others : List Method) → command_of (record request { method = m }) ≢ routed.NoMethod others) }
 {}
 
 /// No route has a method outside of the six.

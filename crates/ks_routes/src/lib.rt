@@ -3,9 +3,13 @@
 #![tactic(auto)]
 
 mod action;
+mod asking;
+mod captured;
+mod filters;
 mod laws;
 mod methods;
 mod pattern;
+mod query;
 mod route;
 mod routed;
 mod routes;
@@ -13,7 +17,7 @@ mod segments;
 mod table;
 mod tree;
 
-pub use action::Action;
+pub use action::{Action, ActorKind, Place, RowKind, TargetKind};
 pub use methods::Methods;
 pub use route::{Route, find};
 pub use routed::{Routed, command};

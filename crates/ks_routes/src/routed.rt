@@ -4,9 +4,10 @@ ghost use Rattle.ks_routes.specs.Tables.{row_of};
 ghost use Rattle.ks_routes.specs.Routes.{Answers, routed_by, command_of};
 
 use crate::action::Action;
+use crate::captured::Captured;
 use crate::route::{Route, find};
 use crate::table::rows;
-use ks_base::{Memory, MethodList};
+use ks_base::{Memory, MethodList, ShapeFault};
 use ks_http::Request;
 use ks_machine::Command;
 use std::alloc::Global;
@@ -16,6 +17,8 @@ use std::alloc::Global;
 pub enum Routed {
     /// The command that the request's path and method name.
     Command(Command),
+    /// The request's body is not what its route asks for: the first fault.
+    Refused(ShapeFault),
     /// No route has the path.
     NoRoute,
     /// The path's route does not have the method, but these, in the order in which `Allow` lists them.
@@ -32,7 +35,10 @@ pub fn respond(alloc: Global, route: Option<&Route<Action>>, request: &Request) 
         return Routed::NoRoute;
     };
     match route.methods.action(request.method) {
-        Some(action) => Routed::Command(action.command(request)),
+        Some(action) => {
+            let ids = Captured::of(route.pattern.as_bytes(), request.path.as_slice());
+            action.command(alloc, &ids, request)
+        }
         None => match route.methods.allowed(alloc) {
             Ok(methods) => Routed::NoMethod(methods),
             Err(Memory) => Routed::Memory,

@@ -26,7 +26,7 @@ use Rattle.ks_top.specs.declared.fault.Fault.TheVariants as fault
 abbrev pub default_url : List ℕ
 default_url = codes "http://127.0.0.1:5000"
 
--- no route leads to another command so far
+-- the machine behind the routes has the version document alone so far: all other commands have no route yet
 abbrev pub reply_to : Command → Reply
 reply_to command.Version = reply.Ok body.Version
 reply_to other = reply.Refused cause.NoRoute
@@ -34,6 +34,7 @@ reply_to other = reply.Refused cause.NoRoute
 -- the machine's reply to a request by where its route leads
 abbrev pub reply_of : Routed → Reply
 reply_of (routed.Command command) = reply_to command
+reply_of (routed.Refused fault) = reply.Refused cause.NoRoute
 reply_of routed.NoRoute = reply.Refused cause.NoRoute
 reply_of (routed.NoMethod methods) = reply.Refused (cause.NoMethod methods)
 reply_of routed.Memory = reply.Refused cause.Memory

@@ -148,7 +148,7 @@ fn reply(routed: Routed) -> Reply
 {
     match routed {
         Routed::Command(command) => reply_to_command(command),
-        Routed::NoRoute => Reply::Refused(Cause::NoRoute),
+        Routed::Refused(_) | Routed::NoRoute => Reply::Refused(Cause::NoRoute),
         Routed::NoMethod(methods) => Reply::Refused(Cause::NoMethod(methods)),
         Routed::Memory => Reply::Refused(Cause::Memory),
     }

@@ -4,6 +4,7 @@
 #![tactic(auto)]
 
 mod checks;
+mod commands;
 mod cut;
 mod numbers;
 mod replies;

@@ -1,11 +1,11 @@
 //! The tables of routes.
 
+use crate::commands::command_words;
 use crate::numbers::numbered;
 use crate::requests::method_name;
 use anyhow::{Context, Result, bail, ensure};
-use ks_base::{Bytes, Method, Text};
+use ks_base::{Bytes, Method, ShapeFault, Text};
 use ks_http::Request;
-use ks_machine::Command;
 use ks_routes::{Route, Routed, Routes, command, find, find_by, guess, plant, rows};
 use ks_tables::{Case, try_table};
 use std::alloc::Global;
@@ -44,15 +44,15 @@ fn text(alloc: Global, bytes: &[u8]) -> Result<Text> {
     Text::read(alloc, bytes)?.context("no text")
 }
 
-/// Of a method and a path.
+/// Of a method, a path, a query and a body.
 fn routes(alloc: Global, case: &Case) -> Result<String> {
     let request = Request {
         method: method(case.str(0)?)?,
         path: text(alloc, case.bytes(1))?,
-        query: Bytes::of(alloc, b"")?,
+        query: Bytes::of(alloc, case.bytes(2))?,
         auth: None,
         subject: None,
-        body: Bytes::of(alloc, b"")?,
+        body: Bytes::of(alloc, case.bytes(3))?,
         close: false,
     };
     let by_table = told(alloc, command(alloc, &request))?;
@@ -63,13 +63,22 @@ fn routes(alloc: Global, case: &Case) -> Result<String> {
 
 fn told(alloc: Global, routed: Routed) -> Result<String> {
     let word = match routed {
-        Routed::Command(Command::Version) => "version",
-        Routed::Command(_) => "another command",
+        Routed::Command(command) => return command_words(alloc, &command),
+        Routed::Refused(fault) => return fault_words(alloc, &fault),
         Routed::NoRoute => "no route",
         Routed::NoMethod(methods) => return not_allowed(alloc, methods.as_slice()),
         Routed::Memory => "memory",
     };
     Ok(String::from_str(alloc, word)?)
+}
+
+fn fault_words(alloc: Global, fault: &ShapeFault) -> Result<String> {
+    match fault {
+        ShapeFault::NotJson => Ok(String::from_str(alloc, "not json")?),
+        ShapeFault::Missing(path) => Ok(format!(in alloc; "missing {}", path.as_str())?),
+        ShapeFault::Kind(path) => Ok(format!(in alloc; "kind {}", path.as_str())?),
+        ShapeFault::Range(path) => Ok(format!(in alloc; "range {}", path.as_str())?),
+    }
 }
 
 fn not_allowed(alloc: Global, methods: &[Method]) -> Result<String> {

@@ -1,0 +1,109 @@
+-- What an action is asked for is a command, a fault of a body, or no route.
+use Rattle.std.proofs.Common.{◌≡◌, Bool, true, false, List, Option, Some, None, Result, Ok, Err, refl, sym, ap, ◌∙◌}
+use Rattle.std.specs.Prelude.{◌≢◌}
+use Rattle.ks_base.specs.declared.method.Method.{Method}
+use Rattle.ks_base.specs.declared.shapes.ShapeFault.{ShapeFault}
+use Rattle.ks_base.specs.Rows.{Id}
+use Rattle.ks_http.specs.declared.request.Request.{Request}
+use Rattle.ks_machine.specs.declared.bodies.Made.{Made}
+use Rattle.ks_machine.specs.declared.command.Command.{Command}
+use Rattle.ks_machine.specs.declared.command.Command.TheVariants as command
+use Rattle.ks_shape.specs.Bodies.{body_of}
+use Rattle.ks_shape.specs.declared.form.BodyIn.{BodyIn}
+use Rattle.ks_shape.specs.declared.form.BodyIn.TheVariants as body
+use Rattle.ks_shape.specs.declared.form.Form.TheVariants as form
+use Rattle.ks_routes.specs.declared.action.Action.{Action}
+use Rattle.ks_routes.specs.declared.action.Action.TheVariants as action
+use Rattle.ks_routes.specs.declared.routed.Routed.{Routed}
+use Rattle.ks_routes.specs.declared.routed.Routed.TheVariants as routed
+use Rattle.ks_routes.specs.Asked.{asked, grant_in, grants_in, id_at, implication_in, kind_of, login_by, made_by, member_in, over, password_by, read_by, trust_by, with_id}
+
+abbrev pub is_own : Routed → Bool
+is_own (routed.Command asks) = true
+is_own (routed.Refused fault) = true
+is_own routed.NoRoute = true
+is_own (routed.NoMethod methods) = false
+is_own routed.Memory = false
+
+pub not_listing : (told : Routed) (methods : List Method) → is_own told ≡ true → told ≢ routed.NoMethod methods
+not_listing told methods own e = let no : false ≡ true = ap is_own (sym e) ∙ own in cc
+
+pub not_memory : (told : Routed) → is_own told ≡ true → told ≢ routed.Memory
+not_memory told own e = let no : false ≡ true = ap is_own (sym e) ∙ own in cc
+
+own_over : {A : Type 0} (named : Option A) (asks : A → Command) → is_own (over named asks) ≡ true
+own_over (Some a) asks = refl
+own_over None asks = refl
+
+own_with : (named : Option Id) (asks : Id → Routed) → ((a : Id) → is_own (asks a) ≡ true) → is_own (with_id named asks) ≡ true
+own_with (Some a) asks own = own a
+own_with None asks own = refl
+
+own_read : (asks : BodyIn → Routed) (read : Result BodyIn ShapeFault) → ((b : BodyIn) → is_own (asks b) ≡ true) → is_own (read_by asks read) ≡ true
+own_read asks (Ok b) own = own b
+own_read asks (Err fault) own = refl
+
+own_login : (b : BodyIn) → is_own (login_by b) ≡ true
+own_login (body.Login login) = refl
+own_login (body.Made made) = refl
+own_login (body.Password original password) = refl
+own_login (body.Trust trust) = refl
+
+own_made : (asks : Made → Command) (b : BodyIn) → is_own (made_by asks b) ≡ true
+own_made asks (body.Login login) = refl
+own_made asks (body.Made made) = refl
+own_made asks (body.Password original password) = refl
+own_made asks (body.Trust trust) = refl
+
+own_password : (user : Id) (b : BodyIn) → is_own (password_by user b) ≡ true
+own_password user (body.Login login) = refl
+own_password user (body.Made made) = refl
+own_password user (body.Password original password) = refl
+own_password user (body.Trust trust) = refl
+
+own_trust : (b : BodyIn) → is_own (trust_by b) ≡ true
+own_trust (body.Login login) = refl
+own_trust (body.Made made) = refl
+own_trust (body.Password original password) = refl
+own_trust (body.Trust trust) = refl
+
+pub asked_own : (asks : Action) (ids : List Id) (request : Request) → is_own (asked asks ids request) ≡ true
+unfolding asked
+asked_own action.Version ids request = refl
+asked_own action.Login ids request = own_read login_by (body_of form.Login request.body) own_login
+asked_own action.Validate ids request = refl
+asked_own action.Check ids request = refl
+asked_own action.RevokeToken ids request = refl
+asked_own (action.Create kind) ids request = own_read (made_by (λ made. command.Create made)) (body_of (form.Made (kind_of kind) true) request.body) (own_made (λ made. command.Create made))
+asked_own (action.List kind) ids request = refl
+asked_own (action.Get kind) ids request = own_over (id_at ids 0) (λ a. command.Get (kind_of kind) a)
+asked_own (action.Update kind) ids request =
+    own_with (id_at ids 0) (λ a. read_by (made_by (λ made. command.Update a made)) (body_of (form.Made (kind_of kind) false) request.body))
+    (λ a. own_read (made_by (λ made. command.Update a made)) (body_of (form.Made (kind_of kind) false) request.body) (own_made (λ made. command.Update a made)))
+asked_own (action.Delete kind) ids request = own_over (id_at ids 0) (λ a. command.Delete (kind_of kind) a)
+asked_own action.ChangePassword ids request =
+    own_with (id_at ids 0) (λ user. read_by (password_by user) (body_of form.Password request.body))
+    (λ user. own_read (password_by user) (body_of form.Password request.body) (own_password user))
+asked_own action.GroupsOf ids request = own_over (id_at ids 0) (λ a. command.GroupsOf a)
+asked_own action.MembersOf ids request = own_over (id_at ids 0) (λ a. command.MembersOf a)
+asked_own action.Join ids request = own_over (member_in ids) (λ row. command.Join row)
+asked_own action.IsIn ids request = own_over (member_in ids) (λ row. command.IsIn row)
+asked_own action.Leave ids request = own_over (member_in ids) (λ row. command.Leave row)
+asked_own action.Implied ids request = own_over (id_at ids 0) (λ a. command.Implied a)
+asked_own action.Imply ids request = own_over (implication_in ids) (λ row. command.Imply row)
+asked_own action.Implication ids request = own_over (implication_in ids) (λ row. command.Implication row)
+asked_own action.IsImplied ids request = own_over (implication_in ids) (λ row. command.IsImplied row)
+asked_own action.Unimply ids request = own_over (implication_in ids) (λ row. command.Unimply row)
+asked_own (action.GrantsOf place) ids request = own_over (grants_in place ids) (λ pair. command.GrantsOf pair.0 pair.1 place.inherited)
+asked_own (action.Grant place) ids request = own_over (grant_in place ids) (λ row. command.Grant row)
+asked_own (action.IsGranted place) ids request = own_over (grant_in place ids) (λ row. command.IsGranted row)
+asked_own (action.Ungrant place) ids request = own_over (grant_in place ids) (λ row. command.Ungrant row)
+asked_own action.Assignments ids request = refl
+asked_own action.CreateTrust ids request = own_read trust_by (body_of form.Trust request.body) own_trust
+asked_own action.Trusts ids request = refl
+asked_own action.Trust ids request = own_over (id_at ids 0) (λ a. command.Trust a)
+asked_own action.DeleteTrust ids request = own_over (id_at ids 0) (λ a. command.DeleteTrust a)
+asked_own action.TrustRoles ids request = own_over (id_at ids 0) (λ a. command.TrustRoles a)
+asked_own action.Events ids request = refl
+asked_own action.RotateKeys ids request = refl
+asked_own action.LoadKeys ids request = refl

@@ -1,0 +1,181 @@
+-- The command that a request makes of what its route asks for.
+use Rattle.std.specs.Prelude.{ℕ, ◌+◌, true, false, if◌then◌else◌, List, [], ◌∷◌, Option, Some, None, Result, Ok, Err, option_map, slice_get}
+use Rattle.ks_base.specs.declared.grants.Actor.{Actor}
+use Rattle.ks_base.specs.declared.grants.Actor.TheVariants as actor
+use Rattle.ks_base.specs.declared.grants.GrantRow.{GrantRow}
+use Rattle.ks_base.specs.declared.grants.ImplyRow.{ImplyRow}
+use Rattle.ks_base.specs.declared.grants.Target.{Target}
+use Rattle.ks_base.specs.declared.grants.Target.TheVariants as target
+use Rattle.ks_base.specs.declared.kinds.Kind.{Kind}
+use Rattle.ks_base.specs.declared.kinds.Kind.TheVariants as kind
+use Rattle.ks_base.specs.declared.shapes.ShapeFault.{ShapeFault}
+use Rattle.ks_base.specs.declared.users.MemberRow.{MemberRow}
+use Rattle.ks_base.specs.Rows.{Id}
+use Rattle.ks_http.specs.declared.request.Request.{Request}
+use Rattle.ks_machine.specs.declared.bodies.Made.{Made}
+use Rattle.ks_machine.specs.declared.command.Command.{Command}
+use Rattle.ks_machine.specs.declared.command.Command.TheVariants as command
+use Rattle.ks_shape.specs.Bodies.{body_of}
+use Rattle.ks_shape.specs.declared.form.BodyIn.{BodyIn}
+use Rattle.ks_shape.specs.declared.form.BodyIn.TheVariants as body
+use Rattle.ks_shape.specs.declared.form.Form.TheVariants as form
+use Rattle.ks_routes.specs.declared.action.Action.{Action}
+use Rattle.ks_routes.specs.declared.action.Action.TheVariants as action
+use Rattle.ks_routes.specs.declared.action.ActorKind.{ActorKind}
+use Rattle.ks_routes.specs.declared.action.ActorKind.TheVariants as actor_kind
+use Rattle.ks_routes.specs.declared.action.Place.{Place}
+use Rattle.ks_routes.specs.declared.action.RowKind.{RowKind}
+use Rattle.ks_routes.specs.declared.action.RowKind.TheVariants as row_kind
+use Rattle.ks_routes.specs.declared.action.TargetKind.{TargetKind}
+use Rattle.ks_routes.specs.declared.action.TargetKind.TheVariants as target_kind
+use Rattle.ks_routes.specs.declared.routed.Routed.{Routed}
+use Rattle.ks_routes.specs.declared.routed.Routed.TheVariants as routed
+use Rattle.ks_routes.specs.Patterns.{Part, literal, id, is_id}
+use Rattle.ks_routes.specs.Queries.{allows_expired, assignment_filters, filter_in, kind_filters, trust_filters}
+
+-- the id that a segment is, where the part of a pattern stands for one
+abbrev pub id_read : List ℕ → Option Id
+id_read segment = if is_id segment then Some segment else None
+
+abbrev pub id_by : Part → List ℕ → Option Id
+id_by (literal text) segment = None
+id_by id segment = id_read segment
+
+abbrev pub before : Option Id → List Id → List Id
+before (Some a) ids = a ∷ ids
+before None ids = ids
+
+-- the ids of a path, in their order: what stands where its pattern has an id
+unfoldable pub ids_in : List Part → List (List ℕ) → List Id
+ids_in [] segments = []
+ids_in (part ∷ parts) [] = []
+ids_in (part ∷ parts) (segment ∷ segments) = before (id_by part segment) (ids_in parts segments)
+
+-- the kind of rows that a route names
+abbrev pub kind_of : RowKind → Kind
+kind_of row_kind.Domain = kind.Domain
+kind_of row_kind.Project = kind.Project
+kind_of row_kind.User = kind.User
+kind_of row_kind.Group = kind.Group
+kind_of row_kind.Role = kind.Role
+
+abbrev pub id_at : List Id → ℕ → Option Id
+id_at ids place = slice_get ids place
+
+abbrev pub both : {A B : Type 0} → Option A → Option B → Option (A × B)
+both (Some a) (Some b) = Some (a, b)
+both (Some a) None = None
+both None b = None
+
+abbrev pub member_in : List Id → Option MemberRow
+member_in ids = option_map (λ pair. record { group = pair.0; user = pair.1 }) (both (id_at ids 0) (id_at ids 1))
+
+abbrev pub implication_in : List Id → Option ImplyRow
+implication_in ids = option_map (λ pair. record { prior = pair.0; implied = pair.1 }) (both (id_at ids 0) (id_at ids 1))
+
+-- grants: the target stands before the actor, and the role behind both; the whole system has no id
+
+abbrev pub actor_of : ActorKind → Id → Actor
+actor_of actor_kind.User a = actor.User a
+actor_of actor_kind.Group a = actor.Group a
+
+abbrev pub target_of : TargetKind → List Id → Option Target
+target_of target_kind.System ids = Some target.System
+target_of target_kind.Project ids = option_map (λ a. target.Project a) (id_at ids 0)
+target_of target_kind.Domain ids = option_map (λ a. target.Domain a) (id_at ids 0)
+
+abbrev pub target_ids : TargetKind → ℕ
+target_ids target_kind.System = 0
+target_ids target_kind.Project = 1
+target_ids target_kind.Domain = 1
+
+-- whose grants, and where
+abbrev pub grants_in : Place → List Id → Option (Actor × Target)
+grants_in place ids = both (option_map (actor_of place.actor) (id_at ids (target_ids place.target))) (target_of place.target ids)
+
+abbrev pub grant_in : Place → List Id → Option GrantRow
+grant_in place ids =
+    option_map (λ pair. record { actor = pair.0.0; target = pair.0.1; inherited = place.inherited; role = pair.1 })
+    (both (grants_in place ids) (id_at ids (target_ids place.target + 1)))
+
+-- a command over what a path names; a path that does not name it has none
+abbrev pub routed_over : Option Command → Routed
+routed_over (Some asks) = routed.Command asks
+routed_over None = routed.NoRoute
+
+abbrev pub over : {A : Type 0} → Option A → (A → Command) → Routed
+over a asks = routed_over (option_map asks a)
+
+abbrev pub with_id : Option Id → (Id → Routed) → Routed
+with_id (Some a) asks = asks a
+with_id None asks = routed.NoRoute
+
+-- bodies: what is read, or the first fault
+
+abbrev pub read_by : (BodyIn → Routed) → Result BodyIn ShapeFault → Routed
+read_by asks (Ok read) = asks read
+read_by asks (Err fault) = routed.Refused fault
+
+abbrev pub login_by : BodyIn → Routed
+login_by (body.Login login) = routed.Command (command.Login login)
+login_by (body.Made made) = routed.NoRoute
+login_by (body.Password original password) = routed.NoRoute
+login_by (body.Trust trust) = routed.NoRoute
+
+abbrev pub made_by : (Made → Command) → BodyIn → Routed
+made_by asks (body.Made made) = routed.Command (asks made)
+made_by asks (body.Login login) = routed.NoRoute
+made_by asks (body.Password original password) = routed.NoRoute
+made_by asks (body.Trust trust) = routed.NoRoute
+
+abbrev pub password_by : Id → BodyIn → Routed
+password_by user (body.Password original password) = routed.Command (command.ChangePassword user original password)
+password_by user (body.Login login) = routed.NoRoute
+password_by user (body.Made made) = routed.NoRoute
+password_by user (body.Trust trust) = routed.NoRoute
+
+abbrev pub trust_by : BodyIn → Routed
+trust_by (body.Trust trust) = routed.Command (command.CreateTrust trust)
+trust_by (body.Login login) = routed.NoRoute
+trust_by (body.Made made) = routed.NoRoute
+trust_by (body.Password original password) = routed.NoRoute
+
+-- the command that a request makes of an action, where the path has these ids
+unfoldable pub asked : Action → List Id → Request → Routed
+asked action.Version ids request = routed.Command command.Version
+asked action.Login ids request = read_by login_by (body_of form.Login request.body)
+asked action.Validate ids request = routed.Command (command.Validate (allows_expired request.query))
+asked action.Check ids request = routed.Command (command.Check (allows_expired request.query))
+asked action.RevokeToken ids request = routed.Command command.RevokeToken
+asked (action.Create kind) ids request =
+    read_by (made_by (λ made. command.Create made)) (body_of (form.Made (kind_of kind) true) request.body)
+asked (action.List kind) ids request = routed.Command (command.List (kind_of kind) (filter_in (kind_filters kind) request.query))
+asked (action.Get kind) ids request = over (id_at ids 0) (λ a. command.Get (kind_of kind) a)
+asked (action.Update kind) ids request =
+    with_id (id_at ids 0) (λ a. read_by (made_by (λ made. command.Update a made)) (body_of (form.Made (kind_of kind) false) request.body))
+asked (action.Delete kind) ids request = over (id_at ids 0) (λ a. command.Delete (kind_of kind) a)
+asked action.ChangePassword ids request =
+    with_id (id_at ids 0) (λ user. read_by (password_by user) (body_of form.Password request.body))
+asked action.GroupsOf ids request = over (id_at ids 0) (λ user. command.GroupsOf user)
+asked action.MembersOf ids request = over (id_at ids 0) (λ group. command.MembersOf group)
+asked action.Join ids request = over (member_in ids) (λ row. command.Join row)
+asked action.IsIn ids request = over (member_in ids) (λ row. command.IsIn row)
+asked action.Leave ids request = over (member_in ids) (λ row. command.Leave row)
+asked action.Implied ids request = over (id_at ids 0) (λ prior. command.Implied prior)
+asked action.Imply ids request = over (implication_in ids) (λ row. command.Imply row)
+asked action.Implication ids request = over (implication_in ids) (λ row. command.Implication row)
+asked action.IsImplied ids request = over (implication_in ids) (λ row. command.IsImplied row)
+asked action.Unimply ids request = over (implication_in ids) (λ row. command.Unimply row)
+asked (action.GrantsOf place) ids request = over (grants_in place ids) (λ pair. command.GrantsOf pair.0 pair.1 place.inherited)
+asked (action.Grant place) ids request = over (grant_in place ids) (λ row. command.Grant row)
+asked (action.IsGranted place) ids request = over (grant_in place ids) (λ row. command.IsGranted row)
+asked (action.Ungrant place) ids request = over (grant_in place ids) (λ row. command.Ungrant row)
+asked action.Assignments ids request = routed.Command (command.Assignments (filter_in assignment_filters request.query))
+asked action.CreateTrust ids request = read_by trust_by (body_of form.Trust request.body)
+asked action.Trusts ids request = routed.Command (command.Trusts (filter_in trust_filters request.query))
+asked action.Trust ids request = over (id_at ids 0) (λ trust. command.Trust trust)
+asked action.DeleteTrust ids request = over (id_at ids 0) (λ trust. command.DeleteTrust trust)
+asked action.TrustRoles ids request = over (id_at ids 0) (λ trust. command.TrustRoles trust)
+asked action.Events ids request = routed.Command command.Events
+asked action.RotateKeys ids request = routed.Command command.RotateKeys
+asked action.LoadKeys ids request = routed.Command command.LoadKeys

@@ -1,0 +1,277 @@
+//! The command that a request makes of what its route asks for.
+ghost use Rattle.std.specs.Prelude.{◌≡◌, true, false, IfOk};
+ghost use Rattle.ks_machine.specs.declared.command.Command.TheVariants as commands;
+ghost use Rattle.ks_shape.specs.Bodies.{body_of};
+ghost use Rattle.ks_shape.specs.declared.form.Form.TheVariants as forms;
+ghost use Rattle.ks_routes.specs.Asked.{actor_of, asked, both, grant_in, grants_in, implication_in, kind_of, login_by, made_by, member_in, password_by, read_by, routed_over, target_ids, target_of, trust_by};
+ghost use Rattle.ks_routes.specs.Queries.{allows_expired, assignment_filters as assignment_names, filter_in, kind_filters as filters_of, trust_filters as trust_names};
+ghost use Rattle.ks_routes.specs.steps.Reading.{IsAsked, unread_of};
+ghost use Rattle.ks_routes.specs.Routes.{Answers};
+
+use crate::action::{Action, ActorKind, Place, RowKind, TargetKind};
+use crate::captured::Captured;
+use crate::filters::{assignment_filters, kind_filters, trust_filters};
+use crate::query::{allows_expired, filter_in};
+use crate::routed::Routed;
+use ks_base::{Actor, GrantRow, Id, ImplyRow, MemberRow, Memory, ShapeRefusal, Target};
+use ks_http::Request;
+use ks_machine::Command;
+use ks_shape::{BodyIn, Form, read_body};
+use std::alloc::Global;
+
+fn actor(kind: ActorKind, id: Id) -> Actor
+    ensures { result ≡ actor_of kind id }
+{
+    match kind {
+        ActorKind::User => Actor::User(id),
+        ActorKind::Group => Actor::Group(id),
+    }
+}
+
+/// The target of a path; none where its id is lacking.
+fn target(kind: TargetKind, ids: &Captured) -> Option<Target>
+    ensures { result ≡ target_of kind ids.now }
+{
+    match kind {
+        TargetKind::System => Some(Target::System),
+        TargetKind::Project => ids.at(0).map(|id| Target::Project(id)),
+        TargetKind::Domain => ids.at(0).map(|id| Target::Domain(id)),
+    }
+}
+
+/// How many ids name the target, which stand before that of the actor.
+fn target_ids(kind: TargetKind) -> usize
+    ensures { result ≡ target_ids kind }
+{
+    match kind {
+        TargetKind::System => 0,
+        TargetKind::Project | TargetKind::Domain => 1,
+    }
+}
+
+/// Both, where both are there.
+fn both<A: Drop, B: Drop>(first: Option<A>, second: Option<B>) -> Option<(A, B)>
+    ensures { result ≡ both first second }
+{
+    match (first, second) {
+        (Some(a), Some(b)) => Some((a, b)),
+        _ => None,
+    }
+}
+
+fn member(ids: &Captured) -> Option<MemberRow>
+    ensures { result ≡ member_in ids.now }
+{
+    let (group, user) = both(ids.at(0), ids.at(1))?;
+    Some(MemberRow { group, user })
+}
+
+fn implication(ids: &Captured) -> Option<ImplyRow>
+    ensures { result ≡ implication_in ids.now }
+{
+    let (prior, implied) = both(ids.at(0), ids.at(1))?;
+    Some(ImplyRow { prior, implied })
+}
+
+/// Whose grants the path is about, and where.
+fn grants(place: Place, ids: &Captured) -> Option<(Actor, Target)>
+    ensures { result ≡ grants_in place ids.now }
+{
+    let who = ids
+        .at(target_ids(place.target))
+        .map(|id| actor(place.actor, id));
+    both(who, target(place.target, ids))
+}
+
+/// The grant that the path names.
+fn grant(place: Place, ids: &Captured) -> Option<GrantRow>
+    ensures { result ≡ grant_in place ids.now }
+{
+    let role = ids.at(target_ids(place.target) + 1);
+    let ((actor, target), role) = both(grants(place, ids), role)?;
+    Some(GrantRow {
+        actor,
+        target,
+        inherited: place.inherited,
+        role,
+    })
+}
+
+/// The command, where there is one.
+fn over(command: Option<Command>) -> Routed
+    ensures { result ≡ routed_over command }
+{
+    match command {
+        Some(command) => Routed::Command(command),
+        None => Routed::NoRoute,
+    }
+}
+
+/// What could not be read of a body.
+fn unread(refusal: ShapeRefusal) -> Routed
+    ensures { result ≡ unread_of refusal }
+{
+    match refusal {
+        ShapeRefusal::Shape(fault) => Routed::Refused(fault),
+        ShapeRefusal::Memory => Routed::Memory,
+    }
+}
+
+fn login(alloc: Global, request: &Request) -> Routed
+    ensures { Answers (read_by login_by (body_of forms.Login request.now.body)) result }
+{
+    match read_body(alloc, Form::Login, request.body.as_slice()) {
+        Ok(BodyIn::Login(login)) => Routed::Command(Command::Login(login)),
+        Ok(BodyIn::Made(_) | BodyIn::Password(_, _) | BodyIn::Trust(_)) => Routed::NoRoute,
+        Err(refusal) => unread(refusal),
+    }
+}
+
+fn create(alloc: Global, kind: RowKind, request: &Request) -> Routed
+    ensures { Answers (read_by (made_by (λ made. commands.Create made)) (body_of (forms.Made (kind_of kind) true) request.now.body)) result }
+{
+    match read_body(
+        alloc,
+        Form::Made(kind.kind(), true),
+        request.body.as_slice(),
+    ) {
+        Ok(BodyIn::Made(made)) => Routed::Command(Command::Create(made)),
+        Ok(BodyIn::Login(_) | BodyIn::Password(_, _) | BodyIn::Trust(_)) => Routed::NoRoute,
+        Err(refusal) => unread(refusal),
+    }
+}
+
+fn update(alloc: Global, kind: RowKind, id: Id, request: &Request) -> Routed
+    ensures { Answers (read_by (made_by (λ made. commands.Update id made)) (body_of (forms.Made (kind_of kind) false) request.now.body)) result }
+{
+    match read_body(
+        alloc,
+        Form::Made(kind.kind(), false),
+        request.body.as_slice(),
+    ) {
+        Ok(BodyIn::Made(made)) => Routed::Command(Command::Update(id, made)),
+        Ok(BodyIn::Login(_) | BodyIn::Password(_, _) | BodyIn::Trust(_)) => Routed::NoRoute,
+        Err(refusal) => unread(refusal),
+    }
+}
+
+fn change_password(alloc: Global, user: Id, request: &Request) -> Routed
+    ensures { Answers (read_by (password_by user) (body_of forms.Password request.now.body)) result }
+{
+    match read_body(alloc, Form::Password, request.body.as_slice()) {
+        Ok(BodyIn::Password(original, password)) => {
+            Routed::Command(Command::ChangePassword(user, original, password))
+        }
+        Ok(BodyIn::Login(_) | BodyIn::Made(_) | BodyIn::Trust(_)) => Routed::NoRoute,
+        Err(refusal) => unread(refusal),
+    }
+}
+
+fn create_trust(alloc: Global, request: &Request) -> Routed
+    ensures { Answers (read_by trust_by (body_of forms.Trust request.now.body)) result }
+{
+    match read_body(alloc, Form::Trust, request.body.as_slice()) {
+        Ok(BodyIn::Trust(trust)) => Routed::Command(Command::CreateTrust(trust)),
+        Ok(BodyIn::Login(_) | BodyIn::Made(_) | BodyIn::Password(_, _)) => Routed::NoRoute,
+        Err(refusal) => unread(refusal),
+    }
+}
+
+/// The listing of a kind that the query asks for.
+fn list(alloc: Global, kind: RowKind, request: &Request) -> Result<Command, Memory>
+    ensures { IfOk result (λ command. command ≡ commands.List (kind_of kind) (filter_in (filters_of kind) request.now.query)) }
+{
+    let filter = filter_in(alloc, kind_filters(kind), request.query.as_slice())?;
+    Ok(Command::List(kind.kind(), filter))
+}
+
+fn assignments(alloc: Global, request: &Request) -> Result<Command, Memory>
+    ensures { IfOk result (λ command. command ≡ commands.Assignments (filter_in assignment_names request.now.query)) }
+{
+    let filter = filter_in(alloc, assignment_filters(), request.query.as_slice())?;
+    Ok(Command::Assignments(filter))
+}
+
+fn trusts(alloc: Global, request: &Request) -> Result<Command, Memory>
+    ensures { IfOk result (λ command. command ≡ commands.Trusts (filter_in trust_names request.now.query)) }
+{
+    let filter = filter_in(alloc, trust_filters(), request.query.as_slice())?;
+    Ok(Command::Trusts(filter))
+}
+
+fn validate(alloc: Global, request: &Request) -> Result<Command, Memory>
+    ensures { IfOk result (λ command. command ≡ commands.Validate (allows_expired request.now.query)) }
+{
+    Ok(Command::Validate(allows_expired(alloc, request.query.as_slice())?))
+}
+
+fn check(alloc: Global, request: &Request) -> Result<Command, Memory>
+    ensures { IfOk result (λ command. command ≡ commands.Check (allows_expired request.now.query)) }
+{
+    Ok(Command::Check(allows_expired(alloc, request.query.as_slice())?))
+}
+
+/// The command, or want of memory for it.
+fn asked_of(command: Result<Command, Memory>) -> Routed
+    ensures { IsAsked command result }
+{
+    match command {
+        Ok(command) => Routed::Command(command),
+        Err(Memory) => Routed::Memory,
+    }
+}
+
+impl Action {
+    /// The command that the request makes of the action, where its path has these ids, or the first fault of its body.
+    #[tactic(auto, unfolding(crate::specs::Asked::asked))]
+    pub fn command(self, alloc: Global, ids: &Captured, request: &Request) -> Routed
+        ensures { Answers (asked self ids.now request.now) result }
+    {
+        match self {
+            Action::Version => Routed::Command(Command::Version),
+            Action::Login => login(alloc, request),
+            Action::Validate => asked_of(validate(alloc, request)),
+            Action::Check => asked_of(check(alloc, request)),
+            Action::RevokeToken => Routed::Command(Command::RevokeToken),
+            Action::Create(kind) => create(alloc, kind, request),
+            Action::List(kind) => asked_of(list(alloc, kind, request)),
+            Action::Get(kind) => over(ids.at(0).map(|id| Command::Get(kind.kind(), id))),
+            Action::Update(kind) => match ids.at(0) {
+                Some(id) => update(alloc, kind, id, request),
+                None => Routed::NoRoute,
+            },
+            Action::Delete(kind) => over(ids.at(0).map(|id| Command::Delete(kind.kind(), id))),
+            Action::ChangePassword => match ids.at(0) {
+                Some(user) => change_password(alloc, user, request),
+                None => Routed::NoRoute,
+            },
+            Action::GroupsOf => over(ids.at(0).map(|user| Command::GroupsOf(user))),
+            Action::MembersOf => over(ids.at(0).map(|group| Command::MembersOf(group))),
+            Action::Join => over(member(ids).map(|row| Command::Join(row))),
+            Action::IsIn => over(member(ids).map(|row| Command::IsIn(row))),
+            Action::Leave => over(member(ids).map(|row| Command::Leave(row))),
+            Action::Implied => over(ids.at(0).map(|prior| Command::Implied(prior))),
+            Action::Imply => over(implication(ids).map(|row| Command::Imply(row))),
+            Action::Implication => over(implication(ids).map(|row| Command::Implication(row))),
+            Action::IsImplied => over(implication(ids).map(|row| Command::IsImplied(row))),
+            Action::Unimply => over(implication(ids).map(|row| Command::Unimply(row))),
+            Action::GrantsOf(place) => over(grants(place, ids).map(|(who, at)| Command::GrantsOf(
+                who,
+                at,
+                place.inherited,
+            ))),
+            Action::Grant(place) => over(grant(place, ids).map(|row| Command::Grant(row))),
+            Action::IsGranted(place) => over(grant(place, ids).map(|row| Command::IsGranted(row))),
+            Action::Ungrant(place) => over(grant(place, ids).map(|row| Command::Ungrant(row))),
+            Action::Assignments => asked_of(assignments(alloc, request)),
+            Action::CreateTrust => create_trust(alloc, request),
+            Action::Trusts => asked_of(trusts(alloc, request)),
+            Action::Trust => over(ids.at(0).map(|trust| Command::Trust(trust))),
+            Action::DeleteTrust => over(ids.at(0).map(|trust| Command::DeleteTrust(trust))),
+            Action::TrustRoles => over(ids.at(0).map(|trust| Command::TrustRoles(trust))),
+            Action::Events => Routed::Command(Command::Events),
+            Action::RotateKeys => Routed::Command(Command::RotateKeys),
+            Action::LoadKeys => Routed::Command(Command::LoadKeys),
+        }
+    }
+}

@@ -1,0 +1,41 @@
+//! The names by which listings are filtered.
+ghost use Rattle.std.specs.Prelude.{◌≡◌};
+ghost use Rattle.ks_routes.specs.Queries.{assignment_filters, kind_filters, trust_filters};
+ghost use Rattle.ks_shape.specs.Places.{names_in};
+
+use crate::action::RowKind;
+
+/// Those of a kind, each where its rows have the field.
+pub fn kind_filters(kind: RowKind) -> &'static [&'static str]
+    ensures { names_in result.now ≡ kind_filters kind }
+{
+    match kind {
+        RowKind::Domain => &["name", "enabled"],
+        RowKind::Project => &["name", "domain_id", "parent_id", "enabled"],
+        RowKind::User => &["name", "domain_id", "enabled"],
+        RowKind::Group => &["name", "domain_id"],
+        RowKind::Role => &["name"],
+    }
+}
+
+/// Those of role assignments.
+pub fn assignment_filters() -> &'static [&'static str]
+    ensures { names_in result.now ≡ assignment_filters }
+{
+    &[
+        "user.id",
+        "group.id",
+        "role.id",
+        "scope.project.id",
+        "scope.domain.id",
+        "scope.system",
+        "effective",
+    ]
+}
+
+/// Those of trusts.
+pub fn trust_filters() -> &'static [&'static str]
+    ensures { names_in result.now ≡ trust_filters }
+{
+    &["trustor_user_id", "trustee_user_id"]
+}
