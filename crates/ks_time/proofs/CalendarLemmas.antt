@@ -6,7 +6,7 @@ use Rattle.jiff_core.proofs.CalendarLemmas.{day_count-epoch, day_count-next_year
 use Rattle.ks_time.specs.Calendar.{days_in_month, days_of_years, days_of_months}
 
 -- jiff counts years from another one
-years_same : (n : ℕ) → jiff.day_count (pos (1970 + n)) 1 1 ≡ days_of_years n + 4_371_953
+pub years_same : (n : ℕ) → jiff.day_count (pos (1970 + n)) 1 1 ≡ days_of_years n + 4_371_953
 unfolding days_of_years
 years_same zero = day_count-epoch
 years_same (suc n) =

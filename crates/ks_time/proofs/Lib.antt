@@ -1,3 +1,4 @@
 pub mod CalendarLemmas
 pub mod DateTimeLemmas
 pub mod TextLemmas
+pub mod WalkLemmas

@@ -1,5 +1,5 @@
 -- Civil times of the Gregorian calendar in UTC, in the years 1970 to 9999, and the moments that they name.
-use Rattle.std.specs.Prelude.{ℕ, zero, suc, ◌+◌, ◌-◌, ◌*◌, ◌%◌, ◌<◌, Bool, not, ◌&&◌, ◌||◌, ◌==◌, if◌then◌else◌}
+use Rattle.std.specs.Prelude.{ℕ, zero, suc, ◌+◌, ◌-◌, ◌*◌, ◌/◌, ◌%◌, ◌<◌, Bool, true, false, not, ◌&&◌, ◌||◌, ◌==◌, nat_lt, if◌then◌else◌}
 use Rattle.std.specs.Int.{IsInRange}
 
 pub record Civil : Type 0 where
@@ -49,3 +49,45 @@ days_before c = days_of_years (c.year - 1970) + days_of_months c.year (c.month -
 -- the seconds from 1970-01-01T00:00:00Z to a civil time
 abbrev pub moment_of : Civil → ℕ
 moment_of c = days_before c * 86_400 + c.hour * 3_600 + c.minute * 60 + c.second
+
+-- ---- the civil time at a moment
+
+-- a number of whole years or months, and the days that are left of the next one
+pub record Walk : Type 0 where
+  pub whole : ℕ
+  pub days : ℕ
+
+-- the whole years from the n-th from 1970 on that these days hold; it looks at this many years
+unfoldable pub walk_years : ℕ → ℕ → ℕ → Walk
+walk_years zero n days = record { whole = n; days = days }
+walk_years (suc more) n days =
+    elim (nat_lt days (days_in_year (1970 + n))) [
+      | true ↦ record { whole = n; days = days }
+      | false ↦ walk_years more (suc n) (days - days_in_year (1970 + n))
+    ]
+
+-- the whole months from the n-th of a year on that these days hold; it looks at this many months
+unfoldable pub walk_months : ℕ → ℕ → ℕ → ℕ → Walk
+walk_months year zero n days = record { whole = n; days = days }
+walk_months year (suc more) n days =
+    elim (nat_lt days (days_in_month year (suc n))) [
+      | true ↦ record { whole = n; days = days }
+      | false ↦ walk_months year more (suc n) (days - days_in_month year (suc n))
+    ]
+
+-- these whole years and months, the days that are over of the next month, and this second of the day
+abbrev pub civil_from : Walk → Walk → ℕ → Civil
+civil_from years months second = record {
+  year = 1970 + years.whole;
+  month = suc months.whole;
+  day = suc months.days;
+  hour = second / 3_600;
+  minute = second % 3_600 / 60;
+  second = second % 3_600 % 60;
+}
+
+-- the civil time at a moment, for moments before the year 10000
+unfoldable pub civil_at : ℕ → Civil
+civil_at moment =
+    let years : Walk = walk_years 8_029 0 (moment / 86_400) in
+    civil_from years (walk_months (1970 + years.whole) 11 0 years.days) (moment % 86_400)

@@ -1,7 +1,7 @@
 -- What holds of all moments and their texts.
-use Rattle.std.specs.Prelude.{◌≡◌, ℕ, List}
+use Rattle.std.specs.Prelude.{◌≡◌, ◌≤◌, ℕ, List}
 use Rattle.ks_time.specs.Calendar.{Civil, IsCivil, moment_of}
-use Rattle.ks_time.specs.TimeTexts.{IsTimeText, IsWritten}
+use Rattle.ks_time.specs.TimeTexts.{IsTimeText, IsWritten, time_text}
 
 -- no two civil times have one moment
 abbrev pub HasOneCivilTime : Type 0
@@ -18,3 +18,7 @@ HasOneMoment = (text : List ℕ) (m n : ℕ) → IsTimeText text m → IsTimeTex
 -- what is written names the moment that it was written for
 abbrev pub IsReadBack : Type 0
 IsReadBack = (moment : ℕ) (text : List ℕ) → IsWritten moment text → IsTimeText text moment
+
+-- up to the last second of the year 9999, the text that is worked out is the one that is written
+abbrev pub IsWorkedOut : Type 0
+IsWorkedOut = (moment : ℕ) → moment ≤ 253_402_300_799 → IsWritten moment (time_text moment)

@@ -3,7 +3,7 @@ use Rattle.std.specs.Prelude.{◌≡◌, ℕ, ◌+◌, ◌/◌, ◌%◌, Bool, t
 use Rattle.std.specs.Int.{is_in_range}
 use Rattle.std.specs.Char.{is_ascii_digit}
 use Rattle.std.specs.List.{list_all}
-use Rattle.ks_time.specs.Calendar.{Civil, IsCivil, moment_of}
+use Rattle.ks_time.specs.Calendar.{Civil, IsCivil, civil_at, moment_of}
 
 -- a number below 100 in two decimal digits
 abbrev pub two_digits : ℕ → List ℕ
@@ -36,6 +36,11 @@ is_fraction (point ∷ digits) = (point == 46) && is_in_range 1 6 (length digits
 -- the one text that is written for a moment
 abbrev pub IsWritten : ℕ → List ℕ → Type 0
 IsWritten moment text = (civil : List ℕ) × IsCivilText civil moment × (text ≡ civil ++ codes ".000000Z")
+
+-- that text, worked out; moments before the year 10000 have one
+unfoldable pub time_text : ℕ → List ℕ
+time_text moment =
+    let civil : Civil = civil_at moment in (date_text civil ++ codes "T" ++ clock_text civil) ++ codes ".000000Z"
 
 -- a text that names a moment, to the second
 abbrev pub IsTimeText : List ℕ → ℕ → Type 0

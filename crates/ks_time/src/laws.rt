@@ -1,5 +1,5 @@
 //! Laws of moments and their texts. Their functions do nothing: their contracts are the laws.
-ghost use Rattle.ks_time.specs.Laws.{HasOneCivilTime, HasOneMoment, HasOneWrittenText, IsReadBack};
+ghost use Rattle.ks_time.specs.Laws.{HasOneCivilTime, HasOneMoment, HasOneWrittenText, IsReadBack, IsWorkedOut};
 
 /// Two civil times with one moment are one.
 pub fn one_civil_time()
@@ -19,4 +19,9 @@ pub fn one_moment()
 /// What is written for a moment is read as that moment.
 pub fn read_back()
     ensures { IsReadBack }
+{}
+
+/// The text of a moment that is worked out is the one that is written.
+pub fn worked_out()
+    ensures { IsWorkedOut }
 {}

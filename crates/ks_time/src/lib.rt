@@ -8,6 +8,6 @@ mod laws;
 mod reading;
 mod writing;
 
-pub use laws::{one_civil_time, one_moment, one_written_text, read_back};
+pub use laws::{one_civil_time, one_moment, one_written_text, read_back, worked_out};
 pub use reading::read_time;
-pub use writing::write_time;
+pub use writing::{time_digits, write_time};
