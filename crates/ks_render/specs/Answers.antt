@@ -1,7 +1,6 @@
 -- The responses of HTTP that tell the machine's replies, and those to bytes that are no request.
 use Rattle.std.specs.Prelude.{ℕ, Bool, true, false, if◌then◌else◌, List, [], ◌∷◌, ◌++◌, codes}
 use Rattle.std.specs.List.{join_by}
-use Rattle.serde_json.specs.Data.{Data, null}
 use Rattle.serde_json.specs.Written.{compact_text}
 use Rattle.ks_base.specs.declared.method.Method.{Method}
 use Rattle.ks_base.specs.declared.method.Method.TheVariants.{Get, Head, Post, Patch, Put, Delete, Other}
@@ -14,83 +13,72 @@ use Rattle.ks_machine.specs.declared.reply.Reply.TheVariants as reply
 use Rattle.ks_http.specs.Fields.{Named}
 use Rattle.ks_http.specs.Responses.{message}
 use Rattle.ks_http.specs.declared.cause.HttpCause.{HttpCause}
-use Rattle.ks_http.specs.declared.cause.HttpCause.TheVariants as bad
 use Rattle.ks_http.specs.declared.response.Response.{Response}
-use Rattle.ks_render.specs.Bodies.{error_body, version_body}
+use Rattle.ks_render.specs.Bodies.{body_of, text_of}
+use Rattle.ks_render.specs.Errors.{bad_body, status_of_bad, status_of_cause}
 
--- ---- the replies that have a response so far; what is said below of others stands for none
+-- ---- the status
 
-abbrev pub is_granted_told : BodyOut → Bool
-is_granted_told body_out.Version = true
-is_granted_told other = false
-
-abbrev pub is_cause_told : Cause → Bool
-is_cause_told cause.NoRoute = true
-is_cause_told (cause.NoMethod methods) = true
-is_cause_told cause.Memory = true
-is_cause_told other = false
-
-abbrev pub is_told : Reply → Bool
-is_told (reply.Ok granted) = is_granted_told granted
-is_told (reply.Refused refused) = is_cause_told refused
-
--- ---- what the response says, by the case
+-- where a command made what is told, the status is 201
+abbrev pub status_by : Bool → ℕ
+status_by made = if made then 201 else 200
 
 abbrev pub status_of_granted : BodyOut → ℕ
+status_of_granted body_out.Nothing = 204
 status_of_granted body_out.Version = 200
-status_of_granted other = 0
-
-abbrev pub status_of_cause : Cause → ℕ
-status_of_cause cause.NoRoute = 404
-status_of_cause (cause.NoMethod methods) = 405
-status_of_cause cause.Memory = 503
-status_of_cause other = 0
+status_of_granted (body_out.Token told) = status_by told.made
+status_of_granted (body_out.One told made) = status_by made
+status_of_granted (body_out.Many kind rows path) = 200
+status_of_granted (body_out.Inference prior implied made) = status_by made
+status_of_granted (body_out.Inferences prior implied) = 200
+status_of_granted (body_out.Grants roles path) = 200
+status_of_granted (body_out.Assignments grants path) = 200
+status_of_granted (body_out.Trusts rows path) = 200
+status_of_granted (body_out.TrustRoles roles path) = 200
+status_of_granted (body_out.Events events path) = 200
+status_of_granted (body_out.Keys held primary) = 200
 
 abbrev pub status_of : Reply → ℕ
 status_of (reply.Ok granted) = status_of_granted granted
-status_of (reply.Refused refused) = status_of_cause refused
-
-abbrev pub status_of_bad : HttpCause → ℕ
-status_of_bad bad.Malformed = 400
-status_of_bad bad.Chunked = 411
-status_of_bad bad.TooLarge = 413
-status_of_bad bad.HeadTooLarge = 431
-status_of_bad bad.Version = 505
-
-unfoldable pub message_of_cause : Cause → List ℕ
-message_of_cause cause.NoRoute = codes "The resource could not be found."
-message_of_cause (cause.NoMethod methods) = codes "The method is not allowed."
-message_of_cause cause.Memory = codes "Out of memory."
-message_of_cause other = []
-
-unfoldable pub message_of_bad : HttpCause → List ℕ
-message_of_bad bad.Malformed = codes "The request is malformed."
-message_of_bad bad.Chunked = codes "Chunked bodies are not taken."
-message_of_bad bad.TooLarge = codes "The body is too large."
-message_of_bad bad.HeadTooLarge = codes "The head is too large."
-message_of_bad bad.Version = codes "The version is not supported."
-
--- ---- the body
-
-abbrev pub granted_body : BodyOut → List ℕ → Data
-granted_body body_out.Version url = version_body url
-granted_body other url = null
-
-abbrev pub refused_body : Cause → Data
-refused_body refused = error_body (status_of_cause refused) (message_of_cause refused)
-
-abbrev pub body_of : Reply → List ℕ → Data
-body_of (reply.Ok granted) url = granted_body granted url
-body_of (reply.Refused refused) url = refused_body refused
-
-abbrev pub bad_body : HttpCause → Data
-bad_body refused = error_body (status_of_bad refused) (message_of_bad refused)
+status_of (reply.Refused why) = status_of_cause why
 
 -- ---- the fields behind the body's length
 
--- a body is JSON, and an answer depends on who asks
+-- an answer depends on who asks
+unfoldable pub vary_fields : List Named
+vary_fields = (codes "Vary", codes "X-Auth-Token") ∷ []
+
+-- a body is JSON
 unfoldable pub body_fields : List Named
 body_fields = (codes "Content-Type", codes "application/json") ∷ (codes "Vary", codes "X-Auth-Token") ∷ []
+
+-- the first fields, of which the type is that of a body
+abbrev pub granted_fields : BodyOut → List Named
+granted_fields body_out.Nothing = vary_fields
+granted_fields body_out.Version = body_fields
+granted_fields (body_out.Token told) = body_fields
+granted_fields (body_out.One told made) = body_fields
+granted_fields (body_out.Many kind rows path) = body_fields
+granted_fields (body_out.Inference prior implied made) = body_fields
+granted_fields (body_out.Inferences prior implied) = body_fields
+granted_fields (body_out.Grants roles path) = body_fields
+granted_fields (body_out.Assignments grants path) = body_fields
+granted_fields (body_out.Trusts rows path) = body_fields
+granted_fields (body_out.TrustRoles roles path) = body_fields
+granted_fields (body_out.Events events path) = body_fields
+granted_fields (body_out.Keys held primary) = body_fields
+
+abbrev pub first_fields : Reply → List Named
+first_fields (reply.Ok granted) = granted_fields granted
+first_fields (reply.Refused why) = body_fields
+
+-- the text of a token (Identity API v3)
+unfoldable pub token_fields : List ℕ → List Named
+token_fields text = (codes "X-Subject-Token", text) ∷ []
+
+-- where a client finds how to authenticate (RFC 9110, section 11.6.1)
+unfoldable pub challenge_fields : List ℕ → List Named
+challenge_fields url = (codes "WWW-Authenticate", codes "Keystone uri=\"" ++ (url ++ codes "/v3\"")) ∷ []
 
 unfoldable pub name_of : Method → List ℕ
 name_of Get = codes "GET"
@@ -108,13 +96,49 @@ method_list methods = join_by name_of (codes ", ") methods
 unfoldable pub allow_fields : List Method → List Named
 allow_fields methods = (codes "Allow", method_list methods) ∷ []
 
-abbrev pub cause_fields : Cause → List Named
-cause_fields (cause.NoMethod methods) = allow_fields methods
-cause_fields other = []
+abbrev pub cause_fields : Cause → List ℕ → List Named
+cause_fields (cause.Shape fault) url = []
+cause_fields cause.NoToken url = challenge_fields url
+cause_fields (cause.CallerToken why) url = challenge_fields url
+cause_fields cause.Credentials url = challenge_fields url
+cause_fields (cause.ScopeRefused why) url = challenge_fields url
+cause_fields (cause.Rule action) url = []
+cause_fields (cause.Trust fault) url = []
+cause_fields (cause.Tree fault) url = []
+cause_fields cause.Prohibited url = []
+cause_fields (cause.Immutable field) url = []
+cause_fields cause.TrustToken url = []
+cause_fields cause.KeyMode url = []
+cause_fields (cause.Absent kind id) url = []
+cause_fields (cause.SubjectToken why) url = []
+cause_fields cause.NoRoute url = []
+cause_fields (cause.NoMethod methods) url = allow_fields methods
+cause_fields (cause.NameTaken id) url = []
+cause_fields (cause.Keys fault) url = []
+cause_fields (cause.Full kind) url = []
+cause_fields (cause.IdTaken id) url = []
+cause_fields cause.Random url = []
+cause_fields cause.KeyDir url = []
+cause_fields cause.Memory url = []
 
-abbrev pub own_fields : Reply → List Named
-own_fields (reply.Ok granted) = []
-own_fields (reply.Refused refused) = cause_fields refused
+abbrev pub told_fields : BodyOut → List Named
+told_fields body_out.Nothing = []
+told_fields body_out.Version = []
+told_fields (body_out.Token told) = token_fields told.text
+told_fields (body_out.One told made) = []
+told_fields (body_out.Many kind rows path) = []
+told_fields (body_out.Inference prior implied made) = []
+told_fields (body_out.Inferences prior implied) = []
+told_fields (body_out.Grants roles path) = []
+told_fields (body_out.Assignments grants path) = []
+told_fields (body_out.Trusts rows path) = []
+told_fields (body_out.TrustRoles roles path) = []
+told_fields (body_out.Events events path) = []
+told_fields (body_out.Keys held primary) = []
+
+abbrev pub own_fields : Reply → List ℕ → List Named
+own_fields (reply.Ok granted) url = told_fields granted
+own_fields (reply.Refused why) url = cause_fields why url
 
 -- the connection ends with the response
 unfoldable pub close_fields : Bool → List Named
@@ -122,24 +146,24 @@ close_fields close = if close then (codes "Connection", codes "close") ∷ [] el
 
 -- ---- the response
 
-abbrev pub fields_of : Reply → Bool → List Named
-fields_of reply close = body_fields ++ (own_fields reply ++ close_fields close)
+abbrev pub fields_of : Reply → List ℕ → Bool → List Named
+fields_of reply url close = first_fields reply ++ (own_fields reply url ++ close_fields close)
 
 -- the response that tells the reply of a server at the URL; one to HEAD has no body
 abbrev pub response_of : Reply → List ℕ → Bool → Bool → Response
 response_of reply url head close = record {
   status = status_of reply;
-  fields = fields_of reply close;
-  body = compact_text (body_of reply url);
+  fields = fields_of reply url close;
+  body = text_of (body_of reply url);
   without_body = head;
 }
 
 -- the response to bytes that are no request, which ends the connection
 abbrev pub bad_response_of : HttpCause → Response
-bad_response_of refused = record {
-  status = status_of_bad refused;
+bad_response_of why = record {
+  status = status_of_bad why;
   fields = body_fields ++ close_fields true;
-  body = compact_text (bad_body refused);
+  body = compact_text (bad_body why);
   without_body = false;
 }
 
@@ -148,4 +172,4 @@ abbrev pub wire : Reply → List ℕ → Bool → Bool → List ℕ
 wire reply url head close = message (response_of reply url head close)
 
 abbrev pub wire_bad : HttpCause → List ℕ
-wire_bad refused = message (bad_response_of refused)
+wire_bad why = message (bad_response_of why)

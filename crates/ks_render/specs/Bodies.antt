@@ -1,40 +1,47 @@
--- The bodies of responses, values of JSON whose members are sorted by their names.
-use Rattle.std.specs.Prelude.{ℕ, List, ◌++◌, codes}
-use Rattle.serde_json.specs.Data.{Data, number, unsigned, string, array, object, item, no_items, member, no_members}
-use Rattle.ks_http.specs.Responses.{reason_of}
+-- The bodies of responses: values of JSON whose members are in the order of their names, of a server at a URL.
+use Rattle.std.specs.Prelude.{ℕ, List, [], Option, Some, None, map, codes}
+use Rattle.std.specs.Option.{option_map_or}
+use Rattle.json.specs.Token.{Token}
+use Rattle.json.specs.Tree.{json_tokens}
+use Rattle.serde_json.specs.Data.{Data}
+use Rattle.serde_json.specs.Written.{compact_text, outline}
+use Rattle.ks_machine.specs.declared.body_out.BodyOut.{BodyOut}
+use Rattle.ks_machine.specs.declared.body_out.BodyOut.TheVariants as body_out
+use Rattle.ks_machine.specs.declared.reply.Reply.{Reply}
+use Rattle.ks_machine.specs.declared.reply.Reply.TheVariants as reply
+use Rattle.ks_render.specs.Errors.{refused_body}
+use Rattle.ks_render.specs.Events.{event_value}
+use Rattle.ks_render.specs.Grants.{assignment_value}
+use Rattle.ks_render.specs.Listings.{inference_body, keys_body, links_then_rows, many_body, rows_then_links}
+use Rattle.ks_render.specs.Named.{titled_value, titles_value}
+use Rattle.ks_render.specs.Rows.{one_body, role_value, row_value}
+use Rattle.ks_render.specs.Tokens.{token_body}
+use Rattle.ks_render.specs.Versions.{version_body}
 
--- {"error": {"code": STATUS, "message": MESSAGE, "title": REASON}}
-unfoldable pub error_body : ℕ → List ℕ → Data
-error_body status message =
-    object (member (codes "error") (object (
-    member (codes "code") (number (unsigned status)) (
-    member (codes "message") (string message) (
-    member (codes "title") (string (reason_of status))
-    no_members)))) no_members)
+-- what an answer tells that grants a command
+abbrev pub granted_body : BodyOut → List ℕ → Option Data
+granted_body body_out.Nothing url = None
+granted_body body_out.Version url = Some (version_body url)
+granted_body (body_out.Token told) url = Some (token_body told)
+granted_body (body_out.One told made) url = Some (one_body url told)
+granted_body (body_out.Many kind rows path) url = Some (many_body kind (map (row_value url) rows) url path)
+granted_body (body_out.Inference prior implied made) url = Some (inference_body (titled_value implied) prior)
+granted_body (body_out.Inferences prior implied) url = Some (inference_body (titles_value implied) prior)
+granted_body (body_out.Grants roles path) url = Some (links_then_rows (codes "roles") (map (role_value url) roles) url path)
+granted_body (body_out.Assignments grants path) url = Some (links_then_rows (codes "role_assignments") (map assignment_value grants) url path)
+granted_body (body_out.Trusts rows path) url = Some (links_then_rows (codes "trusts") (map (row_value url) rows) url path)
+granted_body (body_out.TrustRoles roles path) url = Some (links_then_rows (codes "roles") (map (role_value url) roles) url path)
+granted_body (body_out.Events events path) url = Some (rows_then_links (codes "events") (map event_value events) url path)
+granted_body (body_out.Keys held primary) url = Some (keys_body held primary)
 
--- [{"href": URL/v3/, "rel": "self"}]
-abbrev pub self_links : List ℕ → Data
-self_links url =
-    array (item (object (
-    member (codes "href") (string (url ++ codes "/v3/")) (
-    member (codes "rel") (string (codes "self"))
-    no_members))) no_items)
+abbrev pub body_of : Reply → List ℕ → Option Data
+body_of (reply.Ok granted) url = granted_body granted url
+body_of (reply.Refused why) url = Some (refused_body why)
 
--- [{"base": .., "type": ..}]
-abbrev pub media_types : Data
-media_types =
-    array (item (object (
-    member (codes "base") (string (codes "application/json")) (
-    member (codes "type") (string (codes "application/vnd.openstack.identity-v3+json"))
-    no_members))) no_items)
+-- the text of a body, if there is one
+abbrev pub text_of : Option Data → List ℕ
+text_of body = option_map_or compact_text body []
 
--- the version document of the Identity API, of a server at the URL
-unfoldable pub version_body : List ℕ → Data
-version_body url =
-    object (member (codes "version") (object (
-    member (codes "id") (string (codes "v3.14")) (
-    member (codes "links") (self_links url) (
-    member (codes "media-types") media_types (
-    member (codes "status") (string (codes "stable")) (
-    member (codes "updated") (string (codes "2020-04-07T00:00:00Z"))
-    no_members)))))) no_members)
+-- its brackets, names, texts, numbers and words, if there is one
+abbrev pub tokens_of : Option Data → List Token
+tokens_of body = option_map_or (λ value. json_tokens (outline value)) body []

@@ -1,137 +1,127 @@
-ghost use Rattle.std.specs.Prelude.{◌≡◌, ◌++◌, [], ◌∷◌, codes, IfOk, IsTrue, OnOk, string_bytes};
-ghost use Rattle.json.specs.Token.{key, string};
+ghost use Rattle.std.specs.Prelude.{◌≡◌, IfOk, OnOk, option_to_list};
+ghost use Rattle.json.specs.Lex.{tokens};
 ghost use Rattle.serde_json.specs.Written.{compact_text};
-ghost use Rattle.ks_render.specs.Bodies.{error_body, self_links, media_types, version_body};
-ghost use Rattle.ks_render.specs.Answers.{is_granted_told, is_cause_told, is_told, granted_body, refused_body, body_of, bad_body};
-ghost use Rattle.ks_render.specs.steps.Writing.{Adds, Tells};
+ghost use Rattle.ks_machine.specs.Told.{IsBodyTellable, IsTellable};
+ghost use Rattle.ks_render.specs.Bodies.{body_of, granted_body, text_of, tokens_of};
+ghost use Rattle.ks_render.specs.Errors.{bad_body};
+ghost use Rattle.ks_render.specs.steps.Writing.{Lists};
 
-use crate::status::{message_of_bad, message_of_cause, status_of_bad, status_of_cause};
+use crate::errors::{write_bad, write_refused};
+use crate::listings::{
+    write_inference, write_inferences, write_keys, write_links_then_rows, write_many,
+    write_rows_then_links,
+};
+use crate::rows::write_one;
+use crate::tokens::write_token;
+use crate::version::write_version;
 use json::Writer;
 use ks_base::{Bytes, Memory, Text};
-use ks_http::{HttpCause, reason};
-use ks_machine::{BodyOut, Cause, Reply};
+use ks_http::HttpCause;
+use ks_machine::{BodyOut, Reply, TokenOut};
 use std::alloc::{AllocError, Global};
 
-/// Room for most bodies, so that their text seldom moves while it grows.
-const ROOM: usize = 256;
+/// Room for a body without a list.
+const ROOM: usize = 512;
 
-fn write_member(out: &mut Writer, name: &str, text: &str) -> Result<(), AllocError>
-    ensures { OnOk result (Adds out.old out.new (key name.now ∷ string text.now ∷ [])) }
-{
-    out.key(name)?;
-    out.string(text)
+/// Room for most bodies with a list of this length, so that their text seldom moves while it grows.
+fn room_for(count: usize) -> usize {
+    ROOM + count.min(4096) * 256
 }
 
-#[tactic(auto, unfolding(crate::specs::Bodies::error_body))]
-fn write_error(out: &mut Writer, status: u16, message: &str) -> Result<(), AllocError>
-    ensures { OnOk result (Tells out.old out.new (error_body status message.now)) }
-{
-    out.begin_object()?;
-    out.key("error")?;
-    out.begin_object()?;
-    out.key("code")?;
-    out.u64(u64::from(status))?;
-    write_member(out, "message", message)?;
-    write_member(out, "title", reason(status))?;
-    out.end_object()?;
-    out.end_object()
+fn token_room(told: &TokenOut) -> usize {
+    match &told.roles {
+        Some(roles) => room_for(roles.as_slice().len()),
+        None => ROOM,
+    }
 }
 
-/// Where the Identity API of the server at the URL stands.
-fn api_url(alloc: Global, url: &Text) -> Result<String, AllocError>
-    ensures { IfOk result (λ made. string_bytes made ≡ url.now ++ codes "/v3/") }
-{
-    let mut made = String::from_str(alloc, url.as_str())?;
-    made.push_str("/v3/")?;
-    Ok(made)
+/// Room for most bodies of what is told.
+fn granted_room(granted: &BodyOut) -> usize {
+    match granted {
+        BodyOut::Nothing => 0,
+        BodyOut::Version => ROOM,
+        BodyOut::Token(told) => token_room(told),
+        BodyOut::One(_, _) => ROOM,
+        BodyOut::Many(_, rows, _) => room_for(rows.as_slice().len()),
+        BodyOut::Inference(_, _, _) => ROOM,
+        BodyOut::Inferences(_, implied) => room_for(implied.as_slice().len()),
+        BodyOut::Grants(roles, _) => room_for(roles.as_slice().len()),
+        BodyOut::Assignments(grants, _) => room_for(grants.as_slice().len()),
+        BodyOut::Trusts(rows, _) => room_for(rows.as_slice().len()),
+        BodyOut::TrustRoles(roles, _) => room_for(roles.as_slice().len()),
+        BodyOut::Events(events, _) => room_for(events.as_slice().len()),
+        BodyOut::Keys(_, _) => ROOM,
+    }
 }
 
-fn write_self_links(out: &mut Writer, alloc: Global, url: &Text) -> Result<(), AllocError>
-    ensures { OnOk result (Tells out.old out.new (self_links url.now)) }
-{
-    let href = api_url(alloc, url)?;
-    out.begin_array()?;
-    out.begin_object()?;
-    write_member(out, "href", href.as_str())?;
-    write_member(out, "rel", "self")?;
-    out.end_object()?;
-    out.end_array()
+fn room(reply: &Reply) -> usize {
+    match reply {
+        Reply::Ok(granted) => granted_room(granted),
+        Reply::Refused(_) => ROOM,
+    }
 }
 
-fn write_media_types(out: &mut Writer) -> Result<(), AllocError>
-    ensures { OnOk result (Tells out.old out.new media_types) }
-{
-    out.begin_array()?;
-    out.begin_object()?;
-    write_member(out, "base", "application/json")?;
-    write_member(out, "type", "application/vnd.openstack.identity-v3+json")?;
-    out.end_object()?;
-    out.end_array()
-}
-
-#[tactic(auto, unfolding(crate::specs::Bodies::version_body))]
-fn write_version(out: &mut Writer, alloc: Global, url: &Text) -> Result<(), AllocError>
-    ensures { OnOk result (Tells out.old out.new (version_body url.now)) }
-{
-    out.begin_object()?;
-    out.key("version")?;
-    out.begin_object()?;
-    write_member(out, "id", "v3.14")?;
-    out.key("links")?;
-    write_self_links(out, alloc, url)?;
-    out.key("media-types")?;
-    write_media_types(out)?;
-    write_member(out, "status", "stable")?;
-    write_member(out, "updated", "2020-04-07T00:00:00Z")?;
-    out.end_object()?;
-    out.end_object()
-}
-
+/// Writes what is told by an answer that grants a command. `link` is room for texts.
 fn write_granted(
     out: &mut Writer,
-    alloc: Global,
     granted: &BodyOut,
     url: &Text,
+    link: &mut String,
 ) -> Result<(), AllocError>
-    requires { IsTrue (is_granted_told granted.now) }
-    ensures { OnOk result (Tells out.old out.new (granted_body granted.now url.now)) }
+    requires { IsBodyTellable granted.now }
+    ensures { OnOk result (Lists out.old out.new (option_to_list (granted_body granted.now url.now))) }
 {
     match granted {
-        BodyOut::Version => write_version(out, alloc, url),
-        _ => unreachable!(),
+        BodyOut::Nothing => Ok(()),
+        BodyOut::Version => write_version(out, url, link),
+        BodyOut::Token(told) => write_token(out, told, url, link),
+        BodyOut::One(row, _) => write_one(out, row, url, link),
+        BodyOut::Many(kind, rows, path) => { write_many(out, *kind, rows, url, path, link) }
+        BodyOut::Inference(prior, implied, _) => write_inference(out, prior, implied),
+        BodyOut::Inferences(prior, implied) => { write_inferences(out, prior, implied, url, link) }
+        BodyOut::Grants(roles, path) => {
+            write_links_then_rows(out, "roles", roles, url, path, link)
+        }
+        BodyOut::Assignments(grants, path) => {
+            write_links_then_rows(out, "role_assignments", grants, url, path, link)
+        }
+        BodyOut::Trusts(rows, path) => {
+            write_links_then_rows(out, "trusts", rows, url, path, link)
+        }
+        BodyOut::TrustRoles(roles, path) => {
+            write_links_then_rows(out, "roles", roles, url, path, link)
+        }
+        BodyOut::Events(events, path) => {
+            write_rows_then_links(out, "events", events, url, path, link)
+        }
+        BodyOut::Keys(held, primary) => write_keys(out, held, *primary, url, link),
     }
 }
 
-fn write_refused(out: &mut Writer, cause: &Cause) -> Result<(), AllocError>
-    requires { IsTrue (is_cause_told cause.now) }
-    ensures { OnOk result (Tells out.old out.new (refused_body cause.now)) }
-{
-    write_error(out, status_of_cause(cause), message_of_cause(cause))
-}
-
-fn write_body(out: &mut Writer, alloc: Global, reply: &Reply, url: &Text) -> Result<(), AllocError>
-    requires { IsTrue (is_told reply.now) }
-    ensures { OnOk result (Tells out.old out.new (body_of reply.now url.now)) }
+fn write_body(
+    out: &mut Writer,
+    reply: &Reply,
+    url: &Text,
+    link: &mut String,
+) -> Result<(), AllocError>
+    requires { IsTellable reply.now }
+    ensures { OnOk result (Lists out.old out.new (option_to_list (body_of reply.now url.now))) }
 {
     match reply {
-        Reply::Ok(granted) => write_granted(out, alloc, granted, url),
-        Reply::Refused(cause) => write_refused(out, cause),
+        Reply::Ok(granted) => write_granted(out, granted, url, link),
+        Reply::Refused(cause) => write_refused(out, cause, link),
     }
-}
-
-fn write_bad(out: &mut Writer, cause: &HttpCause) -> Result<(), AllocError>
-    ensures { OnOk result (Tells out.old out.new (bad_body cause.now)) }
-{
-    write_error(out, status_of_bad(cause), message_of_bad(cause))
 }
 
 /// The body of a reply of the server at the URL.
 pub fn body_text(alloc: Global, reply: &Reply, url: &Text) -> Result<Bytes, Memory>
-    requires { IsTrue (is_told reply.now) }
-    ensures { IfOk result (λ made. made ≡ compact_text (body_of reply.now url.now)) }
+    requires { IsTellable reply.now }
+    ensures text { IfOk result (λ made. made ≡ text_of (body_of reply.now url.now)) }
+    ensures reads_back { IfOk result (λ made. tokens made ≡ tokens_of (body_of reply.now url.now)) }
 {
-    let mut out = Writer::new(Vec::with_capacity(alloc, ROOM)?);
-    write_body(&mut out, alloc, reply, url)?;
+    let mut out = Writer::new(Vec::with_capacity(alloc, room(reply))?);
+    let mut link = String::new(alloc);
+    write_body(&mut out, reply, url, &mut link)?;
     Ok(Bytes::from_vec(out.into_inner()))
 }
 

@@ -1,8 +1,8 @@
 ghost use Rattle.std.specs.Prelude.{◌≡◌, [], ◌∷◌, ◌++◌, true, codes, IfOk, OnOk, string_bytes};
-ghost use Rattle.ks_render.specs.Answers.{name_of, method_list, body_fields, allow_fields, cause_fields, own_fields, close_fields, fields_of};
+ghost use Rattle.ks_render.specs.Answers.{allow_fields, body_fields, cause_fields, challenge_fields, close_fields, fields_of, first_fields, granted_fields, method_list, name_of, own_fields, told_fields, token_fields, vary_fields};
 
 use ks_base::{FieldList, Memory, Method, Text};
-use ks_machine::{Cause, Reply};
+use ks_machine::{BodyOut, Cause, Reply};
 use std::alloc::Global;
 
 fn push(fields: &mut FieldList, alloc: Global, name: &str, value: &str) -> Result<(), Memory>
@@ -52,6 +52,74 @@ fn body_fields(alloc: Global) -> Result<FieldList, Memory>
     Ok(fields)
 }
 
+/// Begins the fields of a response that has none.
+#[tactic(auto, unfolding(crate::specs::Answers::vary_fields))]
+fn vary_fields(alloc: Global) -> Result<FieldList, Memory>
+    ensures { IfOk result (λ made. made ≡ vary_fields) }
+{
+    let mut fields = FieldList::new(alloc);
+    push(&mut fields, alloc, "Vary", "X-Auth-Token")?;
+    Ok(fields)
+}
+
+fn granted_fields(alloc: Global, granted: &BodyOut) -> Result<FieldList, Memory>
+    ensures { IfOk result (λ made. made ≡ granted_fields granted.now) }
+{
+    match granted {
+        BodyOut::Nothing => vary_fields(alloc),
+        BodyOut::Version => body_fields(alloc),
+        BodyOut::Token(_) => body_fields(alloc),
+        BodyOut::One(_, _) => body_fields(alloc),
+        BodyOut::Many(_, _, _) => body_fields(alloc),
+        BodyOut::Inference(_, _, _) => body_fields(alloc),
+        BodyOut::Inferences(_, _) => body_fields(alloc),
+        BodyOut::Grants(_, _) => body_fields(alloc),
+        BodyOut::Assignments(_, _) => body_fields(alloc),
+        BodyOut::Trusts(_, _) => body_fields(alloc),
+        BodyOut::TrustRoles(_, _) => body_fields(alloc),
+        BodyOut::Events(_, _) => body_fields(alloc),
+        BodyOut::Keys(_, _) => body_fields(alloc),
+    }
+}
+
+fn first_fields(alloc: Global, reply: &Reply) -> Result<FieldList, Memory>
+    ensures { IfOk result (λ made. made ≡ first_fields reply.now) }
+{
+    match reply {
+        Reply::Ok(granted) => granted_fields(alloc, granted),
+        Reply::Refused(_) => body_fields(alloc),
+    }
+}
+
+/// What tells a client where to authenticate.
+fn challenge(alloc: Global, url: &Text) -> Result<String, Memory>
+    ensures { IfOk result (λ made. string_bytes made ≡ codes "Keystone uri=\"" ++ (url.now ++ codes "/v3\"")) }
+{
+    let mut made = String::from_str(alloc, "Keystone uri=\"")?;
+    made.push_str(url.as_str())?;
+    made.push_str("/v3\"")?;
+    Ok(made)
+}
+
+#[tactic(auto, unfolding(crate::specs::Answers::challenge_fields))]
+fn push_challenge(fields: &mut FieldList, alloc: Global, url: &Text) -> Result<(), Memory>
+    ensures { OnOk result (fields.new ≡ fields.old ++ challenge_fields url.now) }
+{
+    push(
+        fields,
+        alloc,
+        "WWW-Authenticate",
+        challenge(alloc, url)?.as_str(),
+    )
+}
+
+#[tactic(auto, unfolding(crate::specs::Answers::token_fields))]
+fn push_token(fields: &mut FieldList, alloc: Global, text: &Text) -> Result<(), Memory>
+    ensures { OnOk result (fields.new ≡ fields.old ++ token_fields text.now) }
+{
+    push(fields, alloc, "X-Subject-Token", text.as_str())
+}
+
 #[tactic(auto, unfolding(crate::specs::Answers::allow_fields))]
 fn push_allow(fields: &mut FieldList, alloc: Global, methods: &[Method]) -> Result<(), Memory>
     ensures { OnOk result (fields.new ≡ fields.old ++ allow_fields methods.now) }
@@ -64,21 +132,67 @@ fn push_allow(fields: &mut FieldList, alloc: Global, methods: &[Method]) -> Resu
     )
 }
 
-fn push_of_cause(fields: &mut FieldList, alloc: Global, cause: &Cause) -> Result<(), Memory>
-    ensures { OnOk result (fields.new ≡ fields.old ++ cause_fields cause.now) }
+fn push_of_cause(
+    fields: &mut FieldList,
+    alloc: Global,
+    cause: &Cause,
+    url: &Text,
+) -> Result<(), Memory>
+    ensures { OnOk result (fields.new ≡ fields.old ++ cause_fields cause.now url.now) }
 {
     match cause {
+        Cause::Shape(_) => Ok(()),
+        Cause::NoToken => push_challenge(fields, alloc, url),
+        Cause::CallerToken(_) => push_challenge(fields, alloc, url),
+        Cause::Credentials => push_challenge(fields, alloc, url),
+        Cause::ScopeRefused(_) => push_challenge(fields, alloc, url),
+        Cause::Rule(_) => Ok(()),
+        Cause::Trust(_) => Ok(()),
+        Cause::Tree(_) => Ok(()),
+        Cause::Prohibited => Ok(()),
+        Cause::Immutable(_) => Ok(()),
+        Cause::TrustToken => Ok(()),
+        Cause::KeyMode => Ok(()),
+        Cause::Absent(_, _) => Ok(()),
+        Cause::SubjectToken(_) => Ok(()),
+        Cause::NoRoute => Ok(()),
         Cause::NoMethod(methods) => push_allow(fields, alloc, methods.as_slice()),
-        _ => Ok(()),
+        Cause::NameTaken(_) => Ok(()),
+        Cause::Keys(_) => Ok(()),
+        Cause::Full(_) => Ok(()),
+        Cause::IdTaken(_) => Ok(()),
+        Cause::Random => Ok(()),
+        Cause::KeyDir => Ok(()),
+        Cause::Memory => Ok(()),
     }
 }
 
-fn push_own(fields: &mut FieldList, alloc: Global, reply: &Reply) -> Result<(), Memory>
-    ensures { OnOk result (fields.new ≡ fields.old ++ own_fields reply.now) }
+fn push_told(fields: &mut FieldList, alloc: Global, granted: &BodyOut) -> Result<(), Memory>
+    ensures { OnOk result (fields.new ≡ fields.old ++ told_fields granted.now) }
+{
+    match granted {
+        BodyOut::Nothing => Ok(()),
+        BodyOut::Version => Ok(()),
+        BodyOut::Token(told) => push_token(fields, alloc, &told.text),
+        BodyOut::One(_, _) => Ok(()),
+        BodyOut::Many(_, _, _) => Ok(()),
+        BodyOut::Inference(_, _, _) => Ok(()),
+        BodyOut::Inferences(_, _) => Ok(()),
+        BodyOut::Grants(_, _) => Ok(()),
+        BodyOut::Assignments(_, _) => Ok(()),
+        BodyOut::Trusts(_, _) => Ok(()),
+        BodyOut::TrustRoles(_, _) => Ok(()),
+        BodyOut::Events(_, _) => Ok(()),
+        BodyOut::Keys(_, _) => Ok(()),
+    }
+}
+
+fn push_own(fields: &mut FieldList, alloc: Global, reply: &Reply, url: &Text) -> Result<(), Memory>
+    ensures { OnOk result (fields.new ≡ fields.old ++ own_fields reply.now url.now) }
 {
     match reply {
-        Reply::Ok(_) => Ok(()),
-        Reply::Refused(cause) => push_of_cause(fields, alloc, cause),
+        Reply::Ok(granted) => push_told(fields, alloc, granted),
+        Reply::Refused(cause) => push_of_cause(fields, alloc, cause, url),
     }
 }
 
@@ -93,12 +207,12 @@ fn push_close(fields: &mut FieldList, alloc: Global, close: bool) -> Result<(), 
     }
 }
 
-/// The fields of a reply's response behind the length of the body.
-pub fn fields_of(alloc: Global, reply: &Reply, close: bool) -> Result<FieldList, Memory>
-    ensures { IfOk result (λ made. made ≡ fields_of reply.now close) }
+/// The fields of a reply's response behind the length of the body, of a server at the URL.
+pub fn fields_of(alloc: Global, reply: &Reply, url: &Text, close: bool) -> Result<FieldList, Memory>
+    ensures { IfOk result (λ made. made ≡ fields_of reply.now url.now close) }
 {
-    let mut fields = body_fields(alloc)?;
-    push_own(&mut fields, alloc, reply)?;
+    let mut fields = first_fields(alloc, reply)?;
+    push_own(&mut fields, alloc, reply, url)?;
     push_close(&mut fields, alloc, close)?;
     Ok(fields)
 }

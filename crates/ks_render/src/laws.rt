@@ -1,11 +1,14 @@
 //! What holds of the definitions alone, for callers that have only these.
-ghost use Rattle.std.specs.Prelude.{◌≡◌, ℕ, Bool, true, false, List, [], codes};
+ghost use Rattle.std.specs.Prelude.{◌≡◌, ℕ, Bool, true, false, List, [], codes, length};
 ghost use Rattle.serde_json.specs.Written.{compact_text};
 ghost use Rattle.ks_http.specs.Responses.{head_of, content, memory_response};
 ghost use Rattle.ks_machine.specs.declared.reply.Reply.{Reply as AnyReply};
 ghost use Rattle.ks_machine.specs.declared.reply.Reply.TheVariants.{Refused};
-ghost use Rattle.ks_machine.specs.declared.cause.Cause.TheVariants.{Memory};
-ghost use Rattle.ks_render.specs.Bodies.{version_body};
+ghost use Rattle.ks_machine.specs.declared.cause.Cause.TheVariants.{Credentials, Memory};
+ghost use Rattle.ks_render.specs.Errors.{refused_body};
+ghost use Rattle.ks_render.specs.Examples.{plain_login};
+ghost use Rattle.ks_render.specs.Tokens.{token_body};
+ghost use Rattle.ks_render.specs.Versions.{version_body};
 ghost use Rattle.ks_render.specs.Answers.{response_of, wire};
 
 /// The version document of a server at `http://127.0.0.1:5000`, byte for byte. The call does nothing, as those
@@ -13,6 +16,20 @@ ghost use Rattle.ks_render.specs.Answers.{response_of, wire};
 pub fn version_document()
     ensures { compact_text (version_body (codes "http://127.0.0.1:5000"))
         ≡ codes "{\"version\":{\"id\":\"v3.14\",\"links\":[{\"href\":\"http://127.0.0.1:5000/v3/\",\"rel\":\"self\"}],\"media-types\":[{\"base\":\"application/json\",\"type\":\"application/vnd.openstack.identity-v3+json\"}],\"status\":\"stable\",\"updated\":\"2020-04-07T00:00:00Z\"}}" }
+{}
+
+/// The body of a login that does not show who it is, byte for byte: 108 bytes.
+pub fn unauthorized_document()
+    ensures text { compact_text (refused_body Credentials)
+        ≡ codes "{\"error\":{\"code\":401,\"message\":\"The request you have made requires authentication.\",\"title\":\"Unauthorized\"}}" }
+    ensures size { length (compact_text (refused_body Credentials)) ≡ 108 }
+{}
+
+/// The body of an ordinary login, byte for byte: 497 bytes.
+pub fn token_document()
+    ensures text { compact_text (token_body plain_login)
+        ≡ codes "{\"token\":{\"audit_ids\":[\"AAECAwQFBgcICQoLDA0ODw\"],\"catalog\":[],\"expires_at\":\"1985-10-26T09:20:00.000000Z\",\"is_domain\":false,\"issued_at\":\"1985-10-26T08:20:00.000000Z\",\"methods\":[\"password\"],\"project\":{\"domain\":{\"id\":\"default\",\"name\":\"Default\"},\"id\":\"a0000000000000000000000000000001\",\"name\":\"demo\"},\"roles\":[{\"id\":\"b0000000000000000000000000000001\",\"name\":\"admin\"}],\"user\":{\"domain\":{\"id\":\"default\",\"name\":\"Default\"},\"id\":\"00112233445566778899aabbccddeeff\",\"name\":\"ann\",\"password_expires_at\":null}}}" }
+    ensures size { length (compact_text (token_body plain_login)) ≡ 497 }
 {}
 
 /// Want of memory is told in one way, by the reply and where there is no memory for any response.

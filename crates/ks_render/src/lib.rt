@@ -2,10 +2,24 @@
 #![tactic(auto)]
 
 mod bodies;
+mod errors;
+mod events;
 mod fields;
+mod grants;
 mod laws;
+mod listings;
+mod named;
+mod names;
 mod responses;
+mod rows;
 mod status;
+mod tell;
+mod tokens;
+mod version;
+mod writing;
 
-pub use laws::{head_has_no_body, memory_ends_the_connection, version_document};
+pub use laws::{
+    head_has_no_body, memory_ends_the_connection, token_document, unauthorized_document,
+    version_document,
+};
 pub use responses::{render, render_bad};

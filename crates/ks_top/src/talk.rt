@@ -1,7 +1,8 @@
-ghost use Rattle.std.specs.Prelude.{◌≡◌, ◌≢◌, ◌≤◌, ◌<◌, ℕ, List, Some, Err, IsErr, IsErrOf, IfOk, IsTrue, ◌↔◌, ◌⊎◌};
+ghost use Rattle.std.specs.Prelude.{◌≡◌, ◌≢◌, ◌≤◌, ◌<◌, ℕ, List, Some, Err, IsErr, IsErrOf, IfOk, ◌↔◌, ◌⊎◌};
 ghost use Rattle.ks_outside.specs.Streams.{OnlyReads, OnlyWrites};
 ghost use Rattle.ks_machine.specs.declared.reply.Reply.TheVariants as reply;
-ghost use Rattle.ks_render.specs.Answers.{is_told, response_of, wire_bad};
+ghost use Rattle.ks_machine.specs.Told.{IsTellable};
+ghost use Rattle.ks_render.specs.Answers.{response_of, wire_bad};
 ghost use Rattle.ks_routes.specs.Routes.{command_of};
 ghost use Rattle.ks_top.specs.Talk.{EndsTalk, default_url, ends_with, is_head, reply_of, reply_to, response_to};
 ghost use Rattle.ks_top.specs.steps.Talking.{GivesUp, Writes};
@@ -133,7 +134,7 @@ fn is_last(request: &Request, count: u32) -> bool
 /// The machine's reply to a command.
 fn reply_to_command(command: Command) -> Reply
     ensures reply { result ≡ reply_to command }
-    ensures told { IsTrue (is_told result) }
+    ensures told { IsTellable result }
 {
     match command {
         Command::Version => Reply::Ok(BodyOut::Version),
@@ -144,7 +145,7 @@ fn reply_to_command(command: Command) -> Reply
 /// The machine's reply to a request by where its route leads.
 fn reply(routed: Routed) -> Reply
     ensures reply { result ≡ reply_of routed }
-    ensures told { IsTrue (is_told result) }
+    ensures told { IsTellable result }
 {
     match routed {
         Routed::Command(command) => reply_to_command(command),

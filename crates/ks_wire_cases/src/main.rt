@@ -3,6 +3,7 @@
 //! files of `data/`.
 #![tactic(auto)]
 
+mod causes;
 mod checks;
 mod commands;
 mod cut;
@@ -13,6 +14,7 @@ mod responses;
 mod routes;
 mod runs;
 mod talks;
+mod told;
 
 use anyhow::Result;
 

@@ -1,13 +1,15 @@
 //! The tables of responses to replies of the machine, and to bytes that are no request.
 
-ghost use Rattle.std.specs.Prelude.{IfOk, IsTrue};
-ghost use Rattle.ks_render.specs.Answers.{is_told};
+ghost use Rattle.std.specs.Prelude.{IfOk};
+ghost use Rattle.ks_machine.specs.Told.{IsTellable};
 
+use crate::causes::cause;
 use crate::routes::methods;
+use crate::told::body;
 use anyhow::{Result, bail};
 use ks_base::{MethodList, Text};
 use ks_http::{HttpCause, Response};
-use ks_machine::{BodyOut, Cause, Reply};
+use ks_machine::{Cause, Reply};
 use ks_render::{render, render_bad};
 use ks_tables::{Case, try_table};
 use std::alloc::Global;
@@ -24,18 +26,16 @@ pub fn try_tables<R: Files + Print + AllocGlobal>(rt: &R) -> Result<()> {
 
 /// The reply of this name.
 fn reply(alloc: Global, name: &str) -> Result<Reply>
-    ensures { IfOk result (λ made. IsTrue (is_told made)) }
+    ensures { IfOk result (λ made. IsTellable made) }
 {
     if let Some(names) = name.strip_prefix("no method") {
         let methods = MethodList::from_vec(methods(alloc, names)?);
         return Ok(Reply::Refused(Cause::NoMethod(methods)));
     }
-    match name {
-        "version" => Ok(Reply::Ok(BodyOut::Version)),
-        "no route" => Ok(Reply::Refused(Cause::NoRoute)),
-        "memory" => Ok(Reply::Refused(Cause::Memory)),
-        _ => bail!("no reply"),
+    if let Some(name) = name.strip_prefix("refused ") {
+        return Ok(Reply::Refused(cause(alloc, name)?));
     }
+    Ok(Reply::Ok(body(alloc, name)?))
 }
 
 /// The response to this reply.

@@ -1,7 +1,7 @@
 use Rattle.std.proofs.Common.{◌≡◌, ℕ, Bool, true, false, ◌||◌, ◌==◌, if◌then◌else◌, List, [], refl}
-use Rattle.serde_json.specs.Written.{compact_text}
 use Rattle.ks_http.specs.Responses.{content}
-use Rattle.ks_render.specs.Answers.{status_of, body_of}
+use Rattle.ks_render.specs.Answers.{status_of}
+use Rattle.ks_render.specs.Bodies.{body_of, text_of}
 use Rattle.ks_render.proofs.laws.head_has_no_body.Goals as goal
 
 silent : (b : Bool) (body : List ℕ) → (if b || true then [] else body) ≡ []
@@ -10,4 +10,4 @@ silent false body = refl
 
 pub returns-clause-content : goal.returns-clause-content
 unfolding content
-returns-clause-content c = λ reply url close. silent (status_of reply == 204) (compact_text (body_of reply url))
+returns-clause-content c = λ reply url close. silent (status_of reply == 204) (text_of (body_of reply url))

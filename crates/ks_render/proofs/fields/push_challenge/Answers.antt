@@ -1,0 +1,6 @@
+use Rattle.ks_render.specs.Answers.{challenge_fields}
+use Rattle.ks_render.proofs.fields.push_challenge.Goals as goal
+
+pub returns : goal.returns
+unfolding challenge_fields
+returns c = rw (c.as_str.ensures.value, c.in_ok-challenge.ensures) at c.push.ensures

@@ -1,0 +1,9 @@
+use Rattle.ks_render.specs.Rows.{user_value}
+use Rattle.ks_render.proofs.Steps.{object, ◌>>◌}
+use Rattle.ks_render.proofs.rows.write_user.Goals as goal
+
+pub returns : goal.returns
+unfolding user_value
+returns c = object c.end_object.result c.in_ok-begin_object.ensures
+    (c.in_ok-write_id.ensures >> c.in_ok-write_flag.ensures >> c.in_ok-write_id-2.ensures >> c.in_ok-write_self.ensures >> c.in_ok-write_text.ensures >> c.in_ok-write_null.ensures)
+    c.end_object.ensures

@@ -1,0 +1,29 @@
+-- A token whose body is known byte for byte.
+use Rattle.std.specs.Prelude.{ℕ, List, [], ◌∷◌, Option, Some, None, true, false, codes}
+use Rattle.ks_machine.specs.declared.body_out.Homed.{Homed}
+use Rattle.ks_machine.specs.declared.body_out.Titled.{Titled}
+use Rattle.ks_machine.specs.declared.body_out.TokenOut.{TokenOut}
+
+abbrev pub titled : List ℕ → List ℕ → Titled
+titled id name = record { id = id; name = name }
+
+abbrev pub default_domain : Titled
+default_domain = titled (codes "default") (codes "Default")
+
+-- a login with a password on a project, in which the user has one role
+abbrev pub plain_login : TokenOut
+plain_login = record {
+  text = [];
+  made = true;
+  audit = 0 ∷ 1 ∷ 2 ∷ 3 ∷ 4 ∷ 5 ∷ 6 ∷ 7 ∷ 8 ∷ 9 ∷ 10 ∷ 11 ∷ 12 ∷ 13 ∷ 14 ∷ 15 ∷ [];
+  chain = None;
+  methods = 1;
+  issued = 499_162_800;
+  expires = 499_166_400;
+  user = record { id = codes "00112233445566778899aabbccddeeff"; name = codes "ann"; domain = default_domain };
+  project = Some (record { id = codes "a0000000000000000000000000000001"; name = codes "demo"; domain = default_domain });
+  domain = None;
+  trust = None;
+  roles = Some (titled (codes "b0000000000000000000000000000001") (codes "admin") ∷ []);
+  system = false;
+}

@@ -1,0 +1,60 @@
+-- The bodies that list rows.
+use Rattle.std.specs.Prelude.{ℕ, Bool, true, false, List, [], ◌∷◌, ◌++◌, map, codes}
+use Rattle.serde_json.specs.Data.{Data, null, number, unsigned, string}
+use Rattle.ks_base.specs.declared.kinds.Kind.{Kind}
+use Rattle.ks_base.specs.declared.kinds.Kind.TheVariants as kind
+use Rattle.ks_machine.specs.declared.body_out.Titled.{Titled}
+use Rattle.ks_render.specs.Values.{Entry, array_of, object_of}
+use Rattle.ks_render.specs.Named.{titled_value}
+
+-- the listing is whole; PATH is the path of its request
+unfoldable pub links_value : List ℕ → List ℕ → Data
+links_value url path =
+    object_of (
+    (codes "next", null)
+    ∷ (codes "previous", null)
+    ∷ (codes "self", string (url ++ path)) ∷ [])
+
+-- rows, and links behind them
+unfoldable pub rows_then_links : List ℕ → List Data → List ℕ → List ℕ → Data
+rows_then_links name rows url path = object_of ((name, array_of rows) ∷ (codes "links", links_value url path) ∷ [])
+
+-- links, and rows behind them
+unfoldable pub links_then_rows : List ℕ → List Data → List ℕ → List ℕ → Data
+links_then_rows name rows url path = object_of ((codes "links", links_value url path) ∷ (name, array_of rows) ∷ [])
+
+-- the rows of a kind: the names of an object are in their order
+abbrev pub many_body : Kind → List Data → List ℕ → List ℕ → Data
+many_body kind.Domain rows url path = rows_then_links (codes "domains") rows url path
+many_body kind.Project rows url path = links_then_rows (codes "projects") rows url path
+many_body kind.User rows url path = links_then_rows (codes "users") rows url path
+many_body kind.Group rows url path = rows_then_links (codes "groups") rows url path
+many_body kind.Role rows url path = links_then_rows (codes "roles") rows url path
+many_body kind.Implication rows url path = rows_then_links (codes "implications") rows url path
+many_body kind.Grant rows url path = rows_then_links (codes "grants") rows url path
+many_body kind.Member rows url path = links_then_rows (codes "members") rows url path
+many_body kind.Trust rows url path = links_then_rows (codes "trusts") rows url path
+many_body kind.Event rows url path = rows_then_links (codes "events") rows url path
+
+-- {"role_inference": {"implies": .., "prior_role": ..}}
+unfoldable pub inference_body : Data → Titled → Data
+inference_body implied prior =
+    object_of ((
+      codes "role_inference",
+      object_of (
+          (codes "implies", implied)
+          ∷ (codes "prior_role", titled_value prior) ∷ []),
+    ) ∷ [])
+
+abbrev pub index_value : ℕ → Data
+index_value index = number (unsigned index)
+
+-- the indices of the keys that are held, and that of the key that seals
+unfoldable pub keys_body : List ℕ → ℕ → Data
+keys_body held primary =
+    object_of ((
+      codes "keys",
+      object_of (
+          (codes "held", array_of (map index_value held))
+          ∷ (codes "primary", index_value primary) ∷ []),
+    ) ∷ [])
