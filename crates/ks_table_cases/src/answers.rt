@@ -74,7 +74,7 @@ pub fn push_word(text: &mut String, word: &str) -> Result<()> {
     Ok(())
 }
 
-fn with_id(alloc: Global, name: &str, id: &Id) -> Result<String> {
+pub fn with_id(alloc: Global, name: &str, id: &Id) -> Result<String> {
     let id = id_text(id)?;
     Ok(format!(in alloc; "{name} {id}")?)
 }
@@ -84,7 +84,7 @@ fn absent(alloc: Global, kind: Kind, id: &Id) -> Result<String> {
     Ok(format!(in alloc; "Absent {kind:?} {id}")?)
 }
 
-fn full(alloc: Global, kind: Kind) -> Result<String> {
+pub fn full(alloc: Global, kind: Kind) -> Result<String> {
     Ok(format!(in alloc; "Full {kind:?}")?)
 }
 

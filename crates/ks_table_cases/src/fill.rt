@@ -1,11 +1,13 @@
 //! Many rows at once, with numbers for ids, as `d000007`: a kind and how many.
 
 use crate::answers::{copied, done, done_new};
+use crate::trusts::create;
 use crate::words::Words;
 use crate::world::World;
 use anyhow::{Result, bail, ensure};
 use ks_base::{
-    Actor, DomainRow, GrantRow, GroupRow, Id, ImplyRow, MemberRow, RoleRow, Target, Text, UserRow,
+    Actor, DomainRow, GrantRow, GroupRow, Id, IdList, ImplyRow, MemberRow, Revoke, RoleRow, Target,
+    Text, TrustRow, UserRow,
 };
 use std::alloc::Global;
 
@@ -35,6 +37,8 @@ fn made(world: &mut World, kind: &str, number: u64) -> Result<String> {
         "roles" => done(alloc, world.roles.add(role(alloc, number)?)),
         "implications" => done_new(alloc, world.roles.imply(implication(alloc, number)?)),
         "grants" => granted(world, number),
+        "trusts" => trusted(world, number),
+        "events" => revoked(world, number),
         _ => bail!("no rows of {kind} are made"),
     }
 }
@@ -43,6 +47,17 @@ fn granted(world: &mut World, number: u64) -> Result<String> {
     let row = grant(world.alloc, number)?;
     let (_actor, _target) = (&row.actor, &row.target);
     done_new(world.alloc, world.grants.grant(row))
+}
+
+fn trusted(world: &mut World, number: u64) -> Result<String> {
+    let held = IdList::new(world.alloc);
+    let row = trust(world.alloc, number)?;
+    done(world.alloc, create(&mut world.trusts, row, &held, 0)?)
+}
+
+fn revoked(world: &mut World, number: u64) -> Result<String> {
+    let user = id(world.alloc, 'u', number)?;
+    done(world.alloc, world.events.add(&Revoke::User(user)))
 }
 
 /// The letter and the number in six digits.
@@ -118,5 +133,20 @@ fn grant(alloc: Global, number: u64) -> Result<GrantRow> {
         target: Target::Project(id(alloc, 'p', 0)?),
         inherited: false,
         role: id(alloc, 'r', number % EACH)?,
+    })
+}
+
+fn trust(alloc: Global, number: u64) -> Result<TrustRow> {
+    Ok(TrustRow {
+        id: id(alloc, 't', number)?,
+        trustor: id(alloc, 'u', 0)?,
+        trustee: id(alloc, 'u', 1)?,
+        project: id(alloc, 'p', 0)?,
+        roles: IdList::new(alloc),
+        impersonation: false,
+        expires: None,
+        remaining: None,
+        count: 0,
+        parent: None,
     })
 }

@@ -63,11 +63,7 @@ impl<'a> Words<'a> {
     }
 
     pub fn id(&mut self) -> Result<Id> {
-        let word = self.next()?;
-        match Id::read(word.as_bytes()) {
-            Ok(id) => Ok(id),
-            Err(_) => bail!("`{word}` is no id"),
-        }
+        read_id(self.next()?)
     }
 
     pub fn text(&mut self, alloc: Global) -> Result<Text> {
@@ -84,5 +80,39 @@ impl<'a> Words<'a> {
             ids.push(self.id()?)?;
         }
         Ok(ids)
+    }
+
+    /// The ids of the next word, with commas between them.
+    pub fn listed(&mut self, alloc: Global) -> Result<IdList> {
+        let mut ids = IdList::new(alloc);
+        for part in self.next()?.split(',') {
+            ids.push(read_id(part)?)?;
+        }
+        Ok(ids)
+    }
+
+    /// The number behind this word, where it is the next.
+    pub fn number_behind(&mut self, wanted: &str) -> Result<Option<u64>> {
+        if self.takes(wanted) {
+            Ok(Some(self.number()?))
+        } else {
+            Ok(None)
+        }
+    }
+
+    /// The id behind this word, where it is the next.
+    pub fn id_behind(&mut self, wanted: &str) -> Result<Option<Id>> {
+        if self.takes(wanted) {
+            Ok(Some(self.id()?))
+        } else {
+            Ok(None)
+        }
+    }
+}
+
+fn read_id(word: &str) -> Result<Id> {
+    match Id::read(word.as_bytes()) {
+        Ok(id) => Ok(id),
+        Err(_) => bail!("`{word}` is no id"),
     }
 }

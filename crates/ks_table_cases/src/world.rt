@@ -1,16 +1,21 @@
 //! The tables that a script works on.
 
+use crate::events::Events;
 use crate::words::Words;
-use crate::{effective, fill, grants, people, roles, tree, values};
+use crate::{effective, events, fill, grants, people, roles, tokens, tree, trusts, values};
 use anyhow::{Result, bail, ensure};
 use ks_assign::Grants;
 use ks_base::Text;
 use ks_people::People;
 use ks_roles::Roles;
 use ks_tree::Tree;
+use ks_trust::Trusts;
 use std::alloc::Global;
 
-/// All tables, a text that may be a token, and the facts of ciphers that were added.
+/// How long tokens live where a script says nothing else, in seconds.
+const LIFE: u64 = 3_600;
+
+/// All tables, and a text that may be a token.
 #[derive(Drop)]
 pub struct World {
     pub alloc: Global,
@@ -18,11 +23,13 @@ pub struct World {
     pub people: People,
     pub roles: Roles,
     pub grants: Grants,
+    pub trusts: Trusts,
+    pub events: Events,
     pub text: Text,
 }
 
 impl World {
-    /// Empty tables, an empty text and no facts.
+    /// Empty tables and an empty text.
     pub fn new(alloc: Global) -> Result<World> {
         Ok(World {
             alloc,
@@ -30,6 +37,8 @@ impl World {
             people: People::new(alloc),
             roles: Roles::new(alloc),
             grants: Grants::new(alloc),
+            trusts: Trusts::new(alloc),
+            events: Events::new(alloc, LIFE),
             text: Text::of(alloc, "")?,
         })
     }
@@ -47,6 +56,9 @@ impl World {
             return Ok(said);
         }
         if let Some(said) = self.looked_up(name, words)? {
+            return Ok(said);
+        }
+        if let Some(said) = tokens::call(self, name, words)? {
             return Ok(said);
         }
         match name {
@@ -68,7 +80,13 @@ impl World {
         if let Some(said) = roles::change(alloc, &mut self.roles, name, words)? {
             return Ok(Some(said));
         }
-        grants::change(alloc, &mut self.grants, name, words)
+        if let Some(said) = grants::change(alloc, &mut self.grants, name, words)? {
+            return Ok(Some(said));
+        }
+        if let Some(said) = trusts::change(alloc, &mut self.trusts, name, words)? {
+            return Ok(Some(said));
+        }
+        events::call(alloc, &mut self.events, name, words)
     }
 
     /// What a call of this name answers, if it looks up a row or a value.
@@ -84,6 +102,9 @@ impl World {
             return Ok(Some(said));
         }
         if let Some(said) = grants::look_up(alloc, &self.grants, name, words)? {
+            return Ok(Some(said));
+        }
+        if let Some(said) = trusts::look_up(alloc, &self.trusts, name, words)? {
             return Ok(Some(said));
         }
         values::call(alloc, name, words)
