@@ -11,6 +11,3 @@ mod revoked;
 pub use fault::RevokeFault;
 pub use laws::{events_are_kept_or_past, live_events_suffice, marks_are_determined};
 pub use revoked::Revoked;
-
-#[cfg(test)]
-mod tests;

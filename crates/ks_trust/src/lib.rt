@@ -5,8 +5,6 @@ mod changes;
 mod checks;
 mod laws;
 mod lists;
-#[cfg(test)]
-mod tests;
 mod trusts;
 mod walk;
 
