@@ -1,14 +1,15 @@
 #!/bin/sh
 # Prints how long the crate ks_revoke takes to test a token that no event revokes, so that all eight things of its
 # holder are looked up: among 1,000 and among 262,144 greatest moments, on one core and as the best of several runs
-# in turn. The crate is measured from a program in a folder of its own, which goes afterwards; it is proved first, so
-# a first run takes some minutes.
+# in turn, for 64 tokens and for 1,024 that are tested over and over. Each thing of a token is drawn from those that
+# events name. The crate is measured from a program in a folder of its own, which goes afterwards; it is proved first,
+# so a first run takes some minutes.
 set -e
 . "$(dirname "$0")/program.sh"
 
 begin revoke_bench 'ks_base ks_revoke anyhow'
 cat > src/main.rt <<'END'
-//! Times 1,024,000 tests of tokens among as many greatest moments as the first word says.
+//! Times 1,024,000 tests among as many greatest moments as the first word says, of as many tokens as the second does.
 #![tactic(auto)]
 
 use ks_base::{EventRow, Holder, Id, Revoke};
@@ -17,7 +18,7 @@ use std::alloc::Global;
 use std::env;
 use std::time::CpuClock;
 
-const HOLDERS: u64 = 1024;
+const TESTS: u64 = 1_024_000;
 
 /// The n-th of at most 53,000 ids of 32 hex digits, in their order and far apart.
 fn id(n: u64) -> Option<Id> {
@@ -82,9 +83,9 @@ fn holder(n: u64, count: u64) -> Option<Holder> {
     })
 }
 
-fn holders(alloc: Global, count: u64) -> Result<Vec<Holder>, RevokeFault> {
-    let mut all = Vec::with_capacity(alloc, HOLDERS as usize)?;
-    for n in 0..HOLDERS {
+fn holders(alloc: Global, count: u64, tokens: u64) -> Result<Vec<Holder>, RevokeFault> {
+    let mut all = Vec::new(alloc);
+    for n in 0..tokens {
         if let Some(holder) = holder(n, count) {
             let _user = &holder.user;
             if all.push(holder).is_err() {
@@ -95,7 +96,7 @@ fn holders(alloc: Global, count: u64) -> Result<Vec<Holder>, RevokeFault> {
     Ok(all)
 }
 
-fn count_revoked(revoked: &Revoked, holders: &[Holder], rounds: u32) -> u64 {
+fn count_revoked(revoked: &Revoked, holders: &[Holder], rounds: u64) -> u64 {
     let mut count: u64 = 0;
     for _ in 0..rounds {
         for holder in holders {
@@ -107,22 +108,29 @@ fn count_revoked(revoked: &Revoked, holders: &[Holder], rounds: u32) -> u64 {
     count
 }
 
+/// The number that the word is, or 0.
+fn number(word: Option<String>) -> u64 {
+    match word {
+        Some(word) => word.as_str().parse::<u64>().unwrap_or(0),
+        None => 0,
+    }
+}
+
 fn main(rt: HostRuntime) -> anyhow::Result<()> {
     let alloc = rt.alloc();
     let mut args = env::args(&rt)?;
     let _program = args.next();
-    let count = match args.next() {
-        Some(word) => word.as_str().parse::<u64>().unwrap_or(0),
-        None => 0,
-    };
+    let count = number(args.next());
+    let tokens = number(args.next());
     let Ok(revoked) = filled(alloc, count) else {
         return Ok(());
     };
-    let Ok(holders) = holders(alloc, count) else {
+    let Ok(holders) = holders(alloc, count, tokens) else {
         return Ok(());
     };
+    let rounds = TESTS.checked_div(tokens).unwrap_or(0);
     let start = rt.process_cpu_time()?.as_nanos();
-    let found = count_revoked(&revoked, holders.as_slice(), 1000);
+    let found = count_revoked(&revoked, holders.as_slice(), rounds);
     let end = rt.process_cpu_time()?.as_nanos();
     println!(rt; "{start} {end} {} {} {found}", revoked.marks().len(), holders.len())?;
     Ok(())
@@ -139,22 +147,25 @@ END
 run
 program=$PWD/out/revoke_bench
 
-# time_of N: the nanoseconds of a test among N greatest moments; nothing where there are not as many, or where a token
-# is revoked.
+# time_of N TOKENS: the nanoseconds of a test among N greatest moments; nothing where there are not as many, or where a
+# token is revoked.
 time_of() {
-    $one "$program" "$1" | awk -v n="$1" '$3 == n && $4 == 1024 && $5 == 0 { printf "%.0f\n", ($2 - $1) / 1024000 }'
+    $one "$program" "$1" "$2" | awk -v n="$1" -v tokens="$2" \
+        '$3 == n && $4 == tokens && $5 == 0 { printf "%.0f\n", ($2 - $1) / 1024000 }'
 }
-for _ in 1 2 3 4 5; do
-    time_of 1000 >> few
-    time_of 262144 >> many
+for tokens in 64 1024; do
+    : > few
+    : > many
+    for _ in 1 2 3 4 5; do
+        time_of 1000 $tokens >> few
+        time_of 262144 $tokens >> many
+    done
+    if [ "$(cat few many | wc -l)" != 10 ]; then
+        echo 'revoke: an event is missing, or a token is revoked' >&2
+        exit 1
+    fi
+    echo "$tokens $(sort -n few | head -1) $(sort -n many | head -1)" | awk '{
+        printf "a test of one of %d tokens: %d ns among 1,000 greatest moments, %d ns among 262,144; ", $1, $2, $3
+        printf "%.1f times as long\n", $3 / $2
+    }'
 done
-if [ "$(cat few many | wc -l)" != 10 ]; then
-    echo 'revoke: an event is missing, or a token is revoked' >&2
-    exit 1
-fi
-few=$(sort -n few | head -1)
-many=$(sort -n many | head -1)
-echo "$few $many" | awk '{
-    printf "a test of a token: %d ns among 1,000 greatest moments, %d ns among 262,144; ", $1, $2
-    printf "%.1f times as long\n", $2 / $1
-}'
