@@ -34,12 +34,13 @@ fn closed<N: First>(turn: Turn<Journal, N>, pass: Pass<N>) -> Journal
 /// seen after the meeting and in that hold, and the journal.
 pub fn one_of_two<N: First, R: Wait>(rt: &R, alloc: Global) -> Option<(u64, u64, Journal)>
     requires { N.front ≡ no_front }
+    ensures { IfSome result (λ r. r.0 ≡ r.1) }
 {
     let (turn, pass) = opened::<N>(alloc)?;
-    let (first, second) = apart(&turn, pass);
+    let (one, other) = apart(&turn, pass);
     let mut maker = Maker::new(0, 0);
-    let second = maker.make(&turn, rt, second);
-    let pass = together(&turn, rt, first, second);
+    let other = maker.make(&turn, rt, other);
+    let pass = together(&turn, rt, one, other);
     let (met, _) = pass.front();
     let mut held = turn.hold(rt, pass);
     let found = held.value().entries.len() as u64;
