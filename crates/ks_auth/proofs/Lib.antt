@@ -3,3 +3,4 @@ pub mod OpeningLemmas
 pub mod LineLemmas
 pub mod RoleLemmas
 pub mod TimeLemmas
+pub mod RangeLemmas

@@ -75,15 +75,17 @@ all_alike : (f g : Id → Bool) (roles : List Id) → ((role : Id) → f role �
 all_alike f g [] same = refl
 all_alike f g (role ∷ roles) same = rw (same role, all_alike f g roles same) refl
 
+pub listed : (rows : Rows) (user : Id) (wanted : Target) (held : List Id) → ((role : Id) → Among held role ↔ Effective rows user wanted role) →
+    (role : Id) → list_any (λ id. same id role) held ≡ is_effective rows user wanted role
+listed rows user wanted held members role =
+    both_ways (list_any (λ id. same id role) held) (is_effective rows user wanted role)
+    (λ any. (effective-Decides rows user wanted role).1 ((members role).0 (any_from held role any)))
+    (λ is. any_to held role ((members role).1 ((effective-Decides rows user wanted role).0 is)))
+
 pub all_listed : (rows : Rows) (user : Id) (wanted : Target) (held roles : List Id) → ((role : Id) → Among held role ↔ Effective rows user wanted role) →
     list_all (λ role. list_any (λ id. same id role) held) roles ≡ list_all (is_effective rows user wanted) roles
-all_listed rows user wanted held roles members = all_alike (λ role. list_any (λ id. same id role) held) (is_effective rows user wanted) roles each
-  where
-    each : (role : Id) → list_any (λ id. same id role) held ≡ is_effective rows user wanted role
-    each role =
-        both_ways (list_any (λ id. same id role) held) (is_effective rows user wanted role)
-        (λ any. (effective-Decides rows user wanted role).1 ((members role).0 (any_from held role any)))
-        (λ is. any_to held role ((members role).1 ((effective-Decides rows user wanted role).0 is)))
+all_listed rows user wanted held roles members =
+    all_alike (λ role. list_any (λ id. same id role) held) (is_effective rows user wanted) roles (listed rows user wanted held members)
 
 -- the roles that a trust keeps are those of its first trustor
 pub kept_by : (rows : Rows) (trust : TrustRow) (first : Id) → Some first ≡ Some (first_trustor rows.trusts trust) →

@@ -17,11 +17,11 @@ use Rattle.ks_payload.specs.Readings.{payload_of}
 use Rattle.ks_ring.specs.declared.held_key.HeldKey.{HeldKey}
 use Rattle.ks_auth.specs.Lines.{token_held}
 
-ok_need : {A : Type 0} (holds : Bool) (w : Why) (f : Unit {0} → Result A Why) (a : A) → need holds w >>= f ≡ Ok a → (holds ≡ true) × (f tt ≡ Ok a)
+pub ok_need : {A : Type 0} (holds : Bool) (w : Why) (f : Unit {0} → Result A Why) (a : A) → need holds w >>= f ≡ Ok a → (holds ≡ true) × (f tt ≡ Ok a)
 ok_need true w f a is = (refl, is)
 ok_need false w f a is = cc
 
-ok_found : {A B : Type 0} (o : Option A) (w : Why) (f : A → Result B Why) (b : B) → found o w >>= f ≡ Ok b → (x : A) × (o ≡ Some x) × (f x ≡ Ok b)
+pub ok_found : {A B : Type 0} (o : Option A) (w : Why) (f : A → Result B Why) (b : B) → found o w >>= f ≡ Ok b → (x : A) × (o ≡ Some x) × (f x ≡ Ok b)
 ok_found (Some x) w f b is = (x, refl, is)
 ok_found None w f b is = cc
 

@@ -1,12 +1,14 @@
 -- What a validation answers: as the plain machine says of each state that the tables tell.
-use Rattle.std.specs.Prelude.{◌≡◌, List, Result, Ok, Err}
+use Rattle.std.specs.Prelude.{◌≡◌, List, Result, Ok, Err, IsSome}
 use Rattle.ks_base.specs.declared.memory.Memory.{Memory}
-use Rattle.ks_base.specs.Rows.{Rows}
+use Rattle.ks_base.specs.declared.users.UserRow.{UserRow}
+use Rattle.ks_base.specs.Rows.{Rows, user_of}
 use Rattle.ks_effective.specs.State.{rows_of}
 use Rattle.ks_machine.specs.Attempts.{Attempt, Go, Stop, Lacks, Keys}
 use Rattle.ks_machine.specs.States.{State}
 use Rattle.ks_machine.specs.Validity.{Valid}
 use Rattle.ks_machine.specs.declared.why.Why.{Why}
+use Rattle.ks_payload.specs.Payloads.{IsInRange}
 use Rattle.ks_revoke.specs.Histories.{Stands}
 use Rattle.ks_ring.specs.declared.held_key.HeldKey.{HeldKey}
 use Rattle.ks_auth.specs.declared.tables.Tables.{Tables}
@@ -30,3 +32,9 @@ IsVerdict lines (Ok (verdict.Valid payload issued roles)) = lines ≡ Go (record
 IsVerdict lines (Ok (verdict.Refused why)) = lines ≡ Stop why
 IsVerdict lines (Ok verdict.Needs) = (keys : List HeldKey) × (lines ≡ Lacks (Keys keys))
 IsVerdict lines (Err memory) = Unit {0}
+
+-- the payload of a valid token has a spelling, and its user stands
+abbrev pub IsOfUser : List UserRow → Verdict → Type 0
+IsOfUser users (verdict.Valid payload issued roles) = IsInRange payload × IsSome (user_of payload.user users)
+IsOfUser users (verdict.Refused why) = Unit {0}
+IsOfUser users verdict.Needs = Unit {0}

@@ -13,6 +13,8 @@ mod validity;
 mod verdict;
 
 pub use facts::Facts;
+pub use roles::{closure, is_system, roles_at};
+pub use scope::{acts_as, is_domain_on, is_project_on, is_user_on};
 pub use tables::Tables;
 pub use validity::validate;
 pub use verdict::Verdict;

@@ -3,12 +3,13 @@ ghost use Rattle.std.specs.Prelude.{◌≡◌, IfOk, IfErr};
 ghost use Rattle.ks_auth.specs.Facts.{told};
 ghost use Rattle.ks_auth.specs.Lines.{IsHeld, IsOpened, IsUnopened, first_unless, token_held};
 ghost use Rattle.ks_machine.specs.Validity.{opens};
+ghost use Rattle.ks_payload.specs.Payloads.{IsInRange};
 
 use crate::{Facts, Tables};
 use ks_base::{Bytes, Text};
 use ks_fernet::OpenAnswer;
 use ks_machine::{Why, read_payload};
-use ks_payload::Payload;
+use ks_payload::{Payload, readings};
 use ks_ring::HeldKey;
 
 /// Why a token's text gives no payload.
@@ -29,8 +30,10 @@ pub fn held(
     late: bool,
     facts: &Facts,
 ) -> Result<(Payload, u64), Halt>
-    ensures { IsHeld (token_held (told facts.now) tables.now.ring.now.held tables.now.settings.now.life moment late text.now) result }
+    ensures lines { IsHeld (token_held (told facts.now) tables.now.ring.now.held tables.now.settings.now.life moment late text.now) result }
+    ensures range { IfOk result (λ found. IsInRange found.0) }
 {
+    readings();
     let (issued, plain) = opening(facts, tables.ring.held(), text)?;
     match read_payload(tables.settings.life, moment, late, issued, plain.as_slice()) {
         Ok(payload) => Ok((payload, issued)),

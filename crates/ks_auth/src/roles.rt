@@ -47,7 +47,7 @@ fn trust_roles(alloc: Global, tables: &Tables, id: &Id) -> Result<IdList, Memory
 }
 
 /// The roles that these imply, themselves included.
-fn closure(tables: &Tables, roles: &IdList) -> Result<IdList, Memory>
+pub fn closure(tables: &Tables, roles: &IdList) -> Result<IdList, Memory>
     ensures { IfOk result (λ ids. ids ≡ closure (rows_told tables.now) roles.now) }
 {
     roles_are_implied();
@@ -110,14 +110,19 @@ fn have_all(held: &[Id], roles: &[Id]) -> bool
 }
 
 /// Whether the token is for the whole system.
-fn is_system(payload: &Payload) -> bool
+pub fn is_system(payload: &Payload) -> bool
     ensures { result ≡ is_system payload.now }
 {
     payload.kind == SYSTEM
 }
 
 /// The roles that are effective for the user at the target.
-fn roles_at(alloc: Global, tables: &Tables, user: &Id, target: &Target) -> Result<IdList, Memory>
+pub fn roles_at(
+    alloc: Global,
+    tables: &Tables,
+    user: &Id,
+    target: &Target,
+) -> Result<IdList, Memory>
     ensures list { IfOk result (λ ids. ids ≡ roles_at (rows_told tables.now) user.now target.now) }
     ensures members { IfOk result (λ ids. (role : List ℕ) → Among ids role ↔ Effective (rows_told tables.now) user.now target.now role) }
 {

@@ -36,7 +36,8 @@ pub fn is_scope_on(tables: &Tables, payload: &Payload) -> bool
     is_domain && is_project && payload.credential.is_none()
 }
 
-fn is_domain_on(tables: &Tables, id: &Id) -> bool
+/// Whether the domain stands and is enabled.
+pub fn is_domain_on(tables: &Tables, id: &Id) -> bool
     ensures { result ≡ is_domain_on (rows_told tables.now) id.now }
 {
     match tables.tree.domain(id) {
@@ -45,7 +46,8 @@ fn is_domain_on(tables: &Tables, id: &Id) -> bool
     }
 }
 
-fn is_project_on(tables: &Tables, id: &Id) -> bool
+/// Whether the project stands and is enabled, in a domain that is enabled.
+pub fn is_project_on(tables: &Tables, id: &Id) -> bool
     ensures { result ≡ is_project_on (rows_told tables.now) id.now }
 {
     match tables.tree.project(id) {
@@ -102,7 +104,7 @@ fn is_first_on(tables: &Tables, id: &Id, trust: &TrustRow) -> bool
 }
 
 /// Whose a token of the trust is.
-fn acts_as(trust: &TrustRow) -> &Id
+pub fn acts_as(trust: &TrustRow) -> &Id
     ensures { result.now ≡ acts_as trust.now }
 {
     if trust.impersonation {

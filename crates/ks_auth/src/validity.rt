@@ -1,11 +1,12 @@
-ghost use Rattle.std.specs.Prelude.{◌≡◌, ◌<◌, ◌≤◌, ◌+◌, ℕ, List};
-ghost use Rattle.ks_auth.specs.Answers.{IsVerdict, Tells, rows_told};
+ghost use Rattle.std.specs.Prelude.{◌≡◌, ◌<◌, ◌≤◌, ◌+◌, ℕ, List, IfOk};
+ghost use Rattle.ks_auth.specs.Answers.{IsOfUser, IsVerdict, Tells, rows_told};
 ghost use Rattle.ks_auth.specs.Facts.{told};
 ghost use Rattle.ks_auth.specs.Lines.{row_lines};
 ghost use Rattle.ks_base.specs.declared.events.EventRow.{EventRow};
 ghost use Rattle.ks_base.specs.Revocation.{window};
 ghost use Rattle.ks_machine.specs.States.{State};
 ghost use Rattle.ks_machine.specs.Validity.{validity};
+ghost use Rattle.ks_payload.specs.Payloads.{IsInRange};
 ghost use Rattle.ks_revoke.specs.Histories.{Stands};
 
 use crate::holder::holder;
@@ -32,7 +33,8 @@ pub fn validate(
 ) -> Result<Verdict, Memory>
     requires moment { tables.now.revoked.now.high ≤ moment }
     requires life { tables.now.revoked.now.life ≡ tables.now.settings.now.life }
-    ensures { (S : State) → Tells tables.now S → IsVerdict (validity (told facts.now) S moment late text.now) result }
+    ensures verdict { (S : State) → Tells tables.now S → IsVerdict (validity (told facts.now) S moment late text.now) result }
+    ensures user { IfOk result (λ verdict. IsOfUser tables.now.people.now.users verdict) }
 {
     match held(tables, moment, text, late, facts) {
         Ok((payload, issued)) => judge(alloc, tables, moment, payload, issued),
@@ -50,8 +52,10 @@ fn judge(
     payload: Payload,
     issued: u64,
 ) -> Result<Verdict, Memory>
-    requires { tables.now.revoked.now.high < issued + tables.now.revoked.now.life + window }
-    ensures { (events : List EventRow) → Stands tables.now.revoked.now (record { life = tables.now.revoked.now.life; high = tables.now.revoked.now.high; events = events }) → IsVerdict (row_lines (rows_told tables.now) events moment payload issued) result }
+    requires time { tables.now.revoked.now.high < issued + tables.now.revoked.now.life + window }
+    requires range { IsInRange payload }
+    ensures verdict { (events : List EventRow) → Stands tables.now.revoked.now (record { life = tables.now.revoked.now.life; high = tables.now.revoked.now.high; events = events }) → IsVerdict (row_lines (rows_told tables.now) events moment payload issued) result }
+    ensures user { IfOk result (λ verdict. IsOfUser tables.now.people.now.users verdict) }
 {
     if tables.revoked.test(&holder(tables, &payload), issued) {
         return Ok(Verdict::Refused(Why::Revoked));
