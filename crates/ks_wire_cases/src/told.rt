@@ -77,7 +77,7 @@ fn trust_use() -> Result<TrustUse> {
 
 /// What a token is for.
 #[derive(Drop)]
-struct Scope {
+struct TokenScope {
     project: Option<Homed>,
     domain: Option<Titled>,
     trust: Option<TrustUse>,
@@ -85,9 +85,9 @@ struct Scope {
     system: bool,
 }
 
-/// The scope of this name.
-fn scope(alloc: Global, name: &str) -> Result<Scope> {
-    let mut made = Scope {
+/// The scope of a token of this name.
+fn scope_named(alloc: Global, name: &str) -> Result<TokenScope> {
+    let mut made = TokenScope {
         project: None,
         domain: None,
         trust: None,
@@ -115,13 +115,13 @@ fn token(alloc: Global, name: &str) -> Result<TokenOut>
     let chained = name == "chain";
     let chain = if chained { Some(CHAIN) } else { None };
     let methods = if chained { 15 } else { 1 };
-    let Scope {
+    let TokenScope {
         project,
         domain,
         trust,
         roles,
         system,
-    } = scope(alloc, name)?;
+    } = scope_named(alloc, name)?;
     Ok(TokenOut {
         text: Text::of(alloc, "gAAAAA")?,
         made: name == "made",
