@@ -1,0 +1,6 @@
+pub mod DropLemmas
+pub mod IdLemmas
+pub mod MakeLemmas
+pub mod ReplyLemmas
+pub mod StandLemmas
+pub mod TrustLemmas

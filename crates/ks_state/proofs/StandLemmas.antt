@@ -1,0 +1,155 @@
+-- What a moment and a change make of a front is what they make of an identity that stands for it.
+use Rattle.std.proofs.Common.{◌≡◌, ℕ, zero, suc, ◌+◌, ◌-◌, ◌<◌, ◌≤◌, ◌^◌, ◌==◌, ◌||◌, nat_le, Bool, true, false, cond, List, [], ◌∷◌, ◌++◌, length, take, drop, map, filter, Option, Some, None, refl, sym, ap, subst, ◌∙◌, arith, append_assoc, append-nil, length-append}
+use Rattle.std.proofs.lemmas.Bool.{ne_eqb}
+use Rattle.std.proofs.lemmas.List.{take-append-drop}
+use Rattle.ks_base.specs.declared.events.EventRow.{EventRow}
+use Rattle.ks_base.specs.declared.events.Revoke.{Revoke}
+use Rattle.ks_base.specs.declared.kinds.Kind.TheVariants as kind
+use Rattle.ks_base.specs.declared.limits.TheConstants.{EVENTS}
+use Rattle.ks_base.specs.Revocation.{live}
+use Rattle.ks_machine.specs.declared.cause.Cause.TheVariants as cause
+use Rattle.ks_machine.specs.declared.change.Change.{Change}
+use Rattle.ks_machine.specs.declared.change.Change.TheVariants as change
+use Rattle.ks_machine.specs.declared.change.Entry.{Entry}
+use Rattle.ks_machine.specs.Attempts.{Attempt, Go, Stop}
+use Rattle.ks_machine.specs.Changes.{apply, ended_by, events_at, ring_after, rows_after}
+use Rattle.ks_machine.specs.Fronts.{Front, replay, replayed, then}
+use Rattle.ks_machine.specs.Lawful.{AreLawful, Fits, IsLawful}
+use Rattle.ks_machine.specs.Moment.{last_moment}
+use Rattle.ks_machine.specs.Opened.{opened_state}
+use Rattle.ks_machine.specs.Room.{has_event_room, room_for}
+use Rattle.ks_machine.specs.States.{State}
+use Rattle.ks_machine.proofs.FrontLemmas.{changes_are_replayed}
+use Rattle.ks_revoke.proofs.LiveLemmas.{live_again, live_push}
+use Rattle.ks_state.specs.Logs.{is_room, newest_most, newest_with}
+use Rattle.ks_state.specs.Shown.{Shown, changed, has_room, raised_to}
+use Rattle.ks_state.specs.Standing.{AreNewest, Stands, with_live}
+
+-- revocations at the moment itself are live
+live_with : (life moment : ℕ) (things : List Revoke) (events : List EventRow) →
+    live life moment (events ++ events_at moment things) ≡ live life moment events ++ events_at moment things
+live_with life moment [] events =
+    ap (live life moment) (append-nil events) ∙ sym (append-nil (live life moment events))
+live_with life moment (thing ∷ things) events =
+    let row : EventRow = record { what = thing; moment = moment } in
+    ap (live life moment) (sym (append_assoc events (row ∷ []) (events_at moment things)))
+    ∙ live_with life moment things (events ++ row ∷ [])
+    ∙ ap (λ (rows : List EventRow). rows ++ events_at moment things) (live_push life moment events row refl)
+    ∙ append_assoc (live life moment events) (row ∷ []) (events_at moment things)
+
+-- the live ones of a state that is changed, or at a higher moment
+pub live_applied : (S : State) (what : Change) → with_live (apply S S.high what) ≡ apply (with_live S) S.high what
+unfolding apply ring_after
+live_applied S what =
+    ap {A = List EventRow} (λ events. record (apply S S.high what) { events = events }) (live_with S.settings.life S.high (ended_by S.rows what) S.events)
+
+pub live_raised : (S : State) (moment : ℕ) → S.high ≤ moment →
+    record (with_live S) { events = live S.settings.life moment (with_live S).events; high = moment } ≡ with_live (record S { high = moment })
+live_raised S moment le =
+    ap {A = List EventRow} (λ events. record S { events = events; high = moment }) (live_again S.settings.life S.high moment S.events le)
+
+-- each change is counted
+made_after : (S : State) (entries : List Entry) → (replayed S entries).made ≡ S.made + length entries
+unfolding replayed apply
+made_after S [] = omega arith
+made_after S (entry ∷ entries) = omega (arith, made_after (apply S entry.moment entry.change) entries)
+
+pub made_is : (f : Front) → (replay f).made ≡ length f.changes
+unfolding replay opened_state
+made_is f = omega (arith, made_after (opened_state f.opening) f.changes)
+
+-- the newest changes
+
+not_empty : {X : Type 0} (xs : List X) (x : X) → xs ++ x ∷ [] ≡ [] → ⊥
+not_empty [] x e = cc
+not_empty (y ∷ xs) x e = cc
+
+pub newest_after : (newest changes : List Entry) (entry : Entry) → AreNewest newest changes → AreNewest (newest_with entry newest) (changes ++ entry ∷ [])
+newest_after newest changes entry are =
+    let gone = length newest + 1 - newest_most in record {
+      older = are.older ++ take gone newest;
+      last = ap (λ (all : List Entry). all ++ entry ∷ []) (are.last ∙ ap (λ (tail : List Entry). are.older ++ tail) (sym (take-append-drop gone newest)) ∙ sym (append_assoc are.older (take gone newest) (drop gone newest)))
+          ∙ append_assoc (are.older ++ take gone newest) (drop gone newest) (entry ∷ []);
+      some = λ empty. absurd (not_empty (drop gone newest) entry empty);
+    }
+
+-- lawful fronts
+
+lawful_higher : (S : State) (last : ℕ) (entries : List Entry) (low high : ℕ) → low ≤ high → AreLawful S last entries low → AreLawful S last entries high
+unfolding AreLawful
+lawful_higher S last [] low high le h = omega (arith, le, h)
+lawful_higher S last (entry ∷ entries) low high le h =
+    (h.0, h.1, h.2, h.3, lawful_higher (apply S entry.moment entry.change) entry.moment entries low high le h.4)
+
+pub lawful_raised : (f : Front) (moment : ℕ) → f.high ≤ moment → moment ≤ last_moment → IsLawful f → IsLawful (record f { high = moment })
+lawful_raised f moment le last lawful = record {
+  range = lawful.range;
+  accepted = lawful.accepted;
+  changes = lawful_higher (opened_state f.opening) 0 f.changes f.high moment le lawful.changes;
+  high = last;
+  count = lawful.count;
+}
+
+last_fits : (S : State) (last : ℕ) (entries : List Entry) (entry : Entry) (high : ℕ) → AreLawful S last (entries ++ entry ∷ []) high →
+    Fits (replayed S entries) entry.moment entry.change
+unfolding AreLawful replayed
+last_fits S last [] entry high h = h.2
+last_fits S last (next ∷ entries) entry high h = last_fits (apply S next.moment next.change) next.moment entries entry high h.4
+
+-- a change that fits a state fits it with other revocations and at another highest moment
+fits_apart : (S : State) (events : List EventRow) (high moment : ℕ) (what : Change) → Fits S moment what →
+    Fits (record S { events = events; high = high }) moment what
+unfolding Fits
+fits_apart S events high moment what fits = fits
+
+pub fits_in : (f : Front) (moment : ℕ) (what : Change) → IsLawful (then f moment (Some what)) → Fits (with_live (record (replay f) { high = moment })) moment what
+unfolding replay
+fits_in f moment what lawful =
+    let S = replayed (opened_state f.opening) f.changes in
+    fits_apart S (live S.settings.life moment S.events) moment moment what
+    (last_fits (opened_state f.opening) 0 f.changes (record { number = length f.changes; moment = moment; change = what }) moment lawful.changes)
+
+-- room
+
+some_is : (n : ℕ) → (suc n == 0) ≡ false
+some_is n = ne_eqb (suc n) 0 (λ e. absurd (omega (arith, e)))
+
+room_is : (S : State) (moment : ℕ) (things : List Revoke) → has_event_room S moment things ≡ is_room (live S.settings.life moment S.events) (length things)
+room_is S moment [] = refl
+room_is S moment (thing ∷ things) =
+    ap (λ b. b || nat_le (length (live S.settings.life moment S.events) + length (thing ∷ things)) EVENTS) (sym (some_is (length things)))
+
+pub room_there : (S : State) (what : Change) → is_room (with_live S).events (length (ended_by S.rows what)) ≡ true → room_for S S.high (Some what) ≡ Go tt
+unfolding room_for
+room_there S what is = rw (room_is S S.high (ended_by S.rows what) ∙ is) refl
+
+pub room_lacks : (S : State) (what : Change) → is_room (with_live S).events (length (ended_by S.rows what)) ≡ false →
+    room_for S S.high (Some what) ≡ Stop (cause.Full kind.Event)
+unfolding room_for
+room_lacks S what is = rw (room_is S S.high (ended_by S.rows what) ∙ is) refl
+
+-- what an identity stands for
+
+pub raised_stands : (shown : Shown) (f : Front) (moment : ℕ) → f.high ≤ moment → moment ≤ last_moment → Stands shown f →
+    Stands (raised_to moment shown) (then f moment None)
+unfolding replay
+raised_stands shown f moment le last stands = record {
+  state = ap (λ (S : State). record S { events = live S.settings.life moment S.events; high = moment }) stands.state ∙ live_raised (replay f) moment le;
+  newest = stands.newest;
+  lawful = lawful_raised f moment le last stands.lawful;
+}
+
+pub high_is : (shown : Shown) (f : Front) → Stands shown f → shown.state.high ≡ f.high
+unfolding replay
+high_is shown f stands = ap (λ (S : State). S.high) stands.state
+
+pub changed_stands : (shown : Shown) (f : Front) (what : Change) → Stands shown f → IsLawful (then f f.high (Some what)) →
+    Stands (changed what shown) (then f f.high (Some what))
+unfolding replay
+changed_stands shown f what stands lawful =
+    let high : shown.state.high ≡ f.high = high_is shown f stands in
+    let made : shown.state.made ≡ length f.changes = ap (λ (S : State). S.made) stands.state ∙ made_is f in record {
+      state = ap (λ (S : State). apply S S.high what) stands.state ∙ sym (live_applied (replay f) what) ∙ ap with_live (sym (changes_are_replayed f f.high what));
+      newest = rw (made, high) (newest_after shown.newest f.changes (record { number = length f.changes; moment = f.high; change = what }) stands.newest);
+      lawful = lawful;
+    }

@@ -1,0 +1,33 @@
+use Rattle.std.proofs.Common.{◌≡◌, ◌<◌, ◌^◌, true, List, length, refl, sym, ap, subst, ◌∙◌}
+use Rattle.ks_base.specs.declared.events.Revoke.{Revoke}
+use Rattle.ks_base.specs.declared.trusts.TrustRow.{TrustRow}
+use Rattle.ks_base.specs.Rows.{Id}
+use Rattle.ks_machine.specs.declared.change.Change.TheVariants as change
+use Rattle.ks_machine.specs.Changes.{ended_by, ring_after, trusts_after}
+use Rattle.ks_trust.specs.State.{without_trusts}
+use Rattle.ks_state.specs.Logs.{is_room}
+use Rattle.ks_state.specs.Shown.{HasRoom, Shown, changed, rows_in}
+use Rattle.ks_state.proofs.MakeLemmas.{domain_rows, grants_dropped, made, parts, people_dropped}
+use Rattle.ks_state.proofs.identity.Identity.drop_domain.Goals as goal
+
+pub returns : goal.returns
+unfolding ring_after
+returns c =
+    let i = c.self.inside in
+    let gone = c.in_ok-rows.rows.domain in
+    let same = c.in_ok-rows.ensures.domain in
+    let what = change.DropDomain c.args.id in
+    let before = rows_in i.tree i.people i.roles i.grants i.trusts in
+    let left = rows_in c.drop_domain.new.self c.drop_people.new.people i.roles c.drop_grants.new.grants c.drop_all.new.self in
+    let things = c.as_slice-2.ensures ∙ c.in_ok-gone.ensures.things ∙ ap (λ (v : Shown). ended_by v.state.rows (change.DropDomain gone)) (sym c.self.view_is)
+    ∙ ap (λ (d : Id). ended_by before (change.DropDomain d)) same in
+    let trusts = c.drop_all.ensures ∙ ap (λ (v : Shown). without_trusts c.in_ok-gone.gone.ids v.state.rows.trusts) c.self.view_is ∙ c.in_ok-gone.ensures.left
+    ∙ ap (λ (v : Shown). trusts_after v.state.rows (change.DropDomain gone)) (sym c.self.view_is) ∙ ap (λ (d : Id). trusts_after before (change.DropDomain d)) same in
+    let grants = c.drop_grants.ensures ∙ ap (λ (d : Id). grants_dropped d i.tree i.people i.grants) same in
+    let people = c.drop_people.ensures ∙ ap (λ (d : Id). people_dropped d i.people) same in
+    let room = subst (λ (l : List Revoke). is_room i.log.revoked.events (length l) ≡ true) (c.as_slice.ensures ∙ sym c.as_slice-2.ensures) c.in_ok-ready.ensures.free in
+    subst (λ (v : Shown). HasRoom v what × (parts i.settings i.rules i.ring left c.write.new.self ≡ changed what v)) c.self.view_is
+    (made i.settings i.rules i.ring before left i.log c.ready.new.self c.write.new.self c.as_slice-2.result.now what c.in_ok-ready.ensures.same c.write.ensures things
+    (domain_rows i.tree c.drop_domain.new.self i.people c.drop_people.new.people i.roles i.grants c.drop_grants.new.grants i.trusts c.drop_all.new.self c.args.id
+    c.in-Ok.ensures.decides.1 people grants trusts)
+    refl room c.in_ok-ready.ensures.place.1)

@@ -1,0 +1,82 @@
+-- What contracts see of an identity, and what a change makes of it.
+use Rattle.std.specs.Prelude.{◌≡◌, ℕ, ◌<◌, ◌^◌, Bool, true, false, List, [], ◌∷◌, length, Option, Some, None, Result, Ok, Err}
+use Rattle.ks_base.specs.declared.grants.GrantRow.{GrantRow}
+use Rattle.ks_base.specs.declared.rows.ProjectRow.{ProjectRow}
+use Rattle.ks_base.specs.declared.trusts.TrustRow.{TrustRow}
+use Rattle.ks_base.specs.People.{PeopleState}
+use Rattle.ks_base.specs.Revocation.{live}
+use Rattle.ks_base.specs.RoleLists.{RolesState}
+use Rattle.ks_base.specs.Rows.{Rows}
+use Rattle.ks_base.specs.Trees.{TreeState}
+use Rattle.ks_machine.specs.declared.change.Change.{Change}
+use Rattle.ks_machine.specs.declared.change.Entry.{Entry}
+use Rattle.ks_machine.specs.Changes.{apply, ended_by}
+use Rattle.ks_machine.specs.Lawful.{Fits}
+use Rattle.ks_machine.specs.States.{State}
+use Rattle.ks_state.specs.Logs.{is_room, newest_with}
+use Rattle.ks_state.specs.declared.unmade.Unmade.{Unmade}
+use Rattle.ks_state.specs.declared.unmade.Unmade.TheVariants as unmade
+
+pub record Shown : Type 0 where
+  -- the state, whose revocations are the live ones alone
+  pub state : State
+  -- the newest changes, in the order in which they were made
+  pub newest : List Entry
+
+-- the rows of the tables
+abbrev pub rows_in : TreeState → PeopleState → RolesState → List GrantRow → List TrustRow → Rows
+rows_in tree people roles grants trusts = record {
+  domains = tree.domains;
+  projects = tree.projects;
+  users = people.users;
+  groups = people.groups;
+  members = people.members;
+  roles = roles.roles;
+  implications = roles.implications;
+  grants = grants;
+  trusts = trusts;
+}
+
+-- the tree and the people of an identity
+abbrev pub tree_in : Shown → TreeState
+tree_in shown = record { domains = shown.state.rows.domains; projects = shown.state.rows.projects }
+
+abbrev pub people_in : Shown → PeopleState
+people_in shown = record { users = shown.state.rows.users; groups = shown.state.rows.groups; members = shown.state.rows.members }
+
+-- a project that stands keeps its domain and its parent
+abbrev pub KeepsHome : ProjectRow → Option ProjectRow → Type 0
+KeepsHome row None = Unit {0}
+KeepsHome row (Some standing) = (row.domain ≡ standing.domain) × (row.parent ≡ standing.parent)
+
+-- at a higher moment, with the revocations that are live then
+abbrev pub raised_to : ℕ → Shown → Shown
+raised_to moment shown = record {
+  state = record shown.state { events = live shown.state.settings.life moment shown.state.events; high = moment };
+  newest = shown.newest;
+}
+
+-- the state is the changed one, and the change stands among the newest
+abbrev pub changed : Change → Shown → Shown
+changed change shown = record {
+  state = apply shown.state shown.state.high change;
+  newest = newest_with (record { number = shown.state.made; moment = shown.state.high; change = change }) shown.newest;
+}
+
+-- there is room for the revocations of a change among the live ones
+abbrev pub has_room : Shown → Change → Bool
+has_room shown change = is_room shown.state.events (length (ended_by shown.state.rows change))
+
+-- there is room for them, and for a change more
+abbrev pub HasRoom : Shown → Change → Type 0
+HasRoom shown change = (has_room shown change ≡ true) × (shown.state.made < 2 ^ 58)
+
+-- a change that finds room fits the state, at its highest moment
+abbrev pub FitsWithRoom : Shown → Change → Type 0
+FitsWithRoom shown change = HasRoom shown change → Fits shown.state shown.state.high change
+
+-- a change is made; or there is no room for its revocations, or no memory, and then nothing changes
+abbrev pub Makes : Shown → Change → Result (Unit {0}) Unmade → Shown → Type 0
+Makes old change (Ok done) new = HasRoom old change × (new ≡ changed change old)
+Makes old change (Err unmade.Full) new = (has_room old change ≡ false) × (new ≡ old)
+Makes old change (Err unmade.Memory) new = new ≡ old

@@ -1,0 +1,27 @@
+-- For which fronts an identity stands.
+use Rattle.std.specs.Prelude.{◌≡◌, ℕ, List, [], ◌++◌}
+use Rattle.ks_base.specs.Revocation.{live}
+use Rattle.ks_machine.specs.declared.change.Entry.{Entry}
+use Rattle.ks_machine.specs.Fronts.{Front, replay}
+use Rattle.ks_machine.specs.Lawful.{IsLawful}
+use Rattle.ks_machine.specs.States.{State}
+use Rattle.ks_state.specs.Shown.{Shown}
+
+-- the state with the live ones of its revocations alone
+abbrev pub with_live : State → State
+with_live S = record S { events = live S.settings.life S.high S.events }
+
+-- the last of all changes, and at least one where there is one
+pub record AreNewest (newest changes : List Entry) : Type 0 where
+  pub older : List Entry
+  pub last : changes ≡ older ++ newest
+  pub some : newest ≡ [] → changes ≡ []
+
+-- an identity stands for a front
+pub record Stands (shown : Shown) (f : Front) : Type 0 where
+  -- its state is that of the front, with the live revocations alone
+  pub state : shown.state ≡ with_live (replay f)
+  -- its changes are the newest of the front
+  pub newest : AreNewest shown.newest f.changes
+  -- and the front is one that calls can reach
+  pub lawful : IsLawful f

@@ -1,0 +1,83 @@
+ghost use Rattle.std.specs.Prelude.{◌≡◌, ◌≤◌, IfOk};
+ghost use Rattle.ks_state.specs.Shown.{raised_to};
+
+use crate::log::Log;
+use ks_assign::Grants;
+use ks_base::{EventList, Memory};
+use ks_machine::Settings;
+use ks_people::People;
+use ks_policy::Rules;
+use ks_ring::Ring;
+use ks_roles::Roles;
+use ks_tree::Tree;
+use ks_trust::Trusts;
+use std::alloc::Global;
+use std::marker::Model;
+
+/// The identity of a server. Contracts see the machine's state, whose revocations are the live ones alone, and the newest
+/// changes: at most 65,536.
+#[derive(Drop)]
+pub struct Identity {
+    pub(crate) alloc: Global,
+    pub(crate) settings: Settings,
+    pub(crate) rules: Rules,
+    pub(crate) ring: Ring,
+    pub(crate) tree: Tree,
+    pub(crate) people: People,
+    pub(crate) roles: Roles,
+    pub(crate) grants: Grants,
+    pub(crate) trusts: Trusts,
+    pub(crate) log: Log,
+}
+
+impl Model for Identity {
+    ghost use Rattle.std.specs.Prelude.{◌≡◌};
+    ghost use Rattle.std.specs.Coded.{codes};
+    ghost use Rattle.ks_rule.specs.TreeCodes.{tree_code};
+    ghost use Rattle.ks_machine.specs.Ranges.{IsSettings};
+    ghost use Rattle.ks_state.specs.Shown.{Shown, rows_in};
+
+    ghost Value = { Shown };
+
+    ghost coded = { Prim.hlevel (codes, tree_code) };
+
+    ghost view = { λ i. record {
+      state = record {
+        settings = i.settings;
+        rules = i.rules;
+        ring = i.ring;
+        rows = rows_in i.tree i.people i.roles i.grants i.trusts;
+        events = i.log.revoked.events;
+        high = i.log.revoked.high;
+        made = i.log.made;
+      };
+      newest = i.log.newest;
+    } };
+
+    ghost invariant = { λ i. (i.log.revoked.life ≡ i.settings.life) × IsSettings i.settings };
+}
+
+impl Identity {
+    /// How many changes were made, and the highest moment.
+    pub fn front(&self) -> (u64, u64)
+        ensures changes { result.0 ≡ self.now.state.made }
+        ensures moment { result.1 ≡ self.now.state.high }
+    {
+        (self.log.made(), self.log.high())
+    }
+
+    /// The live revocations, in the order in which they were written.
+    pub fn kept_events(&self) -> Result<EventList, Memory>
+        ensures { IfOk result (λ events. events ≡ self.now.state.events) }
+    {
+        self.log.revoked().kept()
+    }
+
+    /// Raises the highest moment to this one, and lets the revocations that are past then go. It takes no memory.
+    pub(crate) fn raise(&mut self, moment: u64)
+        requires { self.old.state.high ≤ moment }
+        ensures { self.new ≡ raised_to moment self.old }
+    {
+        self.log.raise(moment);
+    }
+}

@@ -1,0 +1,20 @@
+//! The identity of a server: its tables, its keys and rules, what was revoked, and its newest changes. It stands for all
+//! that happened since it was opened.
+#![tactic(auto)]
+
+mod domain_gone;
+mod domain_rows;
+mod drops;
+mod ended;
+mod gone;
+mod identity;
+mod ids;
+mod links;
+mod log;
+mod make;
+mod puts;
+mod trusts_gone;
+mod unmade;
+mod uses;
+
+pub use identity::Identity;
