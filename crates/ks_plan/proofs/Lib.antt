@@ -1,0 +1,9 @@
+pub mod FreshNeeds
+pub mod Halts
+pub mod IdTexts
+pub mod LiveEvents
+pub mod MemberLists
+pub mod NoIds
+pub mod Passed
+pub mod RandomIds
+pub mod Unrefused

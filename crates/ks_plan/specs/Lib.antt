@@ -1,0 +1,4 @@
+pub mod ByIds
+pub mod Checked
+pub mod Plans
+pub mod Strangers

@@ -1,0 +1,124 @@
+//! Refusals of tables as causes, and rows that must stand.
+ghost use Rattle.std.specs.Prelude.{◌≡◌, Some, Ok, Err};
+ghost use Rattle.ks_base.specs.Refusals.{fault_in};
+ghost use Rattle.ks_auth.specs.Answers.{rows_told};
+ghost use Rattle.ks_machine.specs.Attempts.{need};
+ghost use Rattle.ks_machine.specs.Tables.{standing_domain, standing_group, standing_project, standing_role, standing_user, unless_row, unless_tree};
+ghost use Rattle.ks_plan.specs.Plans.{Gives, Passes};
+
+use crate::Halt;
+use ks_auth::Tables;
+use ks_base::{DomainRow, GroupRow, Id, Kind, ProjectRow, RoleRow, RowFault, TreeFault, UserRow};
+use ks_machine::Cause;
+
+/// Goes on, unless the tree refuses.
+pub fn tree(checked: Result<(), TreeFault>) -> Result<(), Halt>
+    ensures { Passes result (unless_tree (fault_in checked)) }
+{
+    match &checked {
+        Ok(()) => Ok(()),
+        Err(fault) => Err(tree_halt(fault)),
+    }
+}
+
+fn tree_halt(fault: &TreeFault) -> Halt
+    ensures { Passes (Err result) (unless_tree (Some fault.now)) }
+{
+    match fault {
+        TreeFault::Memory => Halt::Memory,
+        TreeFault::Absent(kind, id) => Halt::Refused(Cause::Absent(*kind, *id)),
+        TreeFault::NameTaken(id) => Halt::Refused(Cause::NameTaken(*id)),
+        TreeFault::Full(kind) => Halt::Refused(Cause::Full(*kind)),
+        TreeFault::IdTaken(id) => Halt::Refused(Cause::IdTaken(*id)),
+        TreeFault::NoParent(id) => Halt::Refused(Cause::Tree(TreeFault::NoParent(*id))),
+        TreeFault::TooDeep => Halt::Refused(Cause::Tree(TreeFault::TooDeep)),
+        TreeFault::HasChildren(id) => Halt::Refused(Cause::Tree(TreeFault::HasChildren(*id))),
+        TreeFault::EnabledBelow(id) => Halt::Refused(Cause::Tree(TreeFault::EnabledBelow(*id))),
+        TreeFault::DisabledAbove(id) => Halt::Refused(Cause::Tree(TreeFault::DisabledAbove(*id))),
+        TreeFault::DomainEnabled => Halt::Refused(Cause::Tree(TreeFault::DomainEnabled)),
+    }
+}
+
+/// Goes on, unless a table of rows refuses.
+pub fn row(checked: Result<(), RowFault>) -> Result<(), Halt>
+    ensures { Passes result (unless_row (fault_in checked)) }
+{
+    match &checked {
+        Ok(()) => Ok(()),
+        Err(fault) => Err(row_halt(fault)),
+    }
+}
+
+fn row_halt(fault: &RowFault) -> Halt
+    ensures { Passes (Err result) (unless_row (Some fault.now)) }
+{
+    match fault {
+        RowFault::Memory => Halt::Memory,
+        RowFault::Absent(kind, id) => Halt::Refused(Cause::Absent(*kind, *id)),
+        RowFault::Prohibited => Halt::Refused(Cause::Prohibited),
+        RowFault::NameTaken(id) => Halt::Refused(Cause::NameTaken(*id)),
+        RowFault::Full(kind) => Halt::Refused(Cause::Full(*kind)),
+        RowFault::IdTaken(id) => Halt::Refused(Cause::IdTaken(*id)),
+    }
+}
+
+/// Goes on where this holds.
+pub fn need(holds: bool, cause: Cause) -> Result<(), Halt>
+    ensures { Passes result (need holds cause) }
+{
+    if holds {
+        Ok(())
+    } else {
+        Err(Halt::Refused(cause))
+    }
+}
+
+/// The domain with this id, which must stand.
+pub fn standing_domain<'a>(tables: &Tables<'a>, id: &Id) -> Result<&'a DomainRow, Halt>
+    ensures { Gives (λ row. row.now) result (standing_domain (rows_told tables.now) id.now) }
+{
+    match tables.tree.domain(id) {
+        Some(row) => Ok(row),
+        None => Err(Halt::Refused(Cause::Absent(Kind::Domain, *id))),
+    }
+}
+
+/// The project with this id, which must stand.
+pub fn standing_project<'a>(tables: &Tables<'a>, id: &Id) -> Result<&'a ProjectRow, Halt>
+    ensures { Gives (λ row. row.now) result (standing_project (rows_told tables.now) id.now) }
+{
+    match tables.tree.project(id) {
+        Some(row) => Ok(row),
+        None => Err(Halt::Refused(Cause::Absent(Kind::Project, *id))),
+    }
+}
+
+/// The user with this id, which must stand.
+pub fn standing_user<'a>(tables: &Tables<'a>, id: &Id) -> Result<&'a UserRow, Halt>
+    ensures { Gives (λ row. row.now) result (standing_user (rows_told tables.now) id.now) }
+{
+    match tables.people.user(id) {
+        Some(row) => Ok(row),
+        None => Err(Halt::Refused(Cause::Absent(Kind::User, *id))),
+    }
+}
+
+/// The group with this id, which must stand.
+pub fn standing_group<'a>(tables: &Tables<'a>, id: &Id) -> Result<&'a GroupRow, Halt>
+    ensures { Gives (λ row. row.now) result (standing_group (rows_told tables.now) id.now) }
+{
+    match tables.people.group(id) {
+        Some(row) => Ok(row),
+        None => Err(Halt::Refused(Cause::Absent(Kind::Group, *id))),
+    }
+}
+
+/// The role with this id, which must stand.
+pub fn standing_role<'a>(tables: &Tables<'a>, id: &Id) -> Result<&'a RoleRow, Halt>
+    ensures { Gives (λ row. row.now) result (standing_role (rows_told tables.now) id.now) }
+{
+    match tables.roles.role(id) {
+        Some(row) => Ok(row),
+        None => Err(Halt::Refused(Cause::Absent(Kind::Role, *id))),
+    }
+}
