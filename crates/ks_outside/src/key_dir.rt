@@ -1,4 +1,4 @@
-ghost use Rattle.std.specs.Prelude.{◌≡◌, ◌≤◌, ℕ, List, Some, length, IfOk, IfSome};
+ghost use Rattle.std.specs.Prelude.{◌≡◌, ◌≤◌, ℕ, List, Some, None, length, IfOk, IfSome};
 ghost use Rattle.ks_outside.specs.Counts.{Counts};
 ghost use Rattle.ks_outside.specs.Files.{KeyFile, DirState, OnlyLooks, AreIndices, IsFree, Stands, Changes, Gives, indices_of, content_at, short_content, with_file, without};
 
@@ -27,6 +27,7 @@ pub trait KeyDir {
     fn write_new(&mut self, index: u32, content: &[u8]) -> Result<(), DirFault>
         requires { (told : List KeyFile) → (dir self.old).files ≡ Some told → IsFree index told }
         ensures told { (told : List KeyFile) → (dir self.old).files ≡ Some told → Changes told (with_file index content.now told) (dir self.new).files result }
+        ensures untold { (dir self.old).files ≡ None → (dir self.new).files ≡ None }
         ensures faults { Counts (result ≡ Err DirFault.Failed) (dir self.old).faults (dir self.new).faults };
 
     /// Moves a standing file to a free index. A folder that does not tell its files answers a fault where
@@ -36,11 +37,13 @@ pub trait KeyDir {
         requires free { (told : List KeyFile) → (dir self.old).files ≡ Some told → IsFree to told }
         ensures told { (told : List KeyFile) (content : List ℕ) → (dir self.old).files ≡ Some told → content_at from told ≡ Some content →
             Changes told (with_file to content (without from told)) (dir self.new).files result }
+        ensures untold { (dir self.old).files ≡ None → (dir self.new).files ≡ None }
         ensures faults { Counts (result ≡ Err DirFault.Failed) (dir self.old).faults (dir self.new).faults };
 
     /// Removes a standing file. A folder that does not tell its files answers a fault where there is none.
     fn remove(&mut self, index: u32) -> Result<(), DirFault>
         requires { (told : List KeyFile) → (dir self.old).files ≡ Some told → Stands index told }
         ensures told { (told : List KeyFile) → (dir self.old).files ≡ Some told → Changes told (without index told) (dir self.new).files result }
+        ensures untold { (dir self.old).files ≡ None → (dir self.new).files ≡ None }
         ensures faults { Counts (result ≡ Err DirFault.Failed) (dir self.old).faults (dir self.new).faults };
 }

@@ -133,6 +133,7 @@ impl KeyDir for MemoryDir {
     fn write_new(&mut self, index: u32, content: &[u8]) -> Result<(), DirFault>
         requires { (told : List KeyFile) → Some self.old.files ≡ Some told → IsFree index told }
         ensures told { (told : List KeyFile) → Some self.old.files ≡ Some told → Changes told (with_file index content.now told) (Some self.new.files) result }
+        ensures untold { Some self.old.files ≡ None → Some self.new.files ≡ None }
         ensures called { Called (result ≡ Err DirFault.Failed) self.old self.new }
         ensures ok { OnOk result (self.new ≡ record self.old { files = with_file index content.now self.old.files; calls = next_count self.old.calls }) }
         ensures memory { result ≡ Err DirFault.Memory → self.new ≡ record self.old { calls = next_count self.old.calls } }
@@ -149,6 +150,7 @@ impl KeyDir for MemoryDir {
         requires free { (told : List KeyFile) → Some self.old.files ≡ Some told → IsFree to told }
         ensures told { (told : List KeyFile) (content : List ℕ) → Some self.old.files ≡ Some told → content_at from told ≡ Some content →
             Changes told (with_file to content (without from told)) (Some self.new.files) result }
+        ensures untold { Some self.old.files ≡ None → Some self.new.files ≡ None }
         ensures called { Called (result ≡ Err DirFault.Failed) self.old self.new }
         ensures memory { result ≢ Err DirFault.Memory }
         ensures ok { OnOk result ((content : List ℕ) → content_at from self.old.files ≡ Some content →
@@ -162,6 +164,7 @@ impl KeyDir for MemoryDir {
     fn remove(&mut self, index: u32) -> Result<(), DirFault>
         requires { (told : List KeyFile) → Some self.old.files ≡ Some told → Stands index told }
         ensures told { (told : List KeyFile) → Some self.old.files ≡ Some told → Changes told (without index told) (Some self.new.files) result }
+        ensures untold { Some self.old.files ≡ None → Some self.new.files ≡ None }
         ensures called { Called (result ≡ Err DirFault.Failed) self.old self.new }
         ensures memory { result ≢ Err DirFault.Memory }
         ensures ok { OnOk result (self.new ≡ record self.old { files = without index self.old.files; calls = next_count self.old.calls }) }
