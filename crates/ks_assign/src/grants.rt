@@ -41,6 +41,13 @@ impl Grants {
         }
     }
 
+    /// These grants.
+    pub fn from_rows(alloc: Global, rows: RowSet<GrantRow>) -> Grants
+        ensures { result ≡ rows }
+    {
+        Grants { alloc, rows }
+    }
+
     /// Grants, and says whether the grant is new; one that stands is no change and takes no memory. Refused is
     /// the 262,145th grant (`Full`). Whatever is refused changes nothing.
     pub fn grant(&mut self, row: GrantRow) -> Result<bool, RowFault>

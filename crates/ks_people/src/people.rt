@@ -34,6 +34,23 @@ impl People {
         }
     }
 
+    /// The state of these users, groups and memberships.
+    pub fn from_tables(
+        alloc: Global,
+        users: Table<UserRow>,
+        groups: Table<GroupRow>,
+        members: RowSet<MemberRow>,
+    ) -> People
+        ensures { result ≡ record { users = users; groups = groups; members = members } }
+    {
+        People {
+            alloc,
+            users,
+            groups,
+            members,
+        }
+    }
+
     /// All users, in the order of their ids.
     pub fn users(&self) -> &[UserRow]
         ensures { result.now ≡ self.now.users }

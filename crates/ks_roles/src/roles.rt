@@ -36,6 +36,21 @@ impl Roles {
         }
     }
 
+    /// These roles and implications.
+    pub fn from_tables(
+        alloc: Global,
+        roles: Table<RoleRow>,
+        implications: RowSet<ImplyRow>,
+    ) -> Roles
+        ensures { result ≡ record { roles = roles; implications = implications } }
+    {
+        Roles {
+            alloc,
+            roles,
+            implications,
+        }
+    }
+
     /// All roles, in the order of their ids.
     pub fn roles(&self) -> &[RoleRow]
         ensures { result.now ≡ self.now.roles }

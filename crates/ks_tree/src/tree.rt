@@ -36,6 +36,21 @@ impl Tree {
         }
     }
 
+    /// The state of these domains and projects.
+    pub fn from_tables(
+        alloc: Global,
+        domains: Table<DomainRow>,
+        projects: Table<ProjectRow>,
+    ) -> Tree
+        ensures { result ≡ record { domains = domains; projects = projects } }
+    {
+        Tree {
+            alloc,
+            domains,
+            projects,
+        }
+    }
+
     /// All domains, in the order of their ids.
     pub fn domains(&self) -> &[DomainRow]
         ensures { result.now ≡ self.now.domains }
