@@ -1,5 +1,5 @@
 -- What stops a check stops what comes behind it.
-use Rattle.std.proofs.Common.{◌≡◌, Err, refl}
+use Rattle.std.proofs.Common.{Err, refl}
 use Rattle.ks_machine.specs.Attempts.{Attempt, ◌>>=◌}
 use Rattle.ks_machine.specs.declared.cause.Cause.{Cause}
 use Rattle.ks_machine.specs.Outcomes.{Outcome}

@@ -1,5 +1,5 @@
 -- What is no id has no roles.
-use Rattle.std.proofs.Common.{◌≡◌, ℕ, ◌+◌, ◌<◌, Bool, true, false, ◌&&◌, ◌||◌, List, [], ◌∷◌, ◌++◌, length, drop, get_or, map, filter, refl, ap, subst}
+use Rattle.std.proofs.Common.{◌≡◌, ℕ, ◌+◌, ◌<◌, Bool, true, false, ◌&&◌, ◌||◌, List, [], ◌∷◌, ◌++◌, length, drop, get_or, map, filter, refl, subst}
 use Rattle.std.proofs.lemmas.Slice.Eq.{bytes_eq-Decides}
 use Rattle.std.specs.List.{list_any}
 use Rattle.ks_base.specs.declared.grants.Actor.{Actor}
@@ -12,7 +12,7 @@ use Rattle.ks_base.specs.declared.users.MemberRow.{MemberRow}
 use Rattle.ks_base.specs.Ids.{IsId}
 use Rattle.ks_base.specs.Orders.{actor_id}
 use Rattle.ks_base.specs.Rows.{Id, Rows, same}
-use Rattle.ks_machine.specs.Assignments.{given_at, given_to}
+use Rattle.ks_machine.specs.Assignments.{given_to}
 use Rattle.ks_machine.specs.Effective.{acts, in_order, is_effective, is_member, leads, reaches, roles_at, roles_implied}
 use Rattle.ks_plan.specs.Strangers.{is_to_user}
 use Rattle.ks_plan.proofs.Passed.{drop_at}

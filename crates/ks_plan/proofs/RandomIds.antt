@@ -1,5 +1,5 @@
 -- The UUID of version 4 of 16 bytes is those bytes with two of them marked.
-use Rattle.std.proofs.Common.{◌≡◌, ℕ, List, [], ◌∷◌, length, refl, arith}
+use Rattle.std.proofs.Common.{◌≡◌, ℕ, List, ◌∷◌, length, refl, arith}
 use Rattle.ks_machine.specs.Outcomes.{uuid}
 use Rattle.uuid.specs.Parts.{with_variant, with_version}
 use Rattle.uuid.specs.declared.Variant.TheVariants.{RFC4122}

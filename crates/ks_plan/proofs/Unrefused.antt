@@ -1,5 +1,5 @@
 -- What is known of rows where a table refuses nothing.
-use Rattle.std.proofs.Common.{◌≡◌, Bool, true, false, not, List, [], ◌∷◌, Option, Some, None, is_some, is_none, Result, Ok, Err, is_ok, refl, sym, ◌∙◌}
+use Rattle.std.proofs.Common.{◌≡◌, Bool, true, false, not, List, [], ◌∷◌, Option, Some, None, is_some, is_none, Result, Ok, Err, is_ok, refl, ◌∙◌}
 use Rattle.ks_base.specs.declared.faults.RowFault.{RowFault}
 use Rattle.ks_base.specs.declared.grants.ImplyRow.{ImplyRow}
 use Rattle.ks_base.specs.declared.users.MemberRow.{MemberRow}

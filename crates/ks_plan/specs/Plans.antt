@@ -1,8 +1,7 @@
 -- What a plan gives: what the machine's checks say, read from Rust's values.
-use Rattle.std.specs.Prelude.{◌≡◌, ℕ, Bool, true, false, List, [], Option, Some, None, Result, Ok, Err}
+use Rattle.std.specs.Prelude.{◌≡◌, Bool, true, false, [], Some, None, Result, Ok, Err}
 use Rattle.ks_base.specs.declared.receipt.Drawn.{Drawn}
 use Rattle.ks_base.specs.declared.receipt.Drawn.TheVariants.{Bytes, Failed, Unused}
-use Rattle.ks_machine.specs.declared.body_out.BodyOut.{BodyOut}
 use Rattle.ks_machine.specs.declared.cause.Cause.{Cause}
 use Rattle.ks_machine.specs.Attempts.{Attempt, Go, Stop, Lacks, Lack, Keys, Stored, Fresh}
 use Rattle.ks_machine.specs.Outcomes.{Outcome}

@@ -1,5 +1,5 @@
 //! Refusals of tables as causes, and rows that must stand.
-ghost use Rattle.std.specs.Prelude.{◌≡◌, Some, Ok, Err};
+ghost use Rattle.std.specs.Prelude.{Some, Ok, Err};
 ghost use Rattle.ks_base.specs.Refusals.{fault_in};
 ghost use Rattle.ks_auth.specs.Answers.{rows_told};
 ghost use Rattle.ks_machine.specs.Attempts.{need};

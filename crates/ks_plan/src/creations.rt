@@ -1,5 +1,5 @@
 //! New domains, projects, users, groups and roles (Identity API v3), each by the rules of its table.
-ghost use Rattle.std.specs.Prelude.{◌≡◌, true, Some, None, unwrap_or, option_copied, IfOk, IsSome};
+ghost use Rattle.std.specs.Prelude.{◌≡◌, true, Some, None, unwrap_or, IfOk, IsSome};
 ghost use Rattle.ks_auth.specs.Answers.{Tells, rows_told};
 ghost use Rattle.ks_auth.specs.Facts.{told};
 ghost use Rattle.ks_base.specs.declared.receipt.Drawn.{Drawn};

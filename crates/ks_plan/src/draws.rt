@@ -2,7 +2,7 @@
 ghost use Rattle.std.specs.Prelude.{◌≡◌, ◌+◌, ◌≤◌, take, drop};
 ghost use Rattle.hex.specs.Hex.{encode_lower};
 ghost use Rattle.ks_base.specs.declared.receipt.Drawn.{Drawn};
-ghost use Rattle.ks_machine.specs.Outcomes.{key, made_id, salt, uuid};
+ghost use Rattle.ks_machine.specs.Outcomes.{id_bytes, key, made_id, salt, uuid};
 
 use ks_base::{Id, Key};
 use uuid::{Builder, Uuid};
@@ -13,6 +13,13 @@ pub fn made_id(drawn: &[u8; 64]) -> Id
     ensures { result ≡ made_id (Drawn.Bytes drawn.now) }
 {
     digits(version_4(sixteen(drawn, 0)).as_bytes())
+}
+
+/// The bytes for an id, which are also an audit id.
+pub fn id_bytes(drawn: &[u8; 64]) -> [u8; 16]
+    ensures { result ≡ id_bytes (Drawn.Bytes drawn.now) }
+{
+    sixteen(drawn, 0)
 }
 
 /// The salt, which is also an iv.

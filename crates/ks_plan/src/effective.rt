@@ -5,12 +5,10 @@ ghost use Rattle.ks_auth.specs.Answers.{rows_told};
 ghost use Rattle.ks_base.specs.Ids.{IsId};
 ghost use Rattle.ks_base.specs.Rows.{same};
 ghost use Rattle.ks_machine.specs.Assignments.{given_to, targets};
-ghost use Rattle.ks_machine.specs.Effective.{roles_at};
 ghost use Rattle.ks_plan.specs.Strangers.{is_to_user};
 
-use ks_auth::Tables;
+use ks_auth::{Tables, roles_at};
 use ks_base::{Actor, GrantList, GrantRow, Id, IdList, MemberRow, Memory, Target, Text};
-use ks_machine::roles_are_effective;
 use std::alloc::Global;
 
 /// All targets: the system, then domains, then projects, each by id.
@@ -26,22 +24,6 @@ fn targets(alloc: Global, tables: &Tables) -> Result<Vec<Target>, Memory>
         all.push(Target::Project(project.id))?;
     }
     Ok(all)
-}
-
-/// The roles that are effective for the user at the target.
-fn roles_at(alloc: Global, tables: &Tables, user: &Id, target: &Target) -> Result<IdList, Memory>
-    ensures { IfOk result (λ ids. ids ≡ roles_at (rows_told tables.now) user.now target.now) }
-{
-    roles_are_effective();
-    ks_effective::roles_of(
-        alloc,
-        tables.tree,
-        tables.people,
-        tables.roles,
-        tables.grants,
-        user,
-        target,
-    )
 }
 
 /// Adds that the user has these roles at the target.

@@ -1,5 +1,4 @@
 //! What is kept of new passwords.
-ghost use Rattle.std.specs.Prelude.{◌≡◌};
 ghost use Rattle.ks_auth.specs.Answers.{Tells};
 ghost use Rattle.ks_auth.specs.Facts.{told};
 ghost use Rattle.ks_base.specs.declared.receipt.Drawn.{Drawn};

@@ -1,0 +1,137 @@
+//! Whom a call admits: the caller and the token that it is about must be valid, and a rule must allow the action.
+ghost use Rattle.std.specs.Prelude.{◌≡◌, ◌≤◌, IfOk, IfSome, option_map};
+ghost use Rattle.std.specs.Option.{option_copied};
+ghost use Rattle.ks_auth.specs.Answers.{Tells, rows_told};
+ghost use Rattle.ks_auth.specs.Facts.{told};
+ghost use Rattle.ks_machine.specs.States.{State};
+ghost use Rattle.ks_plan.specs.Planned.{admitted, allows_by, is_late, subject_asked};
+ghost use Rattle.ks_plan.specs.Plans.{Gives, Passes, valid_of};
+ghost use Rattle.ks_plan.specs.Parties.{AreUsable, parties_of};
+ghost use Rattle.ks_plan.specs.Views.{requirements_of};
+ghost use Rattle.ks_plan.specs.Tokens.{IsUsable};
+
+use crate::credentials::credentials;
+use crate::requirements::Requirements;
+use crate::targets::target_of;
+use crate::tokens::{caller_of, subject_of};
+use crate::{Caller, Halt};
+use ks_auth::{Facts, Tables};
+use ks_base::Text;
+use ks_machine::{Call, Cause, Command};
+use ks_policy::Rules;
+use std::alloc::Global;
+
+/// The caller and the token that a call is about, each where the command asks for one.
+#[derive(Drop)]
+pub struct Parties {
+    pub caller: Option<Caller>,
+    pub subject: Option<Caller>,
+}
+
+/// Goes on where the rule of this action allows it.
+fn allows(
+    alloc: Global,
+    tables: &Tables,
+    rules: &Rules,
+    caller: &Caller,
+    subject: Option<&Caller>,
+    command: &Command,
+    action: &'static str,
+) -> Result<(), Halt>
+    ensures { Passes result (allows_by rules.now (rows_told tables.now) (valid_of caller.now) (option_map valid_of (option_copied subject.entry)) command.now action.entry.now) }
+{
+    let action = Text::of(alloc, action)?;
+    let seen = credentials(alloc, tables, caller)?;
+    let target = target_of(alloc, tables, subject, command)?;
+    if rules.decide(&action, &seen, &target)? {
+        Ok(())
+    } else {
+        Err(Halt::Refused(Cause::Rule(action)))
+    }
+}
+
+/// Whether the request allows a token that has expired.
+fn is_late(command: &Command) -> bool
+    ensures { result ≡ is_late command.now }
+{
+    match command {
+        Command::Validate(late) | Command::Check(late) => *late,
+        Command::RevokeToken => false,
+        Command::Version | Command::Login(_) | Command::ChangePassword(_, _, _) => false,
+        Command::Create(_) | Command::List(_, _) | Command::Get(_, _) => false,
+        Command::Update(_, _) | Command::Delete(_, _) => false,
+        Command::GroupsOf(_) | Command::MembersOf(_) => false,
+        Command::Join(_) | Command::IsIn(_) | Command::Leave(_) => false,
+        Command::Implied(_) | Command::Imply(_) | Command::Implication(_) => false,
+        Command::IsImplied(_) | Command::Unimply(_) => false,
+        Command::GrantsOf(_, _, _) | Command::Grant(_) | Command::IsGranted(_) => false,
+        Command::Ungrant(_) | Command::Assignments(_) => false,
+        Command::CreateTrust(_) | Command::Trusts(_) | Command::Trust(_) => false,
+        Command::DeleteTrust(_) | Command::TrustRoles(_) => false,
+        Command::Events | Command::RotateKeys | Command::LoadKeys => false,
+    }
+}
+
+/// The token that the call is about, where the command asks for one.
+fn subject_asked(
+    alloc: Global,
+    tables: &Tables,
+    moment: u64,
+    late: bool,
+    given: &Option<Text>,
+    about: bool,
+    facts: &Facts,
+) -> Result<Option<Caller>, Halt>
+    requires moment { tables.now.revoked.now.high ≤ moment }
+    requires life { tables.now.revoked.now.life ≡ tables.now.settings.now.life }
+    ensures subject { (S : State) → Tells tables.now S → Gives (option_map valid_of) result (subject_asked (told facts.now) S moment late given.now about) }
+    ensures usable { IfOk result (λ subject. IfSome subject (λ token. IsUsable tables.now.people.now.users token.payload)) }
+{
+    if about {
+        Ok(Some(subject_of(alloc, tables, moment, late, given, facts)?))
+    } else {
+        Ok(None)
+    }
+}
+
+/// Whom the call admits.
+#[tactic(auto, unfolding(crate::specs::Planned::admitted))]
+pub fn admitted(
+    alloc: Global,
+    tables: &Tables,
+    rules: &Rules,
+    moment: u64,
+    call: &Call,
+    asked: &Requirements,
+    facts: &Facts,
+) -> Result<Parties, Halt>
+    requires moment { tables.now.revoked.now.high ≤ moment }
+    requires life { tables.now.revoked.now.life ≡ tables.now.settings.now.life }
+    ensures parties { (S : State) → Tells tables.now S → Gives parties_of result (admitted (told facts.now) S rules.now (rows_told tables.now) moment call.now call.now.command (requirements_of asked.now).action (requirements_of asked.now).subject) }
+    ensures usable { IfOk result (λ who. AreUsable tables.now.people.now.users who) }
+{
+    let Some(action) = asked.action else {
+        return Ok(Parties {
+            caller: None,
+            subject: None,
+        });
+    };
+    let command = &call.command;
+    let late = is_late(command);
+    let about = asked.subject;
+    let caller = caller_of(alloc, tables, moment, &call.caller, facts)?;
+    let subject = subject_asked(alloc, tables, moment, late, &call.subject, about, facts)?;
+    allows(
+        alloc,
+        tables,
+        rules,
+        &caller,
+        subject.as_ref(),
+        command,
+        action,
+    )?;
+    Ok(Parties {
+        caller: Some(caller),
+        subject,
+    })
+}

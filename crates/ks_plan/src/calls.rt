@@ -1,0 +1,271 @@
+//! What a call is answered and which change it makes: the machine's checks in their order, but for the last.
+ghost use Rattle.std.specs.Prelude.{◌≡◌, ◌≤◌, ◌||◌, not, IfOk, IsSome};
+ghost use Rattle.ks_auth.specs.Answers.{Tells, rows_told};
+ghost use Rattle.ks_auth.specs.Facts.{told};
+ghost use Rattle.ks_base.specs.declared.receipt.Drawn.TheVariants as drawns;
+ghost use Rattle.ks_base.specs.Rows.{user_of};
+ghost use Rattle.ks_machine.specs.Actions.{requirements};
+ghost use Rattle.ks_machine.specs.Attempts.{found, need, unless};
+ghost use Rattle.ks_machine.specs.declared.cause.Cause.TheVariants as causes;
+ghost use Rattle.ks_machine.specs.Fit.{Fit};
+ghost use Rattle.ks_machine.specs.Moment.{last_moment};
+ghost use Rattle.ks_machine.specs.Ranges.{IsSettings};
+ghost use Rattle.ks_machine.specs.States.{State};
+ghost use Rattle.ks_machine.specs.Steps.{has_drawn, lacking_of, revoked_subject};
+ghost use Rattle.ks_plan.specs.Parties.{AreUsable, parties_of};
+ghost use Rattle.ks_plan.specs.Planned.{bytes_drawn, on_subject, own_checks, planned, subject_shown, told_of};
+ghost use Rattle.ks_plan.specs.Demands.{by_demands};
+ghost use Rattle.ks_plan.specs.Plans.{Gives, HasBytes, Passes, Plans, valid_of};
+ghost use Rattle.ks_plan.specs.Views.{requirements_of};
+
+use crate::allowed::{Parties, admitted};
+use crate::assignments::assignments;
+use crate::checks::need;
+use crate::creations::create;
+use crate::events::events;
+use crate::grants::{grant, grants_of, is_granted, ungrant};
+use crate::keys::{is_failed, load_keys, rotate_keys};
+use crate::login::{change_password, login};
+use crate::listings::list;
+use crate::members::{
+    groups_of, implication, implied, imply, is_implied, is_in, join, leave, members_of, unimply,
+};
+use crate::requirements::{Requirements, required};
+use crate::single::{delete, get};
+use crate::told::told_token;
+use crate::tokens::missing;
+use crate::trusts::{create_trust, delete_trust, get_trust, list_trusts, roles_of_trust};
+use crate::updates::update;
+use crate::{Caller, Halt, Plan};
+use ks_auth::{Facts, Tables};
+use ks_base::{Drawn, Text};
+use ks_machine::{BodyOut, Call, Cause, Change, Command};
+use ks_policy::Rules;
+use std::alloc::Global;
+
+/// What the call is answered and which change it makes, by the tables of the moment and the facts that are known, in
+/// each state that the tables tell; or the first check that fails, or the first that lacks a fact. Whether there is
+/// room for the revocations that the change writes is not tested.
+pub fn plan_call(
+    alloc: Global,
+    tables: &Tables,
+    rules: &Rules,
+    moment: u64,
+    call: &Call,
+    facts: &Facts,
+) -> Result<Plan, Halt>
+    requires fit { Fit call.now }
+    requires moment { tables.now.revoked.now.high ≤ moment }
+    requires last { moment ≤ last_moment }
+    requires life { tables.now.revoked.now.life ≡ tables.now.settings.now.life }
+    requires settings { IsSettings tables.now.settings.now }
+    ensures { (S : State) → Tells tables.now S → S.rules ≡ rules.now → Plans result (planned (told facts.now) S moment call.now) }
+{
+    let asked = required(&call.command);
+    by_demands(alloc, tables, rules, moment, call, &asked, facts)
+}
+
+/// The checks of a call by what its command asks for.
+#[tactic(auto, unfolding(crate::specs::Demands::by_demands))]
+fn by_demands(
+    alloc: Global,
+    tables: &Tables,
+    rules: &Rules,
+    moment: u64,
+    call: &Call,
+    asked: &Requirements,
+    facts: &Facts,
+) -> Result<Plan, Halt>
+    requires fit { Fit call.now }
+    requires asked { requirements_of asked.now ≡ requirements call.now.command }
+    requires moment { tables.now.revoked.now.high ≤ moment }
+    requires last { moment ≤ last_moment }
+    requires life { tables.now.revoked.now.life ≡ tables.now.settings.now.life }
+    requires settings { IsSettings tables.now.settings.now }
+    ensures { (S : State) → Tells tables.now S → Plans result (by_demands (told facts.now) S rules.now (rows_told tables.now) moment call.now (requirements_of asked.now)) }
+{
+    lacks_nothing(alloc, asked, &call.subject)?;
+    are_drawn(asked.draws, &call.draw)?;
+    let is_read = !(asked.loads && is_failed(&call.folder));
+    need(is_read, Cause::KeyDir)?;
+    let who = admitted(alloc, tables, rules, moment, call, asked, facts)?;
+    own_checks(alloc, tables, moment, call, &who, facts)
+}
+
+/// Goes on where the request lacks neither the token that it is about nor a field of its query.
+#[tactic(auto, unfolding(ks_machine::specs::Steps::lacking_of))]
+fn lacks_nothing(
+    alloc: Global,
+    asked: &Requirements,
+    subject: &Option<Text>,
+) -> Result<(), Halt>
+    ensures { Passes result (unless (lacking_of (requirements_of asked.now) subject.now)) }
+{
+    if asked.subject && subject.is_none() {
+        return Err(Halt::Refused(missing(alloc, "X-Subject-Token")?));
+    }
+    match asked.lacks {
+        Some(name) => Err(Halt::Refused(missing(alloc, name)?)),
+        None => Ok(()),
+    }
+}
+
+/// Goes on where random bytes came, or none are asked for.
+fn are_drawn(draws: bool, draw: &Drawn) -> Result<(), Halt>
+    ensures drawn { Passes result (need (not draws || has_drawn draw.now) causes.Random) }
+    ensures bytes { IfOk result (λ u. HasBytes draws draw.now) }
+{
+    if !draws {
+        return Ok(());
+    }
+    match draw {
+        Drawn::Bytes(_) => Ok(()),
+        Drawn::Unused | Drawn::Failed => Err(Halt::Refused(Cause::Random)),
+    }
+}
+
+/// The random bytes that came.
+fn bytes_drawn(draw: &Drawn) -> Result<&[u8; 64], Halt>
+    ensures { Gives (λ bytes. drawns.Bytes bytes.now) result (bytes_drawn draw.now) }
+{
+    match draw {
+        Drawn::Bytes(bytes) => Ok(bytes),
+        Drawn::Unused | Drawn::Failed => Err(Halt::Refused(Cause::Random)),
+    }
+}
+
+/// The caller who was admitted.
+fn caller_in<'a>(tables: &Tables, who: &'a Parties) -> Result<&'a Caller, Halt>
+    requires { AreUsable tables.now.people.now.users who.now }
+    ensures caller { Gives (λ caller. valid_of caller.now) result (found (parties_of who.now).caller causes.NoToken) }
+    ensures stands { IfOk result (λ caller. IsSome (user_of caller.now.payload.user tables.now.people.now.users)) }
+{
+    match &who.caller {
+        Some(caller) => Ok(caller),
+        None => Err(Halt::Refused(Cause::NoToken)),
+    }
+}
+
+/// The token that the call is about, and its text.
+fn subject_in<'a>(
+    alloc: Global,
+    tables: &Tables,
+    given: &'a Option<Text>,
+    who: &'a Parties,
+) -> Result<(&'a Text, &'a Caller), Halt>
+    requires { AreUsable tables.now.people.now.users who.now }
+    ensures subject { Gives (λ shown. (shown.0.now, valid_of shown.1.now)) result (subject_shown given.now (parties_of who.now).subject) }
+    ensures stands { IfOk result (λ shown. IsSome (user_of shown.1.now.payload.user tables.now.people.now.users)) }
+{
+    let Some(token) = &who.subject else {
+        return Err(Halt::Refused(missing(alloc, "X-Subject-Token")?));
+    };
+    match given {
+        Some(text) => Ok((text, token)),
+        None => Err(Halt::Refused(missing(alloc, "X-Subject-Token")?)),
+    }
+}
+
+/// What is told of the token that the call is about.
+fn told_subject(
+    alloc: Global,
+    tables: &Tables,
+    given: &Option<Text>,
+    who: &Parties,
+) -> Result<Plan, Halt>
+    requires { AreUsable tables.now.people.now.users who.now }
+    ensures { Plans result (on_subject given.now (parties_of who.now).subject (told_of (rows_told tables.now))) }
+{
+    let (text, token) = subject_in(alloc, tables, given, who)?;
+    let Caller { payload, issued, roles } = token;
+    let told = told_token(alloc, tables, text.copy()?, false, payload, *issued, roles)?;
+    Ok(Plan::tells(BodyOut::Token(told)))
+}
+
+/// Ends the token that the call is about.
+fn revoked_subject(
+    alloc: Global,
+    tables: &Tables,
+    given: &Option<Text>,
+    who: &Parties,
+) -> Result<Plan, Halt>
+    requires { AreUsable tables.now.people.now.users who.now }
+    ensures { Plans result (on_subject given.now (parties_of who.now).subject revoked_subject) }
+{
+    let (_text, token) = subject_in(alloc, tables, given, who)?;
+    let change = Change::RevokeToken(token.payload.audit);
+    Ok(Plan::changes(change, BodyOut::Nothing))
+}
+
+/// The command's own checks, once its caller and its subject are admitted.
+#[tactic(auto, unfolding(crate::specs::Planned::own_checks))]
+fn own_checks(
+    alloc: Global,
+    tables: &Tables,
+    moment: u64,
+    call: &Call,
+    who: &Parties,
+    facts: &Facts,
+) -> Result<Plan, Halt>
+    requires fit { Fit call.now }
+    requires usable { AreUsable tables.now.people.now.users who.now }
+    requires bytes { HasBytes (requirements call.now.command).draws call.now.draw }
+    requires moment { tables.now.revoked.now.high ≤ moment }
+    requires last { moment ≤ last_moment }
+    requires life { tables.now.revoked.now.life ≡ tables.now.settings.now.life }
+    requires settings { IsSettings tables.now.settings.now }
+    ensures { (S : State) → Tells tables.now S → Plans result (own_checks (told facts.now) S (rows_told tables.now) moment call.now (parties_of who.now) call.now.command) }
+{
+    match &call.command {
+        Command::Version => Ok(Plan::tells(BodyOut::Version)),
+        Command::Login(asked) => {
+            let drawn = bytes_drawn(&call.draw)?;
+            login(alloc, tables, moment, drawn, asked, facts)
+        }
+        Command::ChangePassword(id, original, password) => {
+            let drawn = bytes_drawn(&call.draw)?;
+            change_password(alloc, tables, drawn, facts, id, original, password)
+        }
+        Command::Validate(_) | Command::Check(_) => told_subject(alloc, tables, &call.subject, who),
+        Command::RevokeToken => revoked_subject(alloc, tables, &call.subject, who),
+        Command::Create(made) => {
+            let caller = caller_in(tables, who)?;
+            let drawn = bytes_drawn(&call.draw)?;
+            create(alloc, tables, drawn, facts, caller, made)
+        }
+        Command::List(kind, filters) => Ok(list(alloc, tables, *kind, filters)?),
+        Command::Get(kind, id) => get(tables, *kind, id),
+        Command::Update(id, made) => update(alloc, tables, &call.draw, facts, id, made),
+        Command::Delete(kind, id) => delete(tables, *kind, id),
+        Command::GroupsOf(id) => groups_of(alloc, tables, id),
+        Command::MembersOf(id) => members_of(alloc, tables, id),
+        Command::Join(row) => join(tables, row),
+        Command::IsIn(row) => is_in(tables, row),
+        Command::Leave(row) => leave(tables, row),
+        Command::Implied(id) => implied(alloc, tables, id),
+        Command::Imply(row) => imply(alloc, tables, row),
+        Command::Implication(row) => implication(alloc, tables, row),
+        Command::IsImplied(row) => is_implied(tables, row),
+        Command::Unimply(row) => unimply(tables, row),
+        Command::GrantsOf(actor, at, inherited) => grants_of(alloc, tables, actor, at, *inherited),
+        Command::Grant(row) => grant(tables, row),
+        Command::IsGranted(row) => is_granted(tables, row),
+        Command::Ungrant(row) => ungrant(tables, row),
+        Command::Assignments(filters) => Ok(assignments(alloc, tables, filters)?),
+        Command::CreateTrust(asked) => {
+            let caller = caller_in(tables, who)?;
+            let drawn = bytes_drawn(&call.draw)?;
+            create_trust(alloc, tables, moment, drawn, caller, asked)
+        }
+        Command::Trusts(filters) => Ok(list_trusts(alloc, tables, filters)?),
+        Command::Trust(id) => get_trust(alloc, tables, id),
+        Command::DeleteTrust(id) => delete_trust(tables, id),
+        Command::TrustRoles(id) => roles_of_trust(alloc, tables, id),
+        Command::Events => Ok(events(alloc, tables, moment)?),
+        Command::RotateKeys => {
+            let drawn = bytes_drawn(&call.draw)?;
+            rotate_keys(alloc, tables, drawn)
+        }
+        Command::LoadKeys => load_keys(alloc, tables, &call.folder),
+    }
+}
