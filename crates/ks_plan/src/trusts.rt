@@ -53,6 +53,7 @@ fn unless_trust(checked: Result<(), TrustFault>) -> Result<(), Halt>
     }
 }
 
+/// The refusal of the table as a cause.
 fn trust_halt(fault: &TrustFault) -> Halt
     ensures { Passes (Err result) (unless_trust (Some fault.now)) }
 {
@@ -246,6 +247,7 @@ fn put_trust(alloc: Global, tables: &Tables, moment: u64, new: TrustRow) -> Resu
     Ok(Plan::changes(Change::PutTrust(new), BodyOut::One(told, true)))
 }
 
+/// A trust that the caller gives. Its roles are in the order of their ids, each once.
 #[tactic(auto, unfolding(ks_machine::specs::TrustCommands::create_trust))]
 pub fn create_trust(
     alloc: Global,
@@ -308,6 +310,7 @@ fn trusts_listed(
     Ok(rows)
 }
 
+/// The trusts, or those of one trustor, one trustee or both.
 #[tactic(auto, unfolding(ks_machine::specs::TrustCommands::list_trusts))]
 pub fn list_trusts(alloc: Global, tables: &Tables, filters: &Filter) -> Result<Plan, Memory>
     ensures { IfOk result (λ plan. outcome_of plan ≡ list_trusts (rows_told tables.now) filters.now) }
@@ -317,6 +320,7 @@ pub fn list_trusts(alloc: Global, tables: &Tables, filters: &Filter) -> Result<P
     Ok(Plan::tells(BodyOut::Trusts(rows, path)))
 }
 
+/// One trust.
 #[tactic(auto, unfolding(ks_machine::specs::TrustCommands::get_trust))]
 pub fn get_trust(alloc: Global, tables: &Tables, id: &Id) -> Result<Plan, Halt>
     ensures { Plans result (get_trust (rows_told tables.now) id.now) }
@@ -326,6 +330,7 @@ pub fn get_trust(alloc: Global, tables: &Tables, id: &Id) -> Result<Plan, Halt>
     Ok(Plan::tells(BodyOut::One(told, false)))
 }
 
+/// Ends a trust.
 #[tactic(auto, unfolding(ks_machine::specs::TrustCommands::delete_trust))]
 pub fn delete_trust(tables: &Tables, id: &Id) -> Result<Plan, Halt>
     ensures { Plans result (delete_trust (rows_told tables.now) id.now) }
@@ -354,6 +359,7 @@ fn roles_among(alloc: Global, rows: &[RoleRow], ids: &IdList) -> Result<RoleList
     Ok(roles)
 }
 
+/// The roles that a trust gives, in the order of their ids.
 #[tactic(auto, unfolding(ks_machine::specs::TrustCommands::roles_of_trust))]
 pub fn roles_of_trust(alloc: Global, tables: &Tables, id: &Id) -> Result<Plan, Halt>
     ensures { Plans result (roles_of_trust (rows_told tables.now) id.now) }
