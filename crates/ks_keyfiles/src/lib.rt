@@ -4,6 +4,8 @@
 
 mod laws;
 mod reading;
+mod writing;
 
 pub use laws::file_is_key;
 pub use reading::read_dir;
+pub use writing::setup;

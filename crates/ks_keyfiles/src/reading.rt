@@ -93,7 +93,7 @@ fn without_line_feed(content: &[u8]) -> &[u8]
 }
 
 /// A fault of a folder's call, as one of the reading.
-fn fault_of(fault: DirFault) -> KeysFault
+pub(crate) fn fault_of(fault: DirFault) -> KeysFault
     ensures failed { (result ≡ KeysFault.Failed) ↔ (fault ≡ DirFault.Failed) }
     ensures memory { (result ≡ KeysFault.Memory) ↔ (fault ≡ DirFault.Memory) }
     ensures cause { IsCallFault result }
