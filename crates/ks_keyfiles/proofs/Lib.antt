@@ -1,5 +1,9 @@
 pub mod FileLemmas
+pub mod IndexLemmas
 pub mod KeyFileLemmas
 pub mod LineLemmas
+pub mod PromotionLemmas
 pub mod ReadingLemmas
+pub mod RemovalLemmas
+pub mod RotationLemmas
 pub mod WritingLemmas

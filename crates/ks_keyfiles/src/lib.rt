@@ -4,8 +4,10 @@
 
 mod laws;
 mod reading;
+mod rotating;
 mod writing;
 
 pub use laws::file_is_key;
 pub use reading::read_dir;
+pub use rotating::rotate_dir;
 pub use writing::setup;

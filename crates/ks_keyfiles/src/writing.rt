@@ -1,8 +1,8 @@
-//! Key files are made, as `keystone-manage fernet_setup` does it.
-ghost use Rattle.std.specs.Prelude.{◌≡◌, ◌≤◌, ◌++◌, List, Some, None, Err, length, IfOk, IfErr};
+//! Key files are made, and rotated, as `keystone-manage fernet_setup` and `fernet_rotate` do it.
+ghost use Rattle.std.specs.Prelude.{◌≡◌, ◌≤◌, ◌++◌, ℕ, List, Some, None, Err, length, IfOk, IfErr};
 ghost use Rattle.ks_base.specs.declared.faults.KeysFault.TheVariants as faults;
 ghost use Rattle.ks_outside.specs.Counts.{Counts};
-ghost use Rattle.ks_outside.specs.Files.{KeyFile, IsFree, Changes, OnlyLooks, AreIndices, indices_of, with_file};
+ghost use Rattle.ks_outside.specs.Files.{KeyFile, IsFree, Stands, Changes, OnlyLooks, AreIndices, content_at, indices_of, with_file, without};
 ghost use Rattle.ks_fernet.specs.Base64Url.{padded_text};
 ghost use Rattle.ks_keyfiles.specs.Readings.{IsCallFault};
 ghost use Rattle.ks_keyfiles.specs.Setups.{IsSetupFault, SetsUp, key_text};
@@ -47,7 +47,7 @@ fn key_text(key: &Key) -> [u8; TEXT_LEN]
 }
 
 /// The indices of the folder's files, rising.
-fn list<D: KeyDir>(dir: &mut D) -> Result<Vec<u32>, KeysFault>
+pub(crate) fn list<D: KeyDir>(dir: &mut D) -> Result<Vec<u32>, KeysFault>
     ensures indices { IfOk result (λ found. AreIndices 0 found.items) }
     ensures told { IfOk result (λ found. (files : List KeyFile) → (D.dir dir.old).files ≡ Some files → found.items ≡ indices_of files) }
     ensures causes { IfErr result IsCallFault }
@@ -60,7 +60,7 @@ fn list<D: KeyDir>(dir: &mut D) -> Result<Vec<u32>, KeysFault>
 }
 
 /// Writes the key under a free index.
-fn write<D: KeyDir>(dir: &mut D, index: u32, key: &Key) -> Result<(), KeysFault>
+pub(crate) fn write<D: KeyDir>(dir: &mut D, index: u32, key: &Key) -> Result<(), KeysFault>
     requires { (files : List KeyFile) → (D.dir dir.old).files ≡ Some files → IsFree index files }
     ensures told { (files : List KeyFile) → (D.dir dir.old).files ≡ Some files → Changes files (with_file index (key_text key.now) files) (D.dir dir.new).files result }
     ensures untold { (D.dir dir.old).files ≡ None → (D.dir dir.new).files ≡ None }
@@ -68,6 +68,36 @@ fn write<D: KeyDir>(dir: &mut D, index: u32, key: &Key) -> Result<(), KeysFault>
     ensures faults { Counts (result ≡ Err faults.Failed) (D.dir dir.old).faults (D.dir dir.new).faults }
 {
     match dir.write_new(index, &key_text(key)) {
+        Ok(()) => Ok(()),
+        Err(fault) => Err(fault_of(fault)),
+    }
+}
+
+/// Moves a standing file to a free index.
+pub(crate) fn rename<D: KeyDir>(dir: &mut D, from: u32, to: u32) -> Result<(), KeysFault>
+    requires standing { (files : List KeyFile) → (D.dir dir.old).files ≡ Some files → Stands from files }
+    requires free { (files : List KeyFile) → (D.dir dir.old).files ≡ Some files → IsFree to files }
+    ensures told { (files : List KeyFile) (content : List ℕ) → (D.dir dir.old).files ≡ Some files → content_at from files ≡ Some content →
+        Changes files (with_file to content (without from files)) (D.dir dir.new).files result }
+    ensures untold { (D.dir dir.old).files ≡ None → (D.dir dir.new).files ≡ None }
+    ensures causes { IfErr result IsCallFault }
+    ensures faults { Counts (result ≡ Err faults.Failed) (D.dir dir.old).faults (D.dir dir.new).faults }
+{
+    match dir.rename(from, to) {
+        Ok(()) => Ok(()),
+        Err(fault) => Err(fault_of(fault)),
+    }
+}
+
+/// Removes a standing file.
+pub(crate) fn remove<D: KeyDir>(dir: &mut D, index: u32) -> Result<(), KeysFault>
+    requires { (files : List KeyFile) → (D.dir dir.old).files ≡ Some files → Stands index files }
+    ensures told { (files : List KeyFile) → (D.dir dir.old).files ≡ Some files → Changes files (without index files) (D.dir dir.new).files result }
+    ensures untold { (D.dir dir.old).files ≡ None → (D.dir dir.new).files ≡ None }
+    ensures causes { IfErr result IsCallFault }
+    ensures faults { Counts (result ≡ Err faults.Failed) (D.dir dir.old).faults (D.dir dir.new).faults }
+{
+    match dir.remove(index) {
         Ok(()) => Ok(()),
         Err(fault) => Err(fault_of(fault)),
     }
