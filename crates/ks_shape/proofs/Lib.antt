@@ -1,7 +1,9 @@
 pub mod DocumentLemmas
 pub mod IdLemmas
 pub mod ListLemmas
+pub mod MomentLemmas
 pub mod NameLemmas
 pub mod PlaceLemmas
+pub mod RangeLemmas
 pub mod RefusalLemmas
 pub mod TimeLemmas

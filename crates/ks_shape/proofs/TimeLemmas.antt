@@ -12,7 +12,7 @@ use Rattle.ks_shape.specs.declared.misfit.Misfit.TheVariants.{Kind}
 use Rattle.ks_shape.specs.Readings.{found}
 use Rattle.ks_shape.specs.Times.{civil_in, fraction_in, is_civil, is_spelled, is_time_text, time_of}
 
-in_range_from : (low high n : ℕ) → is_in_range low high n ≡ true → IsInRange low high n
+pub in_range_from : (low high n : ℕ) → is_in_range low high n ≡ true → IsInRange low high n
 in_range_from low high n e =
     let parts = and_parts (nat_le low n) (nat_le n high) e in
     let above = parts.0 in

@@ -8,3 +8,4 @@ pub mod Logins
 pub mod Rows
 pub mod Trusts
 pub mod Bodies
+pub mod Ranges

@@ -19,7 +19,7 @@ mod types;
 pub use body::{read_body, read_document};
 pub use fields::FieldType;
 pub use form::{BodyIn, Form};
-pub use laws::moments_are_of_time_texts;
+pub use laws::{bodies_are_in_range, moments_are_of_time_texts};
 pub use misfit::{Misfit, Unread};
 pub use node::Node;
 pub use rows::{DESCRIPTION, NAME, PASSWORD};

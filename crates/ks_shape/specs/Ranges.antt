@@ -1,0 +1,39 @@
+-- What bodies ask for is what their forms take, and in range.
+use Rattle.std.specs.Prelude.{◌≡◌, ℕ, Bool, List, Ok}
+use Rattle.ks_base.specs.declared.kinds.Kind.{Kind}
+use Rattle.ks_machine.specs.declared.bodies.Made.{Made}
+use Rattle.ks_machine.specs.Fit.{IsMade, IsProof, IsScope, IsTrustBody}
+use Rattle.ks_machine.specs.Ranges.{IsPassword}
+use Rattle.ks_machine.specs.Targets.{kind_of}
+use Rattle.ks_shape.specs.declared.form.Form.{Form}
+use Rattle.ks_shape.specs.declared.form.Form.TheVariants as form
+use Rattle.ks_shape.specs.declared.form.BodyIn.{BodyIn}
+use Rattle.ks_shape.specs.declared.form.BodyIn.TheVariants as body
+use Rattle.ks_shape.specs.Bodies.{body_of}
+
+-- a row of this kind, in range
+abbrev pub IsMadeFor : Kind → Bool → Made → Type 0
+IsMadeFor kind new made = (kind_of made ≡ kind) × IsMade new made
+
+-- what a form takes: a login, a row of its kind, two passwords or a trust, with each field in range
+abbrev pub IsBodyFor : Form → BodyIn → Type 0
+IsBodyFor form.Login (body.Login login) = IsProof login.proof × IsScope login.scope
+IsBodyFor form.Login (body.Made made) = ⊥
+IsBodyFor form.Login (body.Password original password) = ⊥
+IsBodyFor form.Login (body.Trust trust) = ⊥
+IsBodyFor (form.Made kind new) (body.Login login) = ⊥
+IsBodyFor (form.Made kind new) (body.Made made) = IsMadeFor kind new made
+IsBodyFor (form.Made kind new) (body.Password original password) = ⊥
+IsBodyFor (form.Made kind new) (body.Trust trust) = ⊥
+IsBodyFor form.Password (body.Login login) = ⊥
+IsBodyFor form.Password (body.Made made) = ⊥
+IsBodyFor form.Password (body.Password original password) = IsPassword original × IsPassword password
+IsBodyFor form.Password (body.Trust trust) = ⊥
+IsBodyFor form.Trust (body.Login login) = ⊥
+IsBodyFor form.Trust (body.Made made) = ⊥
+IsBodyFor form.Trust (body.Password original password) = ⊥
+IsBodyFor form.Trust (body.Trust trust) = IsTrustBody trust
+
+-- each body that is read is one that its form takes
+abbrev pub BodiesAreInRange : Type 0
+BodiesAreInRange = (form : Form) (bytes : List ℕ) (body : BodyIn) → body_of form bytes ≡ Ok body → IsBodyFor form body
