@@ -17,7 +17,8 @@ use Rattle.ks_routes.specs.Asked.{asked, ids_in}
 use Rattle.ks_routes.specs.Routes.{answered, routed_by}
 use Rattle.ks_routes.proofs.ApartLemmas.{none_fits, none_found}
 use Rattle.ks_routes.proofs.AskedLemmas.{asked_own, not_listing, not_memory}
-use Rattle.ks_routes.proofs.ServedLemmas.{asked_served, enough_for, found_enough, ids_count, ids_counted, is_enough, is_enough_for, needed, not_unrouted}
+use Rattle.ks_routes.proofs.RowLemmas.{at_method, found_passes}
+use Rattle.ks_routes.proofs.ServedLemmas.{asked_served, ids_count, ids_counted, is_enough, is_enough_for, needed, not_unrouted}
 
 contains_behind : {X : Type 0} (y : X) (ys : List X) (x : X) → Contains ys x → Contains (y ∷ ys) x
 contains_behind y ys x c = (suc c.0, omega (arith, c.1), c.2)
@@ -107,8 +108,8 @@ no_route : (rows : List (Row Action)) (request : Request) → list_all is_enough
     → found rows (segments request.path) ≡ route → routed_by route request ≡ routed.NoRoute → route ≡ None
 no_route rows request enough None found_is e = refl
 no_route rows request enough (Some row) found_is e =
-    let both = found_enough rows (segments request.path) row enough found_is in
-    absurd (served_by row request (action_of request.method row.methods) (enough_for row request.method both.0) both.1 e)
+    let both = found_passes is_enough rows (segments request.path) row enough found_is in
+    absurd (served_by row request (action_of request.method row.methods) (at_method (is_enough_for (ids_count row.pattern)) refl row.methods request.method both.0) both.1 e)
 
 pub unrouted : (rows : List (Row Action)) (request : Request) → list_all is_enough rows ≡ true
     → routed_by (found rows (segments request.path)) request ≡ routed.NoRoute

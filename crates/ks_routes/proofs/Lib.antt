@@ -2,6 +2,8 @@ pub mod ApartLemmas
 pub mod CommandLemmas
 pub mod IdLemmas
 pub mod AskedLemmas
+pub mod RowLemmas
 pub mod ServedLemmas
 pub mod LawLemmas
 pub mod SegmentLemmas
+pub mod RangeLemmas

@@ -1,11 +1,8 @@
 -- A path that fits a row of the table is served by it: its ids are as many as the actions need.
-use Rattle.std.proofs.Common.{◌≡◌, ℕ, suc, ◌+◌, ◌≤◌, Bool, true, false, ◌&&◌, if◌then◌else◌, List, [], ◌∷◌, length, Option, Some, None, Result, Ok, Err, refl, sym, ap, subst, ◌∙◌, arith}
+use Rattle.std.proofs.Common.{◌≡◌, ℕ, suc, ◌+◌, ◌≤◌, Bool, true, false, List, [], ◌∷◌, length, Option, Some, None, Result, Ok, Err, refl, sym, ap, subst, ◌∙◌, arith}
 use Rattle.std.specs.Prelude.{◌≢◌, nat_le}
-use Rattle.std.specs.List.{list_all}
 use Rattle.serde_json.specs.Data.{Data}
 use Rattle.ks_base.specs.declared.kinds.Kind.{Kind}
-use Rattle.ks_base.specs.declared.method.Method.{Method}
-use Rattle.ks_base.specs.declared.method.Method.TheVariants.{Get, Head, Post, Patch, Put, Delete, Other}
 use Rattle.ks_base.specs.declared.shapes.ShapeFault.{ShapeFault}
 use Rattle.ks_base.specs.declared.shapes.ShapeFault.TheVariants as fault
 use Rattle.ks_base.specs.Rows.{Id, Text}
@@ -35,7 +32,8 @@ use Rattle.ks_routes.specs.declared.routed.Routed.{Routed}
 use Rattle.ks_routes.specs.declared.routed.Routed.TheVariants as routed
 use Rattle.ks_routes.specs.Asked.{asked, ids_in, kind_of, login_by, made_by, password_by, read_by, target_ids, trust_by}
 use Rattle.ks_routes.specs.Patterns.{Part, literal, id, is_id, fits, takes}
-use Rattle.ks_routes.specs.Tables.{Row, found, action_of}
+use Rattle.ks_routes.specs.Tables.{Row}
+use Rattle.ks_routes.proofs.RowLemmas.{all_methods, both_true}
 
 abbrev is_served : Routed → Bool
 is_served (routed.Command asks) = true
@@ -255,10 +253,6 @@ ids_count [] = 0
 ids_count (literal text ∷ parts) = ids_count parts
 ids_count (id ∷ parts) = suc (ids_count parts)
 
-both_true : (a b : Bool) → (a && b) ≡ true → (a ≡ true) × (b ≡ true)
-both_true true b e = (refl, e)
-both_true false b e = cc
-
 pub ids_counted : (parts : List Part) (segments : List (List ℕ)) → fits parts segments ≡ true → length (ids_in parts segments) ≡ ids_count parts
 unfolding fits ids_in
 ids_counted [] [] fit = refl
@@ -276,58 +270,4 @@ is_enough_for count (Some asks) = nat_le (needed asks) count
 is_enough_for count None = true
 
 abbrev pub is_enough : Row Action → Bool
-is_enough row =
-    let count = ids_count row.pattern in
-    is_enough_for count row.methods.get && (is_enough_for count row.methods.head && (is_enough_for count row.methods.post
-    && (is_enough_for count row.methods.patch && (is_enough_for count row.methods.put && is_enough_for count row.methods.delete))))
-
-record AllSix (a b c d e f : Bool) : Type 0 where
-  first : a ≡ true
-  second : b ≡ true
-  third : c ≡ true
-  fourth : d ≡ true
-  fifth : e ≡ true
-  sixth : f ≡ true
-
-all_six : (a b c d e f : Bool) → (a && (b && (c && (d && (e && f))))) ≡ true → AllSix a b c d e f
-all_six true true true true true true is = record { first = refl; second = refl; third = refl; fourth = refl; fifth = refl; sixth = refl }
-all_six true true true true true false is = cc
-all_six true true true true false f is = cc
-all_six true true true false e f is = cc
-all_six true true false d e f is = cc
-all_six true false c d e f is = cc
-all_six false b c d e f is = cc
-
-abbrev enough_of : Row Action → Method → Bool
-enough_of row m = is_enough_for (ids_count row.pattern) (action_of m row.methods)
-
-all_methods : (row : Row Action) → is_enough row ≡ true
-    → AllSix (enough_of row Get) (enough_of row Head) (enough_of row Post) (enough_of row Patch) (enough_of row Put) (enough_of row Delete)
-all_methods row is =
-    all_six (enough_of row Get) (enough_of row Head) (enough_of row Post) (enough_of row Patch) (enough_of row Put) (enough_of row Delete) is
-
-pub enough_for : (row : Row Action) (m : Method) → is_enough row ≡ true → enough_of row m ≡ true
-enough_for row Get is = (all_methods row is).first
-enough_for row Head is = (all_methods row is).second
-enough_for row Post is = (all_methods row is).third
-enough_for row Patch is = (all_methods row is).fourth
-enough_for row Put is = (all_methods row is).fifth
-enough_for row Delete is = (all_methods row is).sixth
-enough_for row Other is = refl
-
-found_by : (row : Row Action) (rows : List (Row Action)) (segments : List (List ℕ)) (other : Row Action) (fit : Bool) → fits row.pattern segments ≡ fit
-    → is_enough row ≡ true → (if fit then Some row else found rows segments) ≡ Some other
-    → (found rows segments ≡ Some other → (is_enough other ≡ true) × (fits other.pattern segments ≡ true))
-    → (is_enough other ≡ true) × (fits other.pattern segments ≡ true)
-found_by row rows segments other true fit enough found_is later =
-    let same : row ≡ other = cc in
-    (subst (λ (r : Row Action). is_enough r ≡ true) same enough, subst (λ (r : Row Action). fits r.pattern segments ≡ true) same fit)
-found_by row rows segments other false fit enough found_is later = later found_is
-
-pub found_enough : (rows : List (Row Action)) (segments : List (List ℕ)) (row : Row Action) → list_all is_enough rows ≡ true
-    → found rows segments ≡ Some row → (is_enough row ≡ true) × (fits row.pattern segments ≡ true)
-unfolding found
-found_enough [] segments row enough found_is = cc
-found_enough (next ∷ rows) segments row enough found_is =
-    let both = both_true (is_enough next) (list_all is_enough rows) enough in
-    found_by next rows segments row (fits next.pattern segments) refl both.0 found_is (found_enough rows segments row both.1)
+is_enough row = all_methods (is_enough_for (ids_count row.pattern)) row.methods

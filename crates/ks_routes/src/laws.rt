@@ -10,6 +10,7 @@ ghost use Rattle.ks_machine.specs.declared.command.Command.TheVariants.{Version}
 ghost use Rattle.ks_routes.specs.declared.action.Action.{Action};
 ghost use Rattle.ks_routes.specs.declared.routed.Routed.TheVariants as routed;
 ghost use Rattle.ks_routes.specs.Patterns.{fits, is_id, segments};
+ghost use Rattle.ks_routes.specs.Ranges.{CommandsAreInRange};
 ghost use Rattle.ks_routes.specs.Tables.{Row};
 ghost use Rattle.ks_routes.specs.Routes.{command_of, table};
 
@@ -56,4 +57,10 @@ pub fn routing_is_total()
 /// A segment stands for an id exactly where it is one.
 pub fn ids_are_ids()
     ensures { (segment : List ℕ) → (is_id segment ≡ true) ↔ IsId segment }
+{}
+
+/// Each command that a request makes has its fields in range: what was read of a body, the kind of a row, and the place of
+/// a grant.
+pub fn commands_are_in_range()
+    ensures { CommandsAreInRange }
 {}

@@ -1,0 +1,231 @@
+-- What requests ask for is in range.
+use Rattle.std.proofs.Common.{◌≡◌, ℕ, ◌+◌, Bool, true, false, List, Option, Some, None, Ok, Err, refl, sym, ◌∙◌}
+use Rattle.std.specs.Prelude.{Result, IfSome, not, option_map}
+use Rattle.std.specs.List.{list_all}
+use mathlib.Core.Logic.{⊎_elim}
+use Rattle.ks_base.specs.declared.grants.Target.TheVariants as target
+use Rattle.ks_base.specs.declared.shapes.ShapeFault.{ShapeFault}
+use Rattle.ks_base.specs.Rows.{Id}
+use Rattle.ks_http.specs.declared.request.Request.{Request}
+use Rattle.ks_machine.specs.declared.bodies.Made.{Made}
+use Rattle.ks_machine.specs.declared.command.Command.{Command}
+use Rattle.ks_machine.specs.declared.command.Command.TheVariants as command
+use Rattle.ks_machine.specs.Fit.{AreFields, IsGrant, IsMade, IsOwnKind, IsPlace}
+use Rattle.ks_shape.specs.Bodies.{body_of}
+use Rattle.ks_shape.specs.Ranges.{IsBodyFor}
+use Rattle.ks_shape.specs.declared.form.BodyIn.{BodyIn}
+use Rattle.ks_shape.specs.declared.form.BodyIn.TheVariants as body
+use Rattle.ks_shape.specs.declared.form.Form.{Form}
+use Rattle.ks_shape.specs.declared.form.Form.TheVariants as form
+use Rattle.ks_shape.proofs.RangeLemmas.{bodies_in_range}
+use Rattle.ks_routes.specs.declared.action.Action.{Action}
+use Rattle.ks_routes.specs.declared.action.Action.TheVariants as action
+use Rattle.ks_routes.specs.declared.action.Place.{Place}
+use Rattle.ks_routes.specs.declared.action.RowKind.{RowKind}
+use Rattle.ks_routes.specs.declared.action.RowKind.TheVariants as row_kind
+use Rattle.ks_routes.specs.declared.action.TargetKind.{TargetKind}
+use Rattle.ks_routes.specs.declared.action.TargetKind.TheVariants as target_kind
+use Rattle.ks_routes.specs.declared.routed.Routed.{Routed}
+use Rattle.ks_routes.specs.declared.routed.Routed.TheVariants as routed
+use Rattle.ks_routes.specs.Asked.{actor_of, asked, both, grant_in, grants_in, id_at, ids_in, implication_in, kind_of, login_by, made_by, member_in, over, password_by, read_by, target_ids, target_of, trust_by, with_id}
+use Rattle.ks_routes.specs.Patterns.{segments}
+use Rattle.ks_routes.specs.Ranges.{CommandsAreInRange}
+use Rattle.ks_routes.specs.Routes.{Answers, answered, command_of, routed_by, table}
+use Rattle.ks_routes.specs.Tables.{Row, action_of, found}
+use Rattle.ks_routes.proofs.RowLemmas.{all_methods, at_method, found_passes}
+
+-- a command that is asked for has its fields in range
+abbrev IsInRange : Routed → Type 0
+IsInRange (routed.Command what) = AreFields what
+IsInRange (routed.Refused fault) = Unit {0}
+IsInRange routed.NoRoute = Unit {0}
+IsInRange (routed.NoMethod methods) = Unit {0}
+IsInRange routed.Memory = Unit {0}
+
+over_in : {A : Type 0} (named : Option A) (asks : A → Command) → IfSome named (λ a. AreFields (asks a)) → IsInRange (over named asks)
+over_in (Some a) asks are = are
+over_in None asks are = tt
+
+plain_in : {A : Type 0} (named : Option A) (asks : A → Command) → ((a : A) → AreFields (asks a)) → IsInRange (over named asks)
+plain_in (Some a) asks are = are a
+plain_in None asks are = tt
+
+with_in : (named : Option Id) (asks : Id → Routed) → ((a : Id) → IsInRange (asks a)) → IsInRange (with_id named asks)
+with_in (Some a) asks is = is a
+with_in None asks is = tt
+
+-- bodies
+
+read_in : (asks : BodyIn → Routed) (f : Form) (bytes : List ℕ) (read : Result BodyIn ShapeFault) → body_of f bytes ≡ read
+    → ((b : BodyIn) → IsBodyFor f b → IsInRange (asks b)) → IsInRange (read_by asks read)
+read_in asks f bytes (Ok b) is on = on b (bodies_in_range f bytes b is)
+read_in asks f bytes (Err fault) is on = tt
+
+login_in : (b : BodyIn) → IsBodyFor form.Login b → IsInRange (login_by b)
+login_in (body.Login login) is = is
+login_in (body.Made made) is = tt
+login_in (body.Password original password) is = tt
+login_in (body.Trust trust) is = tt
+
+made_in : (asks : Made → Command) (k : RowKind) (new : Bool) → ((made : Made) → IsMade new made → AreFields (asks made))
+    → (b : BodyIn) → IsBodyFor (form.Made (kind_of k) new) b → IsInRange (made_by asks b)
+made_in asks k new on (body.Made made) is = on made is.1
+made_in asks k new on (body.Login login) is = tt
+made_in asks k new on (body.Password original password) is = tt
+made_in asks k new on (body.Trust trust) is = tt
+
+password_in : (user : Id) (b : BodyIn) → IsBodyFor form.Password b → IsInRange (password_by user b)
+password_in user (body.Password original password) is = is
+password_in user (body.Login login) is = tt
+password_in user (body.Made made) is = tt
+password_in user (body.Trust trust) is = tt
+
+trust_in : (b : BodyIn) → IsBodyFor form.Trust b → IsInRange (trust_by b)
+trust_in (body.Trust trust) is = is
+trust_in (body.Login login) is = tt
+trust_in (body.Made made) is = tt
+trust_in (body.Password original password) is = tt
+
+-- the kinds of rows that have routes
+own_kind : (k : RowKind) → IsOwnKind (kind_of k)
+own_kind row_kind.Domain = tt
+own_kind row_kind.Project = tt
+own_kind row_kind.User = tt
+own_kind row_kind.Group = tt
+own_kind row_kind.Role = tt
+
+-- places: no grants on the system are inherited
+
+abbrev is_place : TargetKind → Bool → Bool
+is_place target_kind.System inherited = not inherited
+is_place target_kind.Project inherited = true
+is_place target_kind.Domain inherited = true
+
+not_true : (b : Bool) → not b ≡ true → b ≡ false
+not_true true e = cc
+not_true false e = refl
+
+mapped : {A B : Type 0} (P : B → Type 0) (f : A → B) (a : Option A) → IfSome a (λ x. P (f x)) → IfSome (option_map f a) P
+mapped P f (Some a) is = is
+mapped P f None is = tt
+
+each_mapped : {A B : Type 0} (P : B → Type 0) (f : A → B) (a : Option A) → ((x : A) → P (f x)) → IfSome (option_map f a) P
+each_mapped P f (Some a) is = is a
+each_mapped P f None is = tt
+
+first_of_both : {A B : Type 0} (P : A → Type 0) (a : Option A) (b : Option B) → IfSome a P → IfSome (both a b) (λ pair. P pair.0)
+first_of_both P (Some a) (Some b) is = is
+first_of_both P (Some a) None is = tt
+first_of_both P None b is = tt
+
+second_of_both : {A B : Type 0} (P : B → Type 0) (a : Option A) (b : Option B) → IfSome b P → IfSome (both a b) (λ pair. P pair.1)
+second_of_both P (Some a) (Some b) is = is
+second_of_both P (Some a) None is = tt
+second_of_both P None b is = tt
+
+target_in : (k : TargetKind) (inherited : Bool) (ids : List Id) → is_place k inherited ≡ true → IfSome (target_of k ids) (λ at. IsPlace at inherited)
+target_in target_kind.System inherited ids is = not_true inherited is
+target_in target_kind.Project inherited ids is = each_mapped (λ at. IsPlace at inherited) (λ a. target.Project a) (id_at ids 0) (λ a. tt)
+target_in target_kind.Domain inherited ids is = each_mapped (λ at. IsPlace at inherited) (λ a. target.Domain a) (id_at ids 0) (λ a. tt)
+
+abbrev is_placed : Place → Bool
+is_placed place = is_place place.target place.inherited
+
+grants_are_in : (place : Place) (ids : List Id) → is_placed place ≡ true → IfSome (grants_in place ids) (λ pair. IsPlace pair.1 place.inherited)
+grants_are_in place ids is =
+    second_of_both (λ at. IsPlace at place.inherited) (option_map (actor_of place.actor) (id_at ids (target_ids place.target))) (target_of place.target ids)
+    (target_in place.target place.inherited ids is)
+
+grant_is_in : (place : Place) (ids : List Id) → is_placed place ≡ true → IfSome (grant_in place ids) IsGrant
+grant_is_in place ids is =
+    mapped IsGrant _ (both (grants_in place ids) (id_at ids (target_ids place.target + 1)))
+    (first_of_both (λ pair. IsPlace pair.1 place.inherited) (grants_in place ids) (id_at ids (target_ids place.target + 1)) (grants_are_in place ids is))
+
+-- actions
+
+abbrev is_in_place : Action → Bool
+is_in_place (action.GrantsOf place) = is_placed place
+is_in_place (action.Grant place) = is_placed place
+is_in_place (action.IsGranted place) = is_placed place
+is_in_place (action.Ungrant place) = is_placed place
+is_in_place _ = true
+
+asked_in : (asks : Action) (ids : List Id) (request : Request) → is_in_place asks ≡ true → IsInRange (asked asks ids request)
+unfolding asked
+asked_in action.Version ids request is = tt
+asked_in action.Login ids request is = read_in login_by form.Login request.body (body_of form.Login request.body) refl login_in
+asked_in action.Validate ids request is = tt
+asked_in action.Check ids request is = tt
+asked_in action.RevokeToken ids request is = tt
+asked_in (action.Create kind) ids request is =
+    read_in (made_by (λ made. command.Create made)) (form.Made (kind_of kind) true) request.body (body_of (form.Made (kind_of kind) true) request.body) refl
+    (made_in (λ made. command.Create made) kind true (λ made is_made. is_made))
+asked_in (action.List kind) ids request is = own_kind kind
+asked_in (action.Get kind) ids request is = plain_in (id_at ids 0) (λ a. command.Get (kind_of kind) a) (λ a. own_kind kind)
+asked_in (action.Update kind) ids request is =
+    with_in (id_at ids 0) _ (λ a.
+    read_in (made_by (λ made. command.Update a made)) (form.Made (kind_of kind) false) request.body (body_of (form.Made (kind_of kind) false) request.body) refl
+    (made_in (λ made. command.Update a made) kind false (λ made is_made. is_made)))
+asked_in (action.Delete kind) ids request is = plain_in (id_at ids 0) (λ a. command.Delete (kind_of kind) a) (λ a. own_kind kind)
+asked_in action.ChangePassword ids request is =
+    with_in (id_at ids 0) _ (λ user. read_in (password_by user) form.Password request.body (body_of form.Password request.body) refl (password_in user))
+asked_in action.GroupsOf ids request is = plain_in (id_at ids 0) (λ a. command.GroupsOf a) (λ a. tt)
+asked_in action.MembersOf ids request is = plain_in (id_at ids 0) (λ a. command.MembersOf a) (λ a. tt)
+asked_in action.Join ids request is = plain_in (member_in ids) (λ row. command.Join row) (λ row. tt)
+asked_in action.IsIn ids request is = plain_in (member_in ids) (λ row. command.IsIn row) (λ row. tt)
+asked_in action.Leave ids request is = plain_in (member_in ids) (λ row. command.Leave row) (λ row. tt)
+asked_in action.Implied ids request is = plain_in (id_at ids 0) (λ a. command.Implied a) (λ a. tt)
+asked_in action.Imply ids request is = plain_in (implication_in ids) (λ row. command.Imply row) (λ row. tt)
+asked_in action.Implication ids request is = plain_in (implication_in ids) (λ row. command.Implication row) (λ row. tt)
+asked_in action.IsImplied ids request is = plain_in (implication_in ids) (λ row. command.IsImplied row) (λ row. tt)
+asked_in action.Unimply ids request is = plain_in (implication_in ids) (λ row. command.Unimply row) (λ row. tt)
+asked_in (action.GrantsOf place) ids request is =
+    over_in (grants_in place ids) (λ pair. command.GrantsOf pair.0 pair.1 place.inherited) (grants_are_in place ids is)
+asked_in (action.Grant place) ids request is = over_in (grant_in place ids) (λ row. command.Grant row) (grant_is_in place ids is)
+asked_in (action.IsGranted place) ids request is = over_in (grant_in place ids) (λ row. command.IsGranted row) (grant_is_in place ids is)
+asked_in (action.Ungrant place) ids request is = over_in (grant_in place ids) (λ row. command.Ungrant row) (grant_is_in place ids is)
+asked_in action.Assignments ids request is = tt
+asked_in action.CreateTrust ids request is = read_in trust_by form.Trust request.body (body_of form.Trust request.body) refl trust_in
+asked_in action.Trusts ids request is = tt
+asked_in action.Trust ids request is = plain_in (id_at ids 0) (λ a. command.Trust a) (λ a. tt)
+asked_in action.DeleteTrust ids request is = plain_in (id_at ids 0) (λ a. command.DeleteTrust a) (λ a. tt)
+asked_in action.TrustRoles ids request is = plain_in (id_at ids 0) (λ a. command.TrustRoles a) (λ a. tt)
+asked_in action.Events ids request is = tt
+asked_in action.RotateKeys ids request is = tt
+asked_in action.LoadKeys ids request is = tt
+
+-- the rows of the table
+
+abbrev is_in_place_if : Option Action → Bool
+is_in_place_if (Some asks) = is_in_place asks
+is_in_place_if None = true
+
+abbrev is_row_in_place : Row Action → Bool
+is_row_in_place row = all_methods is_in_place_if row.methods
+
+table_in_place : list_all is_row_in_place table ≡ true
+table_in_place = refl
+
+answered_in : (row : Row Action) (asks : Option Action) (request : Request) → is_in_place_if asks ≡ true
+    → IsInRange (answered row.pattern row.methods asks request)
+answered_in row (Some asks) request is = asked_in asks (ids_in row.pattern (segments request.path)) request is
+answered_in row None request is = tt
+
+routed_in : (rows : List (Row Action)) (request : Request) → list_all is_row_in_place rows ≡ true → (route : Option (Row Action))
+    → found rows (segments request.path) ≡ route → IsInRange (routed_by route request)
+routed_in rows request are None found_is = tt
+routed_in rows request are (Some row) found_is =
+    let in_place = found_passes is_row_in_place rows (segments request.path) row are found_is in
+    answered_in row (action_of request.method row.methods) request (at_method is_in_place_if refl row.methods request.method in_place.0)
+
+pub commands_in_range : CommandsAreInRange
+unfolding command_of
+commands_in_range request what is =
+    rw is at (routed_in table request table_in_place (found table (segments request.path)) refl)
+
+-- so are those of a command that is answered
+pub answers_in_range : (request : Request) (result : Routed) (what : Command) → Answers (command_of request) result → result ≡ routed.Command what → AreFields what
+answers_in_range request result what answers is = ⊎_elim
+    (λ same. commands_in_range request what (sym same ∙ is))
+    (λ memory. let no : routed.Memory ≡ routed.Command what = sym memory ∙ is in cc)
+    answers
