@@ -5,12 +5,10 @@ use Rattle.ks_base.specs.declared.events.EventRow.{EventRow}
 use Rattle.ks_base.specs.declared.events.Revoke.TheVariants as revoke
 use Rattle.ks_base.specs.declared.kinds.Kind.TheVariants as kind
 use Rattle.ks_base.specs.declared.rows.RoleRow.{RoleRow}
-use Rattle.ks_base.specs.declared.users.UserRow.{UserRow}
 use Rattle.ks_base.specs.Rows.{Id, Text}
 use Rattle.ks_machine.specs.declared.bodies.Made.TheVariants as made
 use Rattle.ks_machine.specs.declared.bodies.Proof.TheVariants as proof
 use Rattle.ks_machine.specs.declared.bodies.ScopeIn.TheVariants as scope_in
-use Rattle.ks_machine.specs.declared.body_out.BodyOut.{BodyOut}
 use Rattle.ks_machine.specs.declared.body_out.BodyOut.TheVariants as body
 use Rattle.ks_machine.specs.declared.cause.Cause.TheVariants as cause
 use Rattle.ks_machine.specs.declared.command.Command.{Command}
