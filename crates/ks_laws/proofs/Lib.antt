@@ -12,6 +12,10 @@ mod TokenLemmas
 mod RowCommands
 mod TrustCommands
 mod CommandLemmas
+mod AsksLemmas
+mod QuietLemmas
+mod LackLemmas
+pub mod LackLaws
 pub mod FrontLemmas
 pub mod LawLemmas
 mod LimitExamples

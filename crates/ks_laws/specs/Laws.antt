@@ -1,27 +1,28 @@
--- What holds of all orderly states and of all lawful fronts: they go on, their replies can be told, and the walks of a lawful front's state
--- are the whole climbs.
-use Rattle.std.specs.Prelude.{◌≡◌, ℕ, ◌<◌, ◌≤◌, ◌^◌, [], length, Option, Some, None}
+-- What holds of all orderly states and of all lawful fronts: they go on, what their steps lack can be found out, their replies can be told,
+-- and the walks of a lawful front's state are the whole climbs.
+use Rattle.std.specs.Prelude.{◌≡◌, ℕ, ◌<◌, ◌≤◌, ◌^◌, List, [], length, Option, Some, None}
 use Rattle.ks_base.specs.declared.rows.ProjectRow.{ProjectRow}
 use Rattle.ks_base.specs.declared.trusts.TrustRow.{TrustRow}
 use Rattle.ks_base.specs.Rows.{Id, project_of, trust_of}
 use Rattle.ks_base.specs.Tree.{above}
 use Rattle.ks_base.specs.Trusts.{LeadsTo, first_trustor}
 use Rattle.ks_laws.specs.Ancestries.{IsAncestry}
+use Rattle.ks_laws.specs.Lacking.{AreSalted, IsLack, IsUnknown}
 use Rattle.ks_laws.specs.Orderly.{IsOrderly}
 use Rattle.ks_machine.specs.declared.call.Call.{Call}
 use Rattle.ks_machine.specs.declared.change.Change.{Change}
 use Rattle.ks_machine.specs.declared.reply.Reply.{Reply}
-use Rattle.ks_machine.specs.Attempts.{Go, Known}
+use Rattle.ks_machine.specs.Attempts.{Go, Known, Lack, Stored, everything}
 use Rattle.ks_machine.specs.Changes.{apply}
 use Rattle.ks_machine.specs.Fit.{Fit}
-use Rattle.ks_machine.specs.Fronts.{Front, IsSound, ◌⊑◌, after, answer, replay, then}
+use Rattle.ks_machine.specs.Fronts.{Front, IsSound, ◌⊑◌, after, answer, change_of, replay, then}
 use Rattle.ks_machine.specs.Lawful.{Fits, IsLawful, IsOpeningInRange}
 use Rattle.ks_machine.specs.Moment.{last_moment}
 use Rattle.ks_machine.specs.Opened.{open_fault, opened_state}
 use Rattle.ks_machine.specs.Openings.{PlainOpening}
 use Rattle.ks_machine.specs.Room.{room_for}
 use Rattle.ks_machine.specs.States.{State, raised}
-use Rattle.ks_machine.specs.Steps.{Replies, step_at}
+use Rattle.ks_machine.specs.Steps.{Needs, Replies, step, step_at}
 use Rattle.ks_machine.specs.Told.{IsTellable}
 
 -- states
@@ -49,6 +50,23 @@ TimeKeepsOrderly = (S : State) (moment : ℕ) → IsOrderly S → S.high ≤ mom
 
 abbrev pub OpenedIsOrderly : Type 0
 OpenedIsOrderly = (opening : PlainOpening) → IsOpeningInRange opening → open_fault opening ≡ None → IsOrderly (opened_state opening)
+
+-- what a step of an orderly state lacks can be found out, with whatever facts it is taken
+abbrev pub LacksAreInRange : Type 0
+LacksAreInRange =
+    (known : Known) (S : State) (moment : ℕ) (call : Call) (lack : Lack)
+    → IsOrderly S → Fit call → step_at known S moment call ≡ Needs lack → IsLack S call lack
+
+-- a kept salt that it asks for has 16 bytes, where each that is kept has
+abbrev pub KeptSaltsAreWhole : Type 0
+KeptSaltsAreWhole =
+    (known : Known) (S : State) (moment : ℕ) (call : Call) (salt : List ℕ) (rounds : ℕ)
+    → IsOrderly S → AreSalted S.rows.users → Fit call → step_at known S moment call ≡ Needs (Stored salt rounds) → length salt ≡ 16
+
+-- what any step lacks is a fact of a token or a password of its call, and is not known
+abbrev pub LacksAreUnknown : Type 0
+LacksAreUnknown =
+    (known : Known) (S : State) (moment : ℕ) (call : Call) (lack : Lack) → step_at known S moment call ≡ Needs lack → IsUnknown known call lack
 
 -- fronts
 
@@ -84,6 +102,11 @@ CountsChanges = (f : Front) → IsLawful f → (replay f).made ≡ length f.chan
 
 abbrev pub RepliesAreTellable : Type 0
 RepliesAreTellable = (f : Front) (call : Call) → IsLawful f → Fit call → IsTellable (answer f call)
+
+-- no answer stands for a fact that is lacking: it is what the step with all facts replies
+abbrev pub AnswersAreReplies : Type 0
+AnswersAreReplies =
+    (f : Front) (call : Call) → step everything (replay f) call ≡ Replies (answer f call) (change_of (step everything (replay f) call))
 
 -- what is computed as the projects above one is all of them, up to a top project
 abbrev pub ProjectsAreClimbed : Type 0

@@ -1,3 +1,4 @@
 pub mod Ancestries
 pub mod Orderly
+pub mod Lacking
 pub mod Laws

@@ -2,7 +2,7 @@
 //! a function that does nothing.
 #![tactic(auto)]
 
-ghost use Rattle.ks_laws.specs.Laws.{ChangesKeepOrderly, CountsChanges, EarlierIsLawful, LawfulGoesOn, LawfulIsOrderly, LawfulIsSound, MomentsKeepLawful, OpenedIsOrderly, OpeningIsLawful, ProjectsAreClimbed, RepliesAreTellable, StepsFit, TimeKeepsOrderly, TrustsLead};
+ghost use Rattle.ks_laws.specs.Laws.{AnswersAreReplies, ChangesKeepOrderly, CountsChanges, EarlierIsLawful, KeptSaltsAreWhole, LacksAreInRange, LacksAreUnknown, LawfulGoesOn, LawfulIsOrderly, LawfulIsSound, MomentsKeepLawful, OpenedIsOrderly, OpeningIsLawful, ProjectsAreClimbed, RepliesAreTellable, StepsFit, TimeKeepsOrderly, TrustsLead};
 
 /// An accepted opening opens an orderly state. What a step of one tells can be told, and the change that it makes fits and
 /// leaves an orderly state, with whatever facts the step was taken.
@@ -11,6 +11,16 @@ pub fn states_stay_orderly()
     ensures steps { StepsFit }
     ensures changes { ChangesKeepOrderly }
     ensures time { TimeKeepsOrderly }
+{}
+
+/// Whatever is known, what a step of an orderly state lacks for a fit call can be found out: it names keys that are held, or
+/// rounds in range with the salt that a standing user keeps or the one that was drawn. It is a fact of a token or a password
+/// of the call, and is not known. With all facts none is lacking, so that an answer is always a step's reply.
+pub fn steps_lack_what_can_be_found()
+    ensures ranges { LacksAreInRange }
+    ensures salts { KeptSaltsAreWhole }
+    ensures unknown { LacksAreUnknown }
+    ensures answers { AnswersAreReplies }
 {}
 
 /// An accepted opening opens a lawful front, and the front after a call, or at a later moment, is as lawful as the one

@@ -1,0 +1,222 @@
+-- What a step lacks, one of three checks lacks: what the held keys make of a text, whether a password is the one that is kept, and what
+-- is kept of a new one. What holds of all that these lack holds of all that a step lacks.
+use Rattle.std.proofs.Common.{◌≡◌, ℕ, Bool, true, false, Option, Some, None, inl, inr, codes, refl, ap, ◌∙◌}
+use Rattle.std.specs.Prelude.{not, ◌&&◌, ◌||◌}
+use Rattle.std.specs.List.{find}
+use Rattle.std.specs.Option.{option_and_then}
+use Rattle.ks_base.specs.declared.rows.DomainRow.{DomainRow}
+use Rattle.ks_base.specs.declared.users.PasswordRow.{PasswordRow}
+use Rattle.ks_base.specs.declared.users.UserRow.{UserRow}
+use Rattle.ks_base.specs.People.{is_user_named}
+use Rattle.ks_base.specs.Rows.{Id, Text, Rows, user_of}
+use Rattle.ks_base.specs.Tables.{Among}
+use Rattle.ks_laws.specs.Lacking.{IsNewOf, IsTestedOf, IsTokenOf}
+use Rattle.ks_laws.proofs.AsksLemmas.{Asks, asks_behind_found, asks_behind_need, asks_bind, asks_blame, asks_decided, asks_fault, asks_found, asks_go, asks_map, asks_need, asks_unless}
+use Rattle.ks_laws.proofs.ListLemmas.{found_is_among, found_passes}
+use Rattle.ks_laws.proofs.QuietLemmas.{asks_allows, asks_create_domain, asks_create_group, asks_create_project, asks_create_role, asks_create_trust, asks_delete, asks_get, asks_grant, asks_grants_of, asks_is_granted, asks_is_in, asks_lines, asks_load, asks_room, asks_rotate, asks_scoped, asks_update_domain, asks_update_group, asks_update_project, asks_update_role}
+use Rattle.ks_machine.specs.declared.bodies.LoginBody.{LoginBody}
+use Rattle.ks_machine.specs.declared.bodies.Made.{Made}
+use Rattle.ks_machine.specs.declared.bodies.Made.TheVariants as made
+use Rattle.ks_machine.specs.declared.bodies.Proof.{Proof}
+use Rattle.ks_machine.specs.declared.bodies.Proof.TheVariants as proof
+use Rattle.ks_machine.specs.declared.bodies.UserNamed.{UserNamed}
+use Rattle.ks_machine.specs.declared.bodies.UserNamed.TheVariants as user_named
+use Rattle.ks_machine.specs.declared.call.Call.{Call}
+use Rattle.ks_machine.specs.declared.cause.Cause.{Cause}
+use Rattle.ks_machine.specs.declared.cause.Cause.TheVariants as cause
+use Rattle.ks_machine.specs.declared.command.Command.{Command}
+use Rattle.ks_machine.specs.declared.command.Command.TheVariants as command
+use Rattle.ks_machine.specs.declared.why.Why.{Why}
+use Rattle.ks_machine.specs.Actions.{draws_for, requirements}
+use Rattle.ks_machine.specs.Attempts.{Attempt, Lack, Known}
+use Rattle.ks_machine.specs.Creations.{create, create_user}
+use Rattle.ks_machine.specs.Keys.{is_failed}
+use Rattle.ks_machine.specs.Login.{by_password, is_password, login, shown}
+use Rattle.ks_machine.specs.Members.{groups_of, implication, implied, imply, is_implied, join, leave, members_of, ungrant, unimply}
+use Rattle.ks_machine.specs.Outcomes.{Outcome}
+use Rattle.ks_machine.specs.Passwords.{change_password, derived, derived_or}
+use Rattle.ks_machine.specs.Scopes.{domain_in, user_in}
+use Rattle.ks_machine.specs.States.{State}
+use Rattle.ks_machine.specs.Steps.{answered, as_caller, as_caller_about, caller_of, checked, has_drawn, lacking_of, missing, subject_of}
+use Rattle.ks_machine.specs.TrustCommands.{delete_trust, get_trust, roles_of_trust}
+use Rattle.ks_machine.specs.Updates.{update, update_user}
+use Rattle.ks_machine.specs.Validity.{Valid, opens, validity}
+
+-- it holds of all that the three checks lack, each over what a call can hand it
+pub record ChecksAsk (P : Lack → Type 0) (known : Known) (S : State) (call : Call) : Type 0 where
+  pub token : (text : Text) → IsTokenOf call text → Asks {E = Why} P (opens known S.ring.held text)
+  pub tested : (user : UserRow) (row : PasswordRow) (password : Text) → Among S.rows.users user → user.password ≡ Some row →
+      IsTestedOf call.command password → Asks {E = Cause} P (is_password known row password)
+  pub fresh : (password : Text) → IsNewOf call.command password → has_drawn call.draw ≡ true → Asks {E = Cause} P (derived known S call.draw password)
+
+-- a user that is named stands
+
+named_in_domain : (rows : Rows) (name : Text) (domain : Option DomainRow) (user : UserRow) →
+    option_and_then (λ (d : DomainRow). find (is_user_named d.id name) rows.users) domain ≡ Some user → Among rows.users user
+named_in_domain rows name None user is = cc
+named_in_domain rows name (Some domain) user is = (found_passes (is_user_named domain.id name) rows.users user is).0
+
+named_stands : (rows : Rows) (named : UserNamed) (user : UserRow) → user_in rows named ≡ Some user → Among rows.users user
+named_stands rows (user_named.Id id) user is = found_is_among (λ (r : UserRow). r.id) id rows.users user is
+named_stands rows (user_named.Name name domain) user is = named_in_domain rows name (domain_in rows domain) user is
+
+module _ (P : Lack → Type 0) (known : Known) (S : State) (call : Call) (checks : ChecksAsk P known S call) where
+  -- tokens
+
+  asks_validity : (moment : ℕ) (late : Bool) (text : Text) → IsTokenOf call text → Asks P (validity known S moment late text)
+  unfolding validity
+  asks_validity moment late text of =
+      asks_bind P _ _ (checks.token text of) (λ answer. asks_bind P _ _ (asks_decided P _) (λ held. asks_lines P S moment held))
+
+  asks_caller : (moment : ℕ) → Asks P (caller_of known S moment call.caller)
+  unfolding caller_of
+  asks_caller moment =
+      asks_behind_found P call.caller cause.NoToken _ (λ text is. asks_blame P _ _ (asks_validity moment false text (inl is)))
+
+  asks_subject : (moment : ℕ) (late : Bool) → Asks P (subject_of known S moment late call.subject)
+  unfolding subject_of
+  asks_subject moment late =
+      asks_behind_found P call.subject (missing (codes "X-Subject-Token")) _ (λ text is. asks_blame P _ _ (asks_validity moment late text (inr (inl is))))
+
+  asks_as_caller : (moment : ℕ) (own : Valid → Attempt Cause Outcome) → ((caller : Valid) → Asks P (own caller)) → Asks P (as_caller known S moment call own)
+  unfolding as_caller
+  asks_as_caller moment own is =
+      asks_bind P _ _ (asks_caller moment) (λ caller. asks_bind P _ _ (asks_allows P S caller None call.command _) (λ allowed. is caller))
+
+  asks_about : (moment : ℕ) (late : Bool) (own : Text → Valid → Outcome) → Asks P (as_caller_about known S moment call late own)
+  unfolding as_caller_about
+  asks_about moment late own = search (asks_bind, asks_go, asks_found, asks_caller, asks_subject, asks_allows) depth 16
+
+  -- passwords
+
+  asks_by_password : (named : Option UserRow) (password : Text) → ((user : UserRow) → named ≡ Some user → Among S.rows.users user) →
+      IsTestedOf call.command password → Asks P (by_password known S.rows named password)
+  unfolding by_password
+  asks_by_password named password stands of =
+      asks_behind_found P named cause.Credentials _ (λ user is. asks_behind_found P user.password cause.Credentials _ (λ row keeps.
+      asks_bind P _ _ (checks.tested user row password (stands user is) keeps of) (λ same.
+      asks_bind P _ _ (asks_need P same cause.Credentials) (λ passed. asks_map P _ _ (asks_need P _ _)))))
+
+  asks_derived_or : (kept : Option PasswordRow) (password : Option Text) → ((new : Text) → password ≡ Some new → IsNewOf call.command new) →
+      has_drawn call.draw ≡ true → Asks {E = Cause} P (derived_or known S call.draw kept password)
+  unfolding derived_or
+  asks_derived_or kept None of drawn = asks_go Cause P _
+  asks_derived_or kept (Some password) of drawn = asks_map P _ _ (checks.fresh password (of password refl) drawn)
+
+  asks_change_password : (id : Id) (original new : Text) → call.command ≡ command.ChangePassword id original new → has_drawn call.draw ≡ true →
+      Asks P (change_password known S call.draw id original new)
+  unfolding change_password
+  asks_change_password id original new is drawn =
+      asks_bind P _ _ (asks_by_password (user_of id S.rows.users) original (found_is_among (λ (r : UserRow). r.id) id S.rows.users) (inr (id, new, is))) (λ user.
+      asks_map P _ _ (checks.fresh new (inl (id, original, is)) drawn))
+
+  -- logins
+
+  asks_shown : (moment : ℕ) (asked : LoginBody) (by : Proof) → call.command ≡ command.Login asked → asked.proof ≡ by → Asks P (shown known S moment by)
+  unfolding shown
+  asks_shown moment asked (proof.Password user password) is by =
+      asks_map P _ _ (asks_by_password (user_in S.rows user) password (named_stands S.rows user)
+      (inl (user, asked.scope, is ∙ ap (λ (p : Proof). command.Login (record { proof = p; scope = asked.scope })) by)))
+  asks_shown moment asked (proof.Token text) is by =
+      asks_bind P _ _ (asks_blame P _ _ (asks_validity moment false text
+      (inr (inr (asked.scope, is ∙ ap (λ (p : Proof). command.Login (record { proof = p; scope = asked.scope })) by))))) (λ token.
+      asks_map P _ _ (asks_need P _ _))
+
+  asks_login : (moment : ℕ) (asked : LoginBody) → call.command ≡ command.Login asked → Asks P (login known S moment call.draw asked)
+  unfolding login
+  asks_login moment asked is =
+      asks_bind P _ _ (asks_shown moment asked asked.proof is refl) (λ who. asks_map P _ _ (asks_scoped P S.rows moment who.user asked.scope))
+
+  -- users
+
+  asks_create_user : (new : UserRow) (password : Option Text) → ((fresh : Text) → password ≡ Some fresh → IsNewOf call.command fresh) → has_drawn call.draw ≡ true →
+      Asks P (create_user known S call.draw new password)
+  unfolding create_user
+  asks_create_user new password of drawn = search (asks_bind, asks_go, asks_found, asks_fault, asks_derived_or, of, drawn) depth 16
+
+  asks_create : (caller : Valid) (asked : Made) → call.command ≡ command.Create asked → has_drawn call.draw ≡ true → Asks P (create known S call.draw caller asked)
+  unfolding create
+  asks_create caller (made.Domain given name description enabled) is drawn = asks_create_domain P S.rows _ name description enabled
+  asks_create caller (made.Project given name domain parent description enabled) is drawn = asks_create_project P S.rows _
+  asks_create caller (made.User given name domain password enabled) is drawn =
+      asks_create_user _ password (λ fresh was. inr (inl (
+        given,
+        name,
+        domain,
+        enabled,
+        is ∙ ap (λ (p : Option Text). command.Create (made.User given name domain p enabled)) was,
+      ))) drawn
+  asks_create caller (made.Group given name domain description) is drawn = asks_create_group P S.rows _
+  asks_create caller (made.Role given name description) is drawn = asks_create_role P S.rows _ name description
+
+  asks_update_user : (id : Id) (given : Option Id) (name : Option Text) (domain : Option Id) (password : Option Text) (enabled : Option Bool) →
+      ((fresh : Text) → password ≡ Some fresh → IsNewOf call.command fresh) → has_drawn call.draw ≡ true →
+      Asks P (update_user known S call.draw id given name domain password enabled)
+  unfolding update_user
+  asks_update_user id given name domain password enabled of drawn =
+      search (asks_bind, asks_go, asks_found, asks_need, asks_fault, asks_derived_or, of, drawn) depth 20
+
+  asks_update : (id : Id) (asked : Made) → call.command ≡ command.Update id asked → (not (draws_for asked) || has_drawn call.draw) ≡ true →
+      Asks P (update known S call.draw id asked)
+  unfolding update
+  asks_update id (made.Domain given name description enabled) is drawn = asks_update_domain P S.rows id given name description enabled
+  asks_update id (made.Project given name domain parent description enabled) is drawn = asks_update_project P S.rows id given name domain parent description enabled
+  asks_update id (made.User given name domain password enabled) is drawn =
+      asks_update_user id given name domain password enabled (λ fresh was. inr (inr (
+        id,
+        given,
+        name,
+        domain,
+        enabled,
+        is ∙ ap (λ (p : Option Text). command.Update id (made.User given name domain p enabled)) was,
+      ))) drawn
+  asks_update id (made.Group given name domain description) is drawn = asks_update_group P S.rows id given name domain description
+  asks_update id (made.Role given name description) is drawn = asks_update_role P S.rows id given name description
+
+  -- all commands
+
+  asks_answered : (moment : ℕ) (asked : Command) → call.command ≡ asked → (not (requirements asked).draws || has_drawn call.draw) ≡ true →
+      Asks P (answered known S moment call asked)
+  unfolding answered requirements groups_of members_of join leave implied imply implication is_implied unimply ungrant get_trust delete_trust roles_of_trust
+  asks_answered moment command.Version is drawn = asks_go Cause P _
+  asks_answered moment (command.Login body) is drawn = asks_login moment body is
+  asks_answered moment (command.ChangePassword id original new) is drawn = asks_change_password id original new is drawn
+  asks_answered moment (command.Validate late) is drawn = asks_about moment late _
+  asks_answered moment (command.Check late) is drawn = asks_about moment late _
+  asks_answered moment command.RevokeToken is drawn = asks_about moment _ _
+  asks_answered moment (command.Create body) is drawn = asks_as_caller moment _ (λ caller. asks_create caller body is drawn)
+  asks_answered moment (command.List of filters) is drawn = asks_as_caller moment _ (λ caller. asks_go Cause P _)
+  asks_answered moment (command.Get of id) is drawn = asks_as_caller moment _ (λ caller. asks_get P S.rows of id)
+  asks_answered moment (command.Update id body) is drawn = asks_as_caller moment _ (λ caller. asks_update id body is drawn)
+  asks_answered moment (command.Delete of id) is drawn = asks_as_caller moment _ (λ caller. asks_delete P S.rows of id)
+  asks_answered moment (command.GroupsOf id) is drawn = asks_as_caller moment _ (λ caller. asks_map P _ _ (asks_found P _ _))
+  asks_answered moment (command.MembersOf id) is drawn = asks_as_caller moment _ (λ caller. asks_map P _ _ (asks_found P _ _))
+  asks_answered moment (command.Join row) is drawn = asks_as_caller moment _ (λ caller. asks_map P _ _ (asks_fault P _ _))
+  asks_answered moment (command.IsIn row) is drawn = asks_as_caller moment _ (λ caller. asks_is_in P S.rows row)
+  asks_answered moment (command.Leave row) is drawn = asks_as_caller moment _ (λ caller. asks_map P _ _ (asks_is_in P S.rows row))
+  asks_answered moment (command.Implied id) is drawn = asks_as_caller moment _ (λ caller. asks_map P _ _ (asks_found P _ _))
+  asks_answered moment (command.Imply row) is drawn = asks_as_caller moment _ (λ caller. asks_map P _ _ (asks_fault P _ _))
+  asks_answered moment (command.Implication row) is drawn = asks_as_caller moment _ (λ caller. asks_map P _ _ (asks_fault P _ _))
+  asks_answered moment (command.IsImplied row) is drawn = asks_as_caller moment _ (λ caller. asks_map P _ _ (asks_fault P _ _))
+  asks_answered moment (command.Unimply row) is drawn = asks_as_caller moment _ (λ caller. asks_map P _ _ (asks_fault P _ _))
+  asks_answered moment (command.GrantsOf who at inherited) is drawn = asks_as_caller moment _ (λ caller. asks_grants_of P S.rows who at inherited)
+  asks_answered moment (command.Grant row) is drawn = asks_as_caller moment _ (λ caller. asks_grant P S.rows row)
+  asks_answered moment (command.IsGranted row) is drawn = asks_as_caller moment _ (λ caller. asks_is_granted P S.rows row)
+  asks_answered moment (command.Ungrant row) is drawn = asks_as_caller moment _ (λ caller. asks_map P _ _ (asks_is_granted P S.rows row))
+  asks_answered moment (command.Assignments filters) is drawn = asks_as_caller moment _ (λ caller. asks_go Cause P _)
+  asks_answered moment (command.CreateTrust body) is drawn = asks_as_caller moment _ (λ caller. asks_create_trust P S.rows moment call.draw caller body)
+  asks_answered moment (command.Trusts filters) is drawn = asks_as_caller moment _ (λ caller. asks_go Cause P _)
+  asks_answered moment (command.Trust id) is drawn = asks_as_caller moment _ (λ caller. asks_map P _ _ (asks_found P _ _))
+  asks_answered moment (command.DeleteTrust id) is drawn = asks_as_caller moment _ (λ caller. asks_map P _ _ (asks_found P _ _))
+  asks_answered moment (command.TrustRoles id) is drawn = asks_as_caller moment _ (λ caller. asks_map P _ _ (asks_found P _ _))
+  asks_answered moment command.Events is drawn = asks_as_caller moment _ (λ caller. asks_go Cause P _)
+  asks_answered moment command.RotateKeys is drawn = asks_as_caller moment _ (λ caller. asks_rotate P S call.draw)
+  asks_answered moment command.LoadKeys is drawn = asks_as_caller moment _ (λ caller. asks_load P S call.folder)
+
+  pub asks_checked : (moment : ℕ) → Asks P (checked known S moment call)
+  unfolding checked
+  asks_checked moment =
+      asks_bind P _ _ (asks_unless P (lacking_of (requirements call.command) call.subject)) (λ whole.
+      asks_behind_need P (not (requirements call.command).draws || has_drawn call.draw) cause.Random _ (λ drawn.
+      asks_bind P _ _ (asks_need P (not ((requirements call.command).loads && is_failed call.folder)) cause.KeyDir) (λ read.
+      asks_bind P _ _ (asks_answered moment call.command refl drawn) (λ outcome. asks_map P _ _ (asks_room P S moment outcome.change)))))
