@@ -1,0 +1,280 @@
+"""JSON texts and the fields of bodies (Identity API v3), read one by one."""
+
+import json
+import re
+
+from second_reading.words import Refusal
+from second_reading.ciphers import is_id, moment_of
+
+MISSING = object()
+
+
+def is_plain(text):
+    """Whether a text has at most 127 levels, and no half of a surrogate pair alone in its strings."""
+    levels, place, high, in_string = 0, 0, False, False
+    while place < len(text):
+        step, is_low = 1, False
+        if in_string and text[place] == "\\":
+            step = 6 if text[place + 1:place + 2] == "u" else 2
+            code = text[place + 2:place + 6] if step == 6 else ""
+            code = int(code, 16) if re.fullmatch("[0-9A-Fa-f]{4}", code) else 0
+            is_low = 0xDC00 <= code < 0xE000
+            if is_low != high:
+                return False
+            high = 0xD800 <= code < 0xDC00
+        elif high:
+            return False
+        elif text[place] == '"':
+            in_string = not in_string
+        elif not in_string:
+            levels += (text[place] in "[{") - (text[place] in "]}")
+            if levels > 127:
+                return False
+        place += step
+    return True
+
+
+def real(text):
+    """A number that is no whole one, or no such from 0 below 2^64; one out of a double's range is no JSON."""
+    number = float(text)
+    if number in (float("inf"), float("-inf")):
+        raise ValueError("out of range")
+    return number
+
+
+def whole_or_real(text):
+    """A whole number from 0 below 2^64 as such."""
+    if text.startswith("-") or len(text) > 20 or int(text) >= 2**64:
+        return real(text)
+    return int(text)
+
+
+def no_constant(text):
+    """`NaN` and `Infinity` are no JSON."""
+    raise ValueError(text)
+
+
+def document(data):
+    """The value of a JSON text (RFC 8259)."""
+    try:
+        text = data.decode("utf-8")
+        if not is_plain(text):
+            raise ValueError("not plain")
+        return json.loads(text, parse_int=whole_or_real, parse_float=real, parse_constant=no_constant)
+    except ValueError:
+        raise Refusal("NotJson") from None
+
+
+def at(place, *names):
+    """The place of a member, as its path and its value; `MISSING` below what is missing."""
+    path, value = place
+    for name in names:
+        if value is not MISSING and not isinstance(value, dict):
+            raise Refusal("Kind", path)
+        path = path + "." + name if path else name
+        value = value.get(name, MISSING) if value is not MISSING else MISSING
+    return path, value
+
+
+def needed(place, reader):
+    """A field that must be there; null has the wrong type."""
+    path, value = place
+    if value is MISSING:
+        raise Refusal("Missing", path)
+    return reader(path, value)
+
+
+def optional(place, reader, default=None):
+    """A field that may be absent, or null."""
+    path, value = place
+    return default if value is MISSING or value is None else reader(path, value)
+
+
+def kind_unless(holds, path):
+    """The value has its type."""
+    if not holds:
+        raise Refusal("Kind", path)
+
+
+def range_unless(holds, path):
+    """The value is in its range."""
+    if not holds:
+        raise Refusal("Range", path)
+
+
+def any_text(path, value):
+    """A text."""
+    kind_unless(isinstance(value, str), path)
+    return value
+
+
+def text_of(low, high):
+    """A text of so many bytes."""
+
+    def reader(path, value):
+        any_text(path, value)
+        range_unless(low <= len(value.encode()) <= high, path)
+        return value
+
+    return reader
+
+
+NAME = text_of(1, 255)
+DESCRIPTION = text_of(0, 4096)
+PASSWORD = text_of(1, 4096)
+
+
+def id_text(path, value):
+    """An id."""
+    any_text(path, value)
+    range_unless(is_id(value), path)
+    return value
+
+
+def truth(path, value):
+    """True or false."""
+    kind_unless(isinstance(value, bool), path)
+    return value
+
+
+def only(wanted):
+    """One of the two truths."""
+
+    def reader(path, value):
+        truth(path, value)
+        range_unless(value is wanted, path)
+        return value
+
+    return reader
+
+
+def whole(low, high):
+    """A whole number in a range."""
+
+    def reader(path, value):
+        kind_unless(isinstance(value, int) and not isinstance(value, bool), path)
+        range_unless(low <= value <= high, path)
+        return value
+
+    return reader
+
+
+def time_field(path, value):
+    """A time text, as its moment."""
+    any_text(path, value)
+    kind_unless(moment_of(value) is not None, path)
+    return moment_of(value)
+
+
+def a_list(path, value):
+    """A list."""
+    kind_unless(isinstance(value, list), path)
+    return value
+
+
+def an_object(path, value):
+    """An object."""
+    kind_unless(isinstance(value, dict), path)
+    return value
+
+
+def named(place):
+    """What is named by its id, or else by its name."""
+    given = optional(at(place, "id"), id_text)
+    return {"id": given} if given is not None else {"name": needed(at(place, "name"), NAME)}
+
+
+def named_at_home(place):
+    """The same, where a name is unique within a domain."""
+    found = named(place)
+    return found if "id" in found else {"name": found["name"], "domain": named(at(place, "domain"))}
+
+
+def one_method(path, value):
+    """A list of exactly one method that can be shown alone."""
+    a_list(path, value)
+    range_unless(len(value) == 1 and value[0] in ("password", "token"), path)
+    return value[0]
+
+
+def scope_field(path, value):
+    """`unscoped`, or exactly one scope."""
+    kind_unless(isinstance(value, (str, dict)), path)
+    range_unless(isinstance(value, dict) or value == "unscoped", path)
+    if value == "unscoped":
+        return {"kind": "unscoped"}
+    known = ("unscoped", "domain", "project", "system", "OS-TRUST:trust")
+    given = [name for name in known if value.get(name) is not None]
+    range_unless(len(given) == 1, path)
+    place = at((path, value), given[0])
+    if given[0] == "domain":
+        return {"kind": "domain", "named": named(place)}
+    if given[0] == "project":
+        return {"kind": "project", "named": named_at_home(place)}
+    if given[0] == "system":
+        needed(at(place, "all"), only(True))
+    if given[0] == "OS-TRUST:trust":
+        return {"kind": "trust", "id": needed(at(place, "id"), id_text)}
+    return {"kind": given[0]}
+
+
+def login_form(body):
+    """The body of a login: who shows by which method to be whom, and the scope that is asked for."""
+    identity = at(body, "auth", "identity")
+    method = needed(at(identity, "methods"), one_method)
+    if method == "password":
+        user = at(identity, "password", "user")
+        proof = {"password": needed(at(user, "password"), PASSWORD), "user": named_at_home(user)}
+    else:
+        proof = {"token": needed(at(identity, "token", "id"), any_text)}
+    return {"proof": proof, "scope": optional(at(body, "auth", "scope"), scope_field, {"kind": "unscoped"})}
+
+
+MADE = {
+    "domain": (("name", NAME), ("description", DESCRIPTION), ("enabled", truth)),
+    "project": (("name", NAME), ("domain_id", id_text), ("parent_id", id_text), ("description", DESCRIPTION), ("enabled", truth),
+                ("is_domain", only(False))),
+    "user": (("name", NAME), ("domain_id", id_text), ("password", PASSWORD), ("enabled", truth)),
+    "group": (("name", NAME), ("domain_id", id_text), ("description", DESCRIPTION)),
+    "role": (("name", NAME), ("description", DESCRIPTION)),
+}
+
+
+def made_form(body, kind, is_new):
+    """The body that makes a row, or changes one: the fields that it gives."""
+    place = at(body, kind)
+    fields = {}
+    for name, reader in MADE[kind]:
+        fields[name] = (needed if is_new and name == "name" else optional)(at(place, name), reader)
+    if not is_new:
+        fields["id"] = optional(at(place, "id"), id_text)
+    return {name: value for name, value in fields.items() if value is not None}
+
+
+def password_form(body):
+    """The original and the new password."""
+    return (needed(at(body, "user", "original_password"), PASSWORD), needed(at(body, "user", "password"), PASSWORD))
+
+
+def named_roles(path, value):
+    """0 to 64 roles, each by its id or else by its name; an entry has the path of the list."""
+    a_list(path, value)
+    range_unless(len(value) <= 64, path)
+    return [named((path, an_object(path, entry))) for entry in value]
+
+
+def trust_form(body):
+    """The body that makes a trust."""
+    place = at(body, "trust")
+    return {
+        "trustor": needed(at(place, "trustor_user_id"), id_text),
+        "trustee": needed(at(place, "trustee_user_id"), id_text),
+        "project": needed(at(place, "project_id"), id_text),
+        "impersonation": needed(at(place, "impersonation"), truth),
+        "roles": needed(at(place, "roles"), named_roles),
+        "expires": optional(at(place, "expires_at"), time_field),
+        "remaining": optional(at(place, "remaining_uses"), whole(1, 2**53)),
+        "redelegate": optional(at(place, "allow_redelegation"), truth, False),
+        "count": optional(at(place, "redelegation_count"), whole(0, 2**32 - 1)),
+        "parent": optional(at(place, "redelegated_trust_id"), id_text),
+    }

@@ -1,0 +1,184 @@
+"""The ring of keys (Keystone's administration guide, Fernet keys) and the opening file."""
+
+import hashlib
+
+from second_reading.words import OpeningRefused
+from second_reading.ciphers import key_of
+from second_reading.forms import (
+    DESCRIPTION, MISSING, NAME, PASSWORD, a_list, an_object, any_text, at, id_text, kind_unless, needed, optional,
+    range_unless, truth, whole,
+)
+
+
+def folder_keys(folder):
+    """The keys of a folder by rising index, or the name of the first cause for which it is refused."""
+    if not folder:
+        return "NoKeys"
+    if len(folder) > 32:
+        return "TooMany"
+    keys = []
+    for index in sorted(folder):
+        text = folder[index].decode("latin-1")
+        key = key_of(text[:-1] if text.endswith("\n") else text)
+        if key is None:
+            return "BadKey"
+        keys.append((index, key))
+    return keys
+
+
+class Ring:
+    """Held keys as (index, number, key), the highest index first, and the next number."""
+
+    def __init__(self, held=(), following=0):
+        self.held, self.following = list(held), following
+
+    def loaded(self, keys):
+        """The ring of some keys: a key that was held keeps its number, each other one gets the next."""
+        ring, kept = Ring((), self.following), []
+        for index, key in sorted(keys):
+            numbers = [number for _, number, other in self.held if other == key and number not in kept]
+            kept += [min(numbers)] if numbers else [ring.following]
+            ring.following += not numbers
+            ring.held.insert(0, (index, kept[-1], key))
+        return ring
+
+    def rotated(self, key, most):
+        """The staged key becomes the primary one, the new key is staged, and the lowest others go."""
+        highest = self.held[0][0]
+        moved = [(highest + 1 if index == 0 else index, number, other) for index, number, other in self.held]
+        others = sorted(moved, reverse=True)[:most - 1]
+        return Ring(others + [(0, self.following, key)], self.following + 1)
+
+    def told(self):
+        """The body that tells the held keys."""
+        return {"keys": {"held": sorted(index for index, _, _ in self.held), "primary": self.held[0][0]}}
+
+
+# --- The opening file ---
+
+
+def entries(place):
+    """The places of the entries of a list; an absent list is empty."""
+    path, _ = place
+    return [(f"{path}[{number}]", entry) for number, entry in enumerate(optional(place, a_list, []))]
+
+
+def derived(password, salt, rounds):
+    """What is kept of a password: salt, rounds and PBKDF2-HMAC-SHA256."""
+    return (salt, rounds, hashlib.pbkdf2_hmac("sha256", password.encode(), salt, rounds, 32))
+
+
+def settings_in(root):
+    """The settings of an opening file."""
+    place = (at(root, "settings")[0], optional(at(root, "settings"), an_object, {}))
+    return {
+        "url": optional(at(place, "url"), any_text, "http://127.0.0.1:5000"),
+        "life": optional(at(place, "life"), whole(60, 604800), 3600),
+        "rounds": optional(at(place, "rounds"), whole(1, 100000), 10000),
+        "max_active_keys": optional(at(place, "max_active_keys"), whole(2, 32), 3),
+    }
+
+
+def key_texts(path, value):
+    """The texts of the keys, or None where they come from the folder."""
+    kind_unless(isinstance(value, (str, list)), path)
+    range_unless(value == "folder" or isinstance(value, list) and 1 <= len(value) <= 32, path)
+    return None if value == "folder" else [any_text(*place) for place in entries((path, value))]
+
+
+def domain_in(place):
+    """An entry of `domains`."""
+    return {"id": needed(at(place, "id"), id_text), "name": needed(at(place, "name"), NAME),
+            "description": optional(at(place, "description"), DESCRIPTION, ""),
+            "enabled": optional(at(place, "enabled"), truth, True)}
+
+
+def project_in(place):
+    """An entry of `projects`."""
+    row = {"id": needed(at(place, "id"), id_text), "domain": needed(at(place, "domain_id"), id_text)}
+    row["parent"] = optional(at(place, "parent_id"), id_text, row["domain"])
+    row["name"] = needed(at(place, "name"), NAME)
+    row["description"] = optional(at(place, "description"), DESCRIPTION, "")
+    row["enabled"] = optional(at(place, "enabled"), truth, True)
+    return row
+
+
+def user_in(place):
+    """An entry of `users`, with its plain password."""
+    return {"id": needed(at(place, "id"), id_text), "domain": needed(at(place, "domain_id"), id_text),
+            "name": needed(at(place, "name"), NAME), "enabled": optional(at(place, "enabled"), truth, True),
+            "password": optional(at(place, "password"), PASSWORD)}
+
+
+def group_in(place):
+    """An entry of `groups`."""
+    return {"id": needed(at(place, "id"), id_text), "domain": needed(at(place, "domain_id"), id_text),
+            "name": needed(at(place, "name"), NAME), "description": optional(at(place, "description"), DESCRIPTION, "")}
+
+
+def role_in(place):
+    """An entry of `roles`."""
+    return {"id": needed(at(place, "id"), id_text), "name": needed(at(place, "name"), NAME),
+            "description": optional(at(place, "description"), DESCRIPTION, "")}
+
+
+def one_of(place, first, second):
+    """Exactly one of two members, as its name and the id; the first is needed where there is no second."""
+    given = optional(at(place, first), id_text)
+    path, other = at(place, second)
+    if given is not None:
+        range_unless(other is MISSING or other is None, path)
+        return first, given
+    if other is MISSING or other is None:
+        needed(at(place, first), id_text)
+    return second, id_text(path, other)
+
+
+def grant_in(place):
+    """An entry of `assignments`."""
+    actor, target = one_of(place, "user", "group"), one_of(place, "project", "domain")
+    role = needed(at(place, "role"), id_text)
+    return (actor, target, optional(at(place, "inherited"), truth, False), role)
+
+
+def pair_in(first, second):
+    """An entry of `members` or `implications`."""
+    return lambda place: (needed(at(place, first), id_text), needed(at(place, second), id_text))
+
+
+LISTS = (("domains", domain_in), ("projects", project_in), ("users", user_in), ("groups", group_in),
+         ("members", pair_in("group", "user")), ("roles", role_in), ("implications", pair_in("prior", "implied")),
+         ("assignments", grant_in))
+
+
+def written(root):
+    """What an opening file says apart from its policy, read in the order of its members."""
+    file = {"settings": settings_in(root), "keys": optional(at(root, "keys"), key_texts)}
+    for name, reader in LISTS:
+        file[name] = [reader(place) for place in entries(at(root, name))]
+    if at(root, "domains")[1] in (MISSING, None):
+        file["domains"] = [{"id": "default", "name": "Default", "description": "", "enabled": True}]
+    return file
+
+
+def rule_texts(value):
+    """The texts of a policy; by name, the first value that is no text refuses it."""
+    if value in (MISSING, None):
+        return {}
+    if not isinstance(value, dict):
+        raise OpeningRefused("Policy", "NotObject")
+    for name in sorted(value):
+        if not isinstance(value[name], str):
+            raise OpeningRefused("Policy", "NotText", name)
+    return value
+
+
+def grant_order(row):
+    """Users before groups, each by id; the system before domains and these before projects; inherited last; the role."""
+    (actor, actor_id), (target, target_id), inherited, role = row
+    return (actor == "group", actor_id, ("system", "domain", "project").index(target), target_id, inherited, role)
+
+
+def row_order(row):
+    """Rows stand in the order of their ids."""
+    return row["id"]
