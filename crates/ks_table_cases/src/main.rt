@@ -17,6 +17,7 @@ mod things;
 mod tokens;
 mod tree;
 mod trusts;
+mod validity;
 mod values;
 mod words;
 mod world;
@@ -24,7 +25,7 @@ mod world;
 use anyhow::Result;
 
 /// The scripts, in the order in which they are run.
-const SCRIPTS: [&str; 11] = [
+const SCRIPTS: [&str; 12] = [
     "ids",
     "orders",
     "tree",
@@ -35,6 +36,7 @@ const SCRIPTS: [&str; 11] = [
     "trusts",
     "revoked",
     "lines",
+    "validity",
     "limits",
 ];
 

@@ -2,7 +2,9 @@
 
 use crate::events::Events;
 use crate::words::Words;
-use crate::{effective, events, fill, grants, people, roles, tokens, tree, trusts, values};
+use crate::{
+    effective, events, fill, grants, people, roles, tokens, tree, trusts, validity, values,
+};
 use anyhow::{Result, bail, ensure};
 use ks_assign::Grants;
 use ks_base::Text;
@@ -64,6 +66,7 @@ impl World {
         match name {
             "roles_of" => effective::roles_of(self, words),
             "fill" => fill::fill(self, words),
+            "validate" => validity::validated(self, words),
             _ => bail!("no call {name}"),
         }
     }
