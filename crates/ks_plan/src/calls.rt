@@ -25,15 +25,15 @@ use crate::creations::create;
 use crate::events::events;
 use crate::grants::{grant, grants_of, is_granted, ungrant};
 use crate::keys::{is_failed, load_keys, rotate_keys};
-use crate::login::{change_password, login};
 use crate::listings::list;
+use crate::login::{change_password, login};
 use crate::members::{
     groups_of, implication, implied, imply, is_implied, is_in, join, leave, members_of, unimply,
 };
 use crate::requirements::{Requirements, required};
 use crate::single::{delete, get};
-use crate::told::told_token;
 use crate::tokens::missing;
+use crate::told::told_token;
 use crate::trusts::{create_trust, delete_trust, get_trust, list_trusts, roles_of_trust};
 use crate::updates::update;
 use crate::{Caller, Halt, Plan};
@@ -94,11 +94,7 @@ fn by_demands(
 
 /// Goes on where the request lacks neither the token that it is about nor a field of its query.
 #[tactic(auto, unfolding(ks_machine::specs::Steps::lacking_of))]
-fn lacks_nothing(
-    alloc: Global,
-    asked: &Requirements,
-    subject: &Option<Text>,
-) -> Result<(), Halt>
+fn lacks_nothing(alloc: Global, asked: &Requirements, subject: &Option<Text>) -> Result<(), Halt>
     ensures { Passes result (unless (lacking_of (requirements_of asked.now) subject.now)) }
 {
     if asked.subject && subject.is_none() {
@@ -177,7 +173,11 @@ fn told_subject(
     ensures { Plans result (on_subject given.now (parties_of who.now).subject (told_of (rows_told tables.now))) }
 {
     let (text, token) = subject_in(alloc, tables, given, who)?;
-    let Caller { payload, issued, roles } = token;
+    let Caller {
+        payload,
+        issued,
+        roles,
+    } = token;
     let told = told_token(alloc, tables, text.copy()?, false, payload, *issued, roles)?;
     Ok(Plan::tells(BodyOut::Token(told)))
 }

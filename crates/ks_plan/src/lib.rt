@@ -45,3 +45,4 @@ pub use calls::plan_call;
 pub use halt::{Halt, Needs};
 pub use laws::room_comes_last;
 pub use plan::Plan;
+pub use requirements::{Requirements, required};
