@@ -1,6 +1,9 @@
 pub mod DropLemmas
+pub mod FactLemmas
 pub mod IdLemmas
 pub mod MakeLemmas
 pub mod ReplyLemmas
+pub mod SettleLemmas
 pub mod StandLemmas
+pub mod TellLemmas
 pub mod TrustLemmas

@@ -2,6 +2,7 @@
 //! that happened since it was opened.
 #![tactic(auto)]
 
+mod decision;
 mod domain_gone;
 mod domain_rows;
 mod drops;
@@ -13,8 +14,10 @@ mod links;
 mod log;
 mod make;
 mod puts;
+mod settle;
 mod trusts_gone;
 mod unmade;
 mod uses;
 
+pub use decision::Decision;
 pub use identity::Identity;

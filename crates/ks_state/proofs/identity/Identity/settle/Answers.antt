@@ -1,0 +1,52 @@
+use Rattle.std.proofs.Common.{IfSome, Err, refl, sym, ap, subst, ◌∙◌}
+use Rattle.ks_auth.specs.Facts.{told}
+use Rattle.ks_machine.specs.declared.cause.Cause.TheVariants as cause
+use Rattle.ks_machine.specs.declared.reply.Reply.TheVariants as reply
+use Rattle.ks_state.specs.Deciding.{IsPlanned}
+use Rattle.ks_state.specs.Replies.{CarriesOut, IsReply}
+use Rattle.ks_state.specs.Shown.{FitsWithRoom, Shown}
+use Rattle.ks_state.proofs.SettleLemmas.{done_reply, lacking_is, no_memory_reply, planned_fits, refused_reply}
+use Rattle.ks_state.proofs.identity.Identity.settle.Goals as goal
+
+pub carry_out-requires : goal.carry_out-requires
+carry_out-requires c =
+    let f = c.requires.stands.0 in
+    let stands = c.requires.stands.1 in
+    let planned = subst (IsPlanned (told c.args._facts.now) f c.args._call.now) c.in-Ok.is (c.requires.planned f stands) in
+    subst (λ (v : Shown). IfSome c.in-Ok.field-0.change (λ what. FitsWithRoom v what)) (sym c.raise.ensures)
+    (planned_fits c.args._facts.now c.args.self.now f c.args._call.now c.args.moment c.in-Ok.field-0 c.few_facts_suffice.ensures c.requires.lawful
+    c.requires.fit stands c.requires.moment planned)
+
+pub returns-in-Ok : goal.returns-in-Ok
+returns-in-Ok c = record {
+  decided = λ f stands.
+      let planned = subst (IsPlanned (told c.args._facts.now) f c.args._call.now) c.in-Ok.is (c.requires.planned f stands) in
+      done_reply c.args._facts.now c.args.self.now f c.args._call.now c.args.moment c.in-Ok.field-0 c.carry_out.result c.carry_out.new.self
+      c.few_facts_suffice.ensures c.requires.lawful c.requires.fit stands c.requires.moment planned
+      (subst (λ (v : Shown). CarriesOut c.in-Ok.field-0.told c.in-Ok.field-0.change v c.carry_out.result c.carry_out.new.self) c.raise.ensures c.carry_out.ensures);
+}
+
+pub returns-in-Err-Refused : goal.returns-in-Err-Refused
+returns-in-Err-Refused c = record {
+  decided = λ f stands.
+      let is = c.in-Err-Refused.is ∙ ap Err c.in-Err-Refused.field-0-is in
+      let planned = subst (IsPlanned (told c.args._facts.now) f c.args._call.now) is (c.requires.planned f stands) in
+      subst (λ (v : Shown). IsReply f c.args._call.now (reply.Refused c.in-Err-Refused.cause) v) (sym c.raise-in-Err-Refused.ensures)
+      (refused_reply c.args._facts.now c.args.self.now f c.args._call.now c.args.moment c.in-Err-Refused.cause c.few_facts_suffice.ensures stands c.requires.moment planned);
+}
+
+pub returns-in-Err-Needs : goal.returns-in-Err-Needs
+returns-in-Err-Needs c = record {
+  decided = λ f stands.
+      let is = c.in-Err-Needs.is ∙ ap Err c.in-Err-Needs.field-0-is in
+      let planned = subst (IsPlanned (told c.args._facts.now) f c.args._call.now) is (c.requires.planned f stands) in
+      let lack = lacking_is c.args._facts.now f c.args._call.now c.in-Err-Needs.needs planned in
+      (lack.0, lack.1, lack.2, refl);
+}
+
+pub returns-in-Err-Memory : goal.returns-in-Err-Memory
+returns-in-Err-Memory c = record {
+  decided = λ f stands.
+      subst (λ (v : Shown). IsReply f c.args._call.now (reply.Refused cause.Memory) v) (sym c.raise-in-Err-Memory.ensures)
+      (no_memory_reply c.args.self.now f c.args._call.now c.args.moment stands c.requires.moment);
+}

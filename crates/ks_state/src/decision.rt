@@ -1,0 +1,11 @@
+use ks_machine::Reply;
+use ks_plan::Needs;
+
+/// What became of a call.
+#[derive(Drop)]
+pub enum Decision {
+    /// It is answered.
+    Done(Reply),
+    /// These facts are lacking, and nothing has changed.
+    Needs(Needs),
+}

@@ -1,0 +1,89 @@
+ghost use Rattle.std.specs.Prelude.{◌≡◌, IfSome};
+ghost use Rattle.ks_auth.specs.Answers.{rows_told};
+ghost use Rattle.ks_auth.specs.Facts.{told};
+ghost use Rattle.ks_machine.specs.Fit.{Fit};
+ghost use Rattle.ks_machine.specs.Fronts.{Front};
+ghost use Rattle.ks_machine.specs.Moment.{moment_of};
+ghost use Rattle.ks_state.specs.Deciding.{Decided, IsPlanned};
+ghost use Rattle.ks_state.specs.Planning.{GoOn};
+ghost use Rattle.ks_state.specs.Replies.{CarriesOut};
+ghost use Rattle.ks_state.specs.Shown.{FitsWithRoom};
+ghost use Rattle.ks_state.specs.Standing.{Stands};
+
+use crate::unmade::Unmade;
+use crate::{Decision, Identity};
+use ks_auth::{Facts, Tables};
+use ks_base::Kind;
+use ks_machine::{BodyOut, Call, Cause, Change, Reply, few_facts_suffice};
+use ks_plan::{Halt, Plan};
+
+impl Identity {
+    /// What becomes of a call of which this was planned.
+    pub(crate) fn settle(
+        &mut self,
+        _call: &Call,
+        _facts: &Facts,
+        moment: u64,
+        planned: Result<Plan, Halt>,
+    ) -> Decision
+        requires fit { Fit _call.now }
+        requires moment { moment ≡ moment_of self.old.state.high _call.now.reading }
+        requires stands { (f : Front) × Stands self.old f }
+        requires lawful { GoOn }
+        requires planned { (f : Front) → Stands self.old f → IsPlanned (told _facts.now) f _call.now planned }
+        ensures decided { (f : Front) → Stands self.old f → Decided f _call.now _facts.now result self.old self.new }
+    {
+        few_facts_suffice();
+        match planned {
+            Ok(Plan { told, change }) => {
+                self.raise(moment);
+                Decision::Done(self.carry_out(told, change))
+            }
+            Err(Halt::Refused(cause)) => {
+                self.raise(moment);
+                Decision::Done(Reply::Refused(cause))
+            }
+            Err(Halt::Needs(needs)) => Decision::Needs(needs),
+            Err(Halt::Memory) => {
+                self.raise(moment);
+                Decision::Done(Reply::Refused(Cause::Memory))
+            }
+        }
+    }
+
+    /// Makes the change that was planned, if there is one, and tells what was planned.
+    fn carry_out(&mut self, told: BodyOut, change: Option<Change>) -> Reply
+        requires { IfSome change (λ what. FitsWithRoom self.old what) }
+        ensures { CarriesOut told change self.old result self.new }
+    {
+        let Some(change) = change else {
+            return Reply::Ok(told);
+        };
+        match self.make(change) {
+            Ok(()) => Reply::Ok(told),
+            Err(Unmade::Full) => Reply::Refused(Cause::Full(Kind::Event)),
+            Err(Unmade::Memory) => Reply::Refused(Cause::Memory),
+        }
+    }
+
+    /// The tables at which plans look.
+    pub(crate) fn tables(&self) -> Tables<'_>
+        ensures rows { rows_told result ≡ self.now.state.rows }
+        ensures settings { result.settings.now ≡ self.now.state.settings }
+        ensures ring { result.ring.now ≡ self.now.state.ring }
+        ensures events { result.revoked.now.events ≡ self.now.state.events }
+        ensures high { result.revoked.now.high ≡ self.now.state.high }
+        ensures life { result.revoked.now.life ≡ self.now.state.settings.life }
+    {
+        Tables {
+            tree: &self.tree,
+            people: &self.people,
+            roles: &self.roles,
+            grants: &self.grants,
+            trusts: &self.trusts,
+            revoked: self.log.revoked(),
+            ring: &self.ring,
+            settings: &self.settings,
+        }
+    }
+}
