@@ -2,6 +2,7 @@ pub mod DropLemmas
 pub mod FactLemmas
 pub mod IdLemmas
 pub mod MakeLemmas
+pub mod PlanLemmas
 pub mod ReplyLemmas
 pub mod SettleLemmas
 pub mod StandLemmas

@@ -2,6 +2,7 @@
 //! that happened since it was opened.
 #![tactic(auto)]
 
+mod decide;
 mod decision;
 mod domain_gone;
 mod domain_rows;

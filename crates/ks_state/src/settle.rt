@@ -4,6 +4,7 @@ ghost use Rattle.ks_auth.specs.Facts.{told};
 ghost use Rattle.ks_machine.specs.Fit.{Fit};
 ghost use Rattle.ks_machine.specs.Fronts.{Front};
 ghost use Rattle.ks_machine.specs.Moment.{moment_of};
+ghost use Rattle.ks_machine.specs.Ranges.{IsSettings};
 ghost use Rattle.ks_state.specs.Deciding.{Decided, IsPlanned};
 ghost use Rattle.ks_state.specs.Planning.{GoOn};
 ghost use Rattle.ks_state.specs.Replies.{CarriesOut};
@@ -74,6 +75,7 @@ impl Identity {
         ensures events { result.revoked.now.events ≡ self.now.state.events }
         ensures high { result.revoked.now.high ≡ self.now.state.high }
         ensures life { result.revoked.now.life ≡ self.now.state.settings.life }
+        ensures range { IsSettings result.settings.now }
     {
         Tables {
             tree: &self.tree,
