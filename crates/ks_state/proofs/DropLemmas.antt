@@ -1,5 +1,5 @@
 -- What goes with a domain, by the ids of its projects, users and groups.
-use Rattle.std.proofs.Common.{◌≡◌, Bool, not, ◌||◌, ◌&&◌, List, [], ◌∷◌, ◌++◌, map, filter, IfOk, Result, Ok, Err, refl, sym, ap, ◌∙◌}
+use Rattle.std.proofs.Common.{◌≡◌, Bool, not, ◌||◌, ◌&&◌, List, [], ◌∷◌, ◌++◌, map, filter, IfOk, Result, Ok, Err, refl, ap, ◌∙◌}
 use std.Path.{fun_ext}
 use Rattle.ks_base.specs.declared.events.Revoke.{Revoke}
 use Rattle.ks_base.specs.declared.events.Revoke.TheVariants as revoke
@@ -8,7 +8,7 @@ use Rattle.ks_base.specs.declared.trusts.TrustRow.{TrustRow}
 use Rattle.ks_base.specs.declared.users.MemberRow.{MemberRow}
 use Rattle.ks_base.specs.People.{PeopleState, group_ids, is_group_in, is_user_in, users_of}
 use Rattle.ks_base.specs.Rows.{Id}
-use Rattle.ks_base.specs.Trees.{TreeState, lies_in, projects_of}
+use Rattle.ks_base.specs.Trees.{TreeState, lies_in}
 use Rattle.ks_base.specs.Trusts.{has_id, trusts_gone, trusts_left}
 use Rattle.ks_base.specs.declared.memory.Memory.{Memory}
 use Rattle.ks_trust.specs.State.{without_trusts}

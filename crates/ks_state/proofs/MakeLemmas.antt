@@ -1,5 +1,5 @@
 -- A change that was written down, and whose rows are the changed ones, is made.
-use Rattle.std.proofs.Common.{◌≡◌, ℕ, ◌<◌, ◌^◌, true, not, ◌&&◌, List, ◌++◌, length, filter, Ok, refl, sym, ap, subst, ◌∙◌}
+use Rattle.std.proofs.Common.{◌≡◌, ℕ, ◌<◌, ◌^◌, true, not, ◌&&◌, List, length, filter, ap, subst, ◌∙◌}
 use Rattle.ks_base.specs.declared.events.Revoke.{Revoke}
 use Rattle.ks_base.specs.declared.grants.GrantRow.{GrantRow}
 use Rattle.ks_base.specs.declared.trusts.TrustRow.{TrustRow}
@@ -14,7 +14,7 @@ use Rattle.ks_machine.specs.Changes.{apply, domain_dropped, ended_by, is_actor_g
 use Rattle.ks_machine.specs.Openings.{NamedRule}
 use Rattle.ks_ring.specs.Rings.{RingState}
 use Rattle.ks_state.specs.DomainRows.{has_group, has_project, has_user}
-use Rattle.ks_state.specs.Logs.{Logged, is_room, newest_with, written}
+use Rattle.ks_state.specs.Logs.{Logged, is_room, written}
 use Rattle.ks_state.specs.Shown.{HasRoom, Shown, changed, rows_in}
 
 -- what is shown of these parts

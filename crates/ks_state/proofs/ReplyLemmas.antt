@@ -1,5 +1,5 @@
 -- From what a plan says to what the machine answers.
-use Rattle.std.proofs.Common.{◌≡◌, ℕ, ◌<◌, ◌≤◌, ◌^◌, Bool, true, false, cond, ◌⊎◌, inl, inr, List, length, Option, Some, None, refl, sym, ap, subst, ◌∙◌, arith}
+use Rattle.std.proofs.Common.{◌≡◌, ◌<◌, ◌≤◌, ◌^◌, Bool, true, false, inl, inr, length, Option, Some, None, refl, sym, ap, subst, ◌∙◌, arith}
 use Rattle.ks_machine.specs.declared.call.Call.{Call}
 use Rattle.ks_machine.specs.declared.cause.Cause.{Cause}
 use Rattle.ks_machine.specs.declared.cause.Cause.TheVariants as cause
@@ -7,7 +7,7 @@ use Rattle.ks_base.specs.declared.kinds.Kind.TheVariants as kind
 use Rattle.ks_machine.specs.declared.change.Change.{Change}
 use Rattle.ks_machine.specs.declared.reply.Reply.{Reply}
 use Rattle.ks_machine.specs.declared.reply.Reply.TheVariants as reply
-use Rattle.ks_machine.specs.Attempts.{Attempt, Go, Stop, Lacks, Lack, Known, ◌>>=◌, everything}
+use Rattle.ks_machine.specs.Attempts.{Attempt, Go, Stop, Lacks, Lack, Known, ◌>>=◌}
 use Rattle.ks_machine.specs.FactLaws.{AreTrue, FewFactsSuffice}
 use Rattle.ks_machine.specs.Fit.{Fit}
 use Rattle.ks_machine.specs.Fronts.{Front, after, answer, change_of, replay, reply_of, then}
@@ -16,12 +16,12 @@ use Rattle.ks_machine.specs.Moment.{last_moment, moment_of}
 use Rattle.ks_machine.specs.Outcomes.{Outcome}
 use Rattle.ks_machine.specs.Room.{room_for}
 use Rattle.ks_machine.specs.States.{State}
-use Rattle.ks_machine.specs.Steps.{Stepped, Replies, Needs, checked, step, step_at, stepped}
+use Rattle.ks_machine.specs.Steps.{Replies, Needs, step, step_at, stepped}
 use Rattle.ks_state.specs.Planning.{GoOn, IsPlan, moment_at, state_at, with_room}
 use Rattle.ks_state.specs.Replies.{CarriesOut, IsReply}
 use Rattle.ks_state.specs.Shown.{FitsWithRoom, HasRoom, Shown, changed, has_room, raised_to}
 use Rattle.ks_state.specs.Standing.{Stands, with_live}
-use Rattle.ks_state.proofs.StandLemmas.{changed_stands, fits_in, high_is, made_is, raised_stands, room_lacks, room_there}
+use Rattle.ks_state.proofs.StandLemmas.{changed_stands, fits_in, made_is, raised_stands, room_lacks, room_there}
 
 step_is : (known : Known) (f : Front) (call : Call) (plan : Attempt Cause Outcome) → IsPlan known f call plan →
     step known (replay f) call ≡ stepped (with_room f call plan)

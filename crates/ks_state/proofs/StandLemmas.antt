@@ -1,5 +1,5 @@
 -- What a moment and a change make of a front is what they make of an identity that stands for it.
-use Rattle.std.proofs.Common.{◌≡◌, ℕ, zero, suc, ◌+◌, ◌-◌, ◌<◌, ◌≤◌, ◌^◌, ◌==◌, ◌||◌, nat_le, Bool, true, false, cond, List, [], ◌∷◌, ◌++◌, length, take, drop, map, filter, Option, Some, None, refl, sym, ap, subst, ◌∙◌, arith, append_assoc, append-nil, length-append}
+use Rattle.std.proofs.Common.{◌≡◌, ℕ, suc, ◌+◌, ◌-◌, ◌≤◌, ◌==◌, ◌||◌, nat_le, true, false, List, [], ◌∷◌, ◌++◌, length, take, drop, Some, None, refl, sym, ap, ◌∙◌, arith, append_assoc, append-nil}
 use Rattle.std.proofs.lemmas.Bool.{ne_eqb}
 use Rattle.std.proofs.lemmas.List.{take-append-drop}
 use Rattle.ks_base.specs.declared.events.EventRow.{EventRow}
@@ -9,10 +9,9 @@ use Rattle.ks_base.specs.declared.limits.TheConstants.{EVENTS}
 use Rattle.ks_base.specs.Revocation.{live}
 use Rattle.ks_machine.specs.declared.cause.Cause.TheVariants as cause
 use Rattle.ks_machine.specs.declared.change.Change.{Change}
-use Rattle.ks_machine.specs.declared.change.Change.TheVariants as change
 use Rattle.ks_machine.specs.declared.change.Entry.{Entry}
-use Rattle.ks_machine.specs.Attempts.{Attempt, Go, Stop}
-use Rattle.ks_machine.specs.Changes.{apply, ended_by, events_at, ring_after, rows_after}
+use Rattle.ks_machine.specs.Attempts.{Go, Stop}
+use Rattle.ks_machine.specs.Changes.{apply, ended_by, events_at, ring_after}
 use Rattle.ks_machine.specs.Fronts.{Front, replay, replayed, then}
 use Rattle.ks_machine.specs.Lawful.{AreLawful, Fits, IsLawful}
 use Rattle.ks_machine.specs.Moment.{last_moment}
@@ -22,7 +21,7 @@ use Rattle.ks_machine.specs.States.{State}
 use Rattle.ks_machine.proofs.FrontLemmas.{changes_are_replayed}
 use Rattle.ks_revoke.proofs.LiveLemmas.{live_again, live_push}
 use Rattle.ks_state.specs.Logs.{is_room, newest_most, newest_with}
-use Rattle.ks_state.specs.Shown.{Shown, changed, has_room, raised_to}
+use Rattle.ks_state.specs.Shown.{Shown, changed, raised_to}
 use Rattle.ks_state.specs.Standing.{AreNewest, Stands, with_live}
 
 -- revocations at the moment itself are live

@@ -1,6 +1,5 @@
-use Rattle.std.proofs.Common.{◌≡◌, ◌<◌, ◌^◌, true, List, length, refl, sym, ap, subst, ◌∙◌}
+use Rattle.std.proofs.Common.{◌≡◌, true, List, length, refl, sym, ap, subst, ◌∙◌}
 use Rattle.ks_base.specs.declared.events.Revoke.{Revoke}
-use Rattle.ks_base.specs.declared.trusts.TrustRow.{TrustRow}
 use Rattle.ks_base.specs.Rows.{Id}
 use Rattle.ks_machine.specs.declared.change.Change.TheVariants as change
 use Rattle.ks_machine.specs.Changes.{ended_by, ring_after, trusts_after}

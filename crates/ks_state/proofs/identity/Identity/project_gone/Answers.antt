@@ -1,8 +1,7 @@
 use Rattle.std.proofs.Common.{List, ◌++◌, ap, ◌∙◌}
 use Rattle.ks_base.specs.declared.events.Revoke.{Revoke}
 use Rattle.ks_base.specs.declared.events.Revoke.TheVariants as revoke
-use Rattle.ks_base.specs.declared.trusts.TrustRow.{TrustRow}
-use Rattle.ks_base.specs.Trusts.{has_role, names_trust}
+use Rattle.ks_base.specs.Trusts.{names_trust}
 use Rattle.ks_machine.specs.declared.change.Change.TheVariants as change
 use Rattle.ks_machine.specs.Changes.{ended_by, touches, trusts_after}
 use Rattle.ks_state.specs.Shown.{Shown}
