@@ -1,3 +1,4 @@
+pub mod Decides
 pub mod Deciding
 pub mod DomainRows
 pub mod Ends

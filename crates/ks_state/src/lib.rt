@@ -3,6 +3,7 @@
 #![tactic(auto)]
 
 mod decide;
+mod decides;
 mod decision;
 mod domain_gone;
 mod domain_rows;
@@ -20,5 +21,7 @@ mod trusts_gone;
 mod unmade;
 mod uses;
 
+pub use decides::{Decides, Kept};
 pub use decision::Decision;
 pub use identity::Identity;
+pub use ks_plan::Needs;
