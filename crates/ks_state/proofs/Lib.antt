@@ -1,6 +1,7 @@
 pub mod DropLemmas
 pub mod FactLemmas
 pub mod IdLemmas
+pub mod KeptLemmas
 pub mod MakeLemmas
 pub mod PlanLemmas
 pub mod ReplyLemmas

@@ -16,7 +16,7 @@ use Rattle.ks_state.specs.Deciding.{IsPlanned}
 use Rattle.ks_state.specs.Planning.{moment_at, state_at}
 use Rattle.ks_state.specs.Shown.{Shown}
 use Rattle.ks_state.specs.Standing.{Stands}
-use Rattle.ks_state.proofs.StandLemmas.{high_is}
+use Rattle.ks_state.specs.StandingLaws.{high_is}
 use Rattle.ks_state.proofs.TellLemmas.{AreTables, tells}
 
 pub planned_at : (facts : FactsState) (tables : Tables) (rules : List NamedRule) (shown : Shown) (f : Front) (call : Call) (moment : ℕ) (result : Result Plan Halt) →

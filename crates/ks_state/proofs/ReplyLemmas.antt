@@ -21,7 +21,8 @@ use Rattle.ks_state.specs.Planning.{GoOn, IsPlan, moment_at, state_at, with_room
 use Rattle.ks_state.specs.Replies.{CarriesOut, IsReply}
 use Rattle.ks_state.specs.Shown.{FitsWithRoom, HasRoom, Shown, changed, has_room, raised_to}
 use Rattle.ks_state.specs.Standing.{Stands, with_live}
-use Rattle.ks_state.proofs.StandLemmas.{changed_stands, fits_in, made_is, raised_stands, room_lacks, room_there}
+use Rattle.ks_state.specs.StandingLaws.{made_so_far}
+use Rattle.ks_state.proofs.StandLemmas.{changed_stands, fits_in, raised_stands, room_lacks, room_there}
 
 step_is : (known : Known) (f : Front) (call : Call) (plan : Attempt Cause Outcome) → IsPlan known f call plan →
     step known (replay f) call ≡ stepped (with_room f call plan)
@@ -90,7 +91,7 @@ memory_reply shown f call stands =
     inr (refl, raised_stands shown f (moment_at f call) within.0 within.1 stands)
 
 few_changes : (shown : Shown) (f : Front) → Stands shown f → shown.state.made < 2 ^ 58 → length f.changes < 2 ^ 58
-few_changes shown f stands less = subst (λ n. n < 2 ^ 58) (ap (λ (S : State). S.made) stands.state ∙ made_is f) less
+few_changes shown f stands less = subst (λ n. n < 2 ^ 58) (made_so_far shown f stands) less
 
 room_at : (shown : Shown) (f : Front) (call : Call) (what : Change) (b : Bool) → Stands shown f → has_room (raised_to (moment_at f call) shown) what ≡ b →
     has_room (record { state = with_live (state_at f call); newest = shown.newest }) what ≡ b

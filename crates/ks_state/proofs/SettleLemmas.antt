@@ -25,7 +25,7 @@ use Rattle.ks_state.specs.Shown.{FitsWithRoom, Shown, raised_to}
 use Rattle.ks_state.specs.Standing.{Stands}
 use Rattle.ks_state.proofs.FactLemmas.{told_is_true}
 use Rattle.ks_state.proofs.ReplyLemmas.{carried_reply, fits_with_room, lacking_step, memory_reply, refused_step, same_reply}
-use Rattle.ks_state.proofs.StandLemmas.{high_is}
+use Rattle.ks_state.specs.StandingLaws.{high_is}
 
 -- the moment of a call at an identity is that at each front for which it stands
 moment_is : (shown : Shown) (f : Front) (call : Call) (moment : ℕ) → Stands shown f → moment ≡ moment_of shown.state.high call.reading → moment ≡ moment_at f call

@@ -23,6 +23,7 @@ use Rattle.ks_revoke.proofs.LiveLemmas.{live_again, live_push}
 use Rattle.ks_state.specs.Logs.{is_room, newest_most, newest_with}
 use Rattle.ks_state.specs.Shown.{Shown, changed, raised_to}
 use Rattle.ks_state.specs.Standing.{AreNewest, Stands, with_live}
+use Rattle.ks_state.specs.StandingLaws.{high_is, made_so_far, not_empty}
 
 -- revocations at the moment itself are live
 live_with : (life moment : ℕ) (things : List Revoke) (events : List EventRow) →
@@ -47,21 +48,7 @@ pub live_raised : (S : State) (moment : ℕ) → S.high ≤ moment →
 live_raised S moment le =
     ap {A = List EventRow} (λ events. record S { events = events; high = moment }) (live_again S.settings.life S.high moment S.events le)
 
--- each change is counted
-made_after : (S : State) (entries : List Entry) → (replayed S entries).made ≡ S.made + length entries
-unfolding replayed apply
-made_after S [] = omega arith
-made_after S (entry ∷ entries) = omega (arith, made_after (apply S entry.moment entry.change) entries)
-
-pub made_is : (f : Front) → (replay f).made ≡ length f.changes
-unfolding replay opened_state
-made_is f = omega (arith, made_after (opened_state f.opening) f.changes)
-
 -- the newest changes
-
-not_empty : {X : Type 0} (xs : List X) (x : X) → xs ++ x ∷ [] ≡ [] → ⊥
-not_empty [] x e = cc
-not_empty (y ∷ xs) x e = cc
 
 pub newest_after : (newest changes : List Entry) (entry : Entry) → AreNewest newest changes → AreNewest (newest_with entry newest) (changes ++ entry ∷ [])
 newest_after newest changes entry are =
@@ -138,16 +125,12 @@ raised_stands shown f moment le last stands = record {
   lawful = lawful_raised f moment le last stands.lawful;
 }
 
-pub high_is : (shown : Shown) (f : Front) → Stands shown f → shown.state.high ≡ f.high
-unfolding replay
-high_is shown f stands = ap (λ (S : State). S.high) stands.state
-
 pub changed_stands : (shown : Shown) (f : Front) (what : Change) → Stands shown f → IsLawful (then f f.high (Some what)) →
     Stands (changed what shown) (then f f.high (Some what))
 unfolding replay
 changed_stands shown f what stands lawful =
     let high : shown.state.high ≡ f.high = high_is shown f stands in
-    let made : shown.state.made ≡ length f.changes = ap (λ (S : State). S.made) stands.state ∙ made_is f in record {
+    let made : shown.state.made ≡ length f.changes = made_so_far shown f stands in record {
       state = ap (λ (S : State). apply S S.high what) stands.state ∙ sym (live_applied (replay f) what) ∙ ap with_live (sym (changes_are_replayed f f.high what));
       newest = rw (made, high) (newest_after shown.newest f.changes (record { number = length f.changes; moment = f.high; change = what }) stands.newest);
       lawful = lawful;

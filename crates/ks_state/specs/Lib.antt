@@ -7,3 +7,4 @@ pub mod Planning
 pub mod Replies
 pub mod Shown
 pub mod Standing
+pub mod StandingLaws

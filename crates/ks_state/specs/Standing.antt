@@ -1,5 +1,5 @@
 -- For which fronts an identity stands.
-use Rattle.std.specs.Prelude.{◌≡◌, List, [], ◌++◌}
+use Rattle.std.specs.Prelude.{◌≡◌, ℕ, List, [], ◌++◌, length}
 use Rattle.ks_base.specs.Revocation.{live}
 use Rattle.ks_machine.specs.declared.change.Entry.{Entry}
 use Rattle.ks_machine.specs.Fronts.{Front, replay}
@@ -25,3 +25,12 @@ pub record Stands (shown : Shown) (f : Front) : Type 0 where
   pub newest : AreNewest shown.newest f.changes
   -- and the front is one that calls can reach
   pub lawful : IsLawful f
+
+-- it stands for a front all of whose changes are kept
+pub record StandsWithAllKept (shown : Shown) (f : Front) : Type 0 where
+  pub stands : Stands shown f
+  pub kept : f.kept ≡ length f.changes
+
+-- how many changes were made
+abbrev pub changes_made : Shown → ℕ
+changes_made shown = shown.state.made

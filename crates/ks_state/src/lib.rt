@@ -12,6 +12,7 @@ mod ended;
 mod gone;
 mod identity;
 mod ids;
+mod in_memory;
 mod links;
 mod log;
 mod make;

@@ -1,6 +1,6 @@
 use Rattle.std.proofs.Common.{ap, arith}
 use Rattle.ks_state.specs.Shown.{Shown}
-use Rattle.ks_state.proofs.StandLemmas.{high_is}
+use Rattle.ks_state.specs.StandingLaws.{high_is}
 use Rattle.ks_state.proofs.identity.Identity.moment_of.Goals as goal
 
 pub returns-clause-last : goal.returns-clause-last
