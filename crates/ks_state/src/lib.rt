@@ -16,6 +16,7 @@ mod in_memory;
 mod links;
 mod log;
 mod make;
+mod opening;
 mod puts;
 mod settle;
 mod trusts_gone;
