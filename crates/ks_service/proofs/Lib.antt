@@ -1,0 +1,4 @@
+pub mod EventLemmas
+pub mod CalledLemmas
+pub mod RoundLemmas
+pub mod FactLemmas

@@ -1,0 +1,49 @@
+ghost use Rattle.std.specs.Prelude.{◌≡◌};
+ghost use Rattle.ks_machine.specs.Fit.{Fit};
+ghost use Rattle.ks_service.specs.Called.{Called};
+
+use crate::answer::Answer;
+use crate::rounds::{ROUNDS, last_round, round, without_memory};
+use crate::work::work;
+use ks_auth::Facts;
+use ks_machine::Call;
+use ks_outside::{Gate, Place};
+use ks_state::Decides;
+use ks_turn::{First, Pass, Turn};
+use std::alloc::Global;
+use std::sync::Wait;
+
+/// Decides a call through a pass, in one hold of the turn, and keeps its change there. The work on ciphers that a
+/// decision asks for is done outside, and the call is then decided anew; where facts are still lacking after four rounds,
+/// the work is done in the fifth hold. `Memory` is the reply where there was no memory to decide or to do the work.
+///
+/// The gate is called before each hold and, outside the turn, before each token is opened and each password derived.
+pub fn call<I: Decides, N: First, R: Wait, G: Gate>(
+    alloc: Global,
+    turn: &Turn<I, N>,
+    rt: &R,
+    mut pass: Pass<N>,
+    call: &Call,
+    gate: &G,
+) -> (Pass<N>, Answer<I::Fault>)
+    requires own { pass.turn ≡ turn.now }
+    requires fit { Fit call.now }
+    ensures { Called pass result.0 call.now result.1 }
+{
+    let mut facts = Facts::new(alloc);
+    for _ in 0..ROUNDS {
+        gate.at(Place::BeforeHold);
+        let (next, outcome) = round(turn, rt, pass, call, &facts);
+        match outcome {
+            Ok(answer) => return (next, answer),
+            Err(needs) => {
+                if work(alloc, &needs, call, &mut facts, gate).is_err() {
+                    return without_memory(next);
+                }
+            }
+        }
+        pass = next;
+    }
+    gate.at(Place::BeforeHold);
+    last_round(alloc, turn, rt, pass, call, facts)
+}

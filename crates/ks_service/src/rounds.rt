@@ -1,0 +1,138 @@
+//! One hold of the turn, in which a call is decided or facts are asked for.
+ghost use Rattle.std.specs.Prelude.{◌≡◌, ◌≤◌, length, MatchResult};
+ghost use Rattle.ks_machine.specs.declared.call.Call.{Call as PlainCall};
+ghost use Rattle.ks_machine.specs.Fit.{Fit};
+ghost use Rattle.ks_machine.specs.Fronts.{IsSound};
+ghost use Rattle.ks_service.specs.Called.{Called};
+ghost use Rattle.ks_service.specs.Rounds.{Judged, Waited};
+ghost use Rattle.ks_service.specs.Work.{AreDerivable};
+ghost use Rattle.ks_state.specs.Decides.{Replied};
+
+use crate::answer::Answer;
+use crate::work::work;
+use ks_auth::Facts;
+use ks_machine::{Call, Cause, Reply};
+use ks_outside::Open;
+use ks_state::{Decides, Decision, Kept, Needs};
+use ks_turn::{First, Held, Pass, Turn};
+use std::alloc::Global;
+use std::sync::Wait;
+
+/// How many rounds of a call do their work outside the turn. Where nothing changes between, two are enough: no call asks
+/// for facts more often.
+pub(crate) const ROUNDS: u32 = 4;
+
+/// Decides in a hold, and tells how many changes came before.
+fn judge<I: Decides, N: First>(held: &mut Held<I, N>, call: &Call, facts: &Facts) -> (u64, Decision)
+    requires fit { Fit call.now }
+    requires stands { I.stands held.old.value held.old.pass.seen }
+    ensures pass { held.new.pass ≡ held.old.pass }
+    ensures count { result.0 ≡ length held.new.pass.seen.changes }
+    ensures sound { IsSound held.new.pass.seen }
+    ensures judged { Judged I.stands I.kept held.new.pass.seen call.now result.1 held.new.value }
+    ensures kept { held.new.pass.seen.kept ≤ I.kept held.new.value }
+{
+    let value = held.value();
+    let (changes, _) = value.front();
+    (changes, value.decide(call, facts))
+}
+
+/// Gives the turn back where nothing changed.
+fn step_back<I: Decides, N: First>(turn: &Turn<I, N>, held: Held<I, N>) -> Pass<N>
+    requires own { held.pass.turn ≡ turn.now }
+    requires stands { I.stands held.value held.pass.seen }
+    ensures { result ≡ held.pass }
+{
+    turn.release(held)
+}
+
+/// Keeps the changes after a reply, and gives the turn back.
+fn settle<I: Decides, N: First>(
+    turn: &Turn<I, N>,
+    mut held: Held<I, N>,
+    changes: u64,
+    reply: Reply,
+) -> (Pass<N>, Answer<I::Fault>)
+    requires own { held.pass.turn ≡ turn.now }
+    requires count { changes ≡ length held.pass.seen.changes }
+    requires sound { IsSound held.pass.seen }
+    requires kept { held.pass.seen.kept ≤ I.kept held.value }
+    requires replied { (call : PlainCall) × Replied I.stands I.kept held.pass.seen call reply held.value }
+    ensures { (call : PlainCall) → Replied I.stands I.kept held.pass.seen call reply held.value → Called held.pass result.0 call result.1 }
+{
+    let kept = held.value().keep();
+    let pass = turn.release(held);
+    let (_, moment) = pass.front();
+    let answer = Answer {
+        reply,
+        changes,
+        moment,
+        kept,
+    };
+    (pass, answer)
+}
+
+/// The answer where there was no memory for the work.
+pub(crate) fn without_memory<F: Drop, N: First>(pass: Pass<N>) -> (Pass<N>, Answer<F>)
+    ensures { (call : PlainCall) → Called pass result.0 call result.1 }
+{
+    let (changes, moment) = pass.front();
+    let answer = Answer {
+        reply: Reply::Refused(Cause::Memory),
+        changes,
+        moment,
+        kept: Kept::Memory,
+    };
+    (pass, answer)
+}
+
+/// Holds and decides. Where facts are asked for, the turn is given back as it was.
+pub(crate) fn round<I: Decides, N: First, R: Wait>(
+    turn: &Turn<I, N>,
+    rt: &R,
+    pass: Pass<N>,
+    call: &Call,
+    facts: &Facts,
+) -> (Pass<N>, Result<Answer<I::Fault>, Needs>)
+    requires own { pass.turn ≡ turn.now }
+    requires fit { Fit call.now }
+    ensures { MatchResult result.1 (λ answer. Called pass result.0 call.now answer) (λ needs. Waited pass result.0 × AreDerivable needs) }
+{
+    let mut held = turn.hold(rt, pass);
+    let (changes, decision) = judge(&mut held, call, facts);
+    match decision {
+        Decision::Done(reply) => {
+            let (pass, answer) = settle(turn, held, changes, reply);
+            (pass, Ok(answer))
+        }
+        Decision::Needs(needs) => (step_back(turn, held), Err(needs)),
+    }
+}
+
+/// Holds and decides, and does the work that is asked for in the same hold, in which nothing can change.
+pub(crate) fn last_round<I: Decides, N: First, R: Wait>(
+    alloc: Global,
+    turn: &Turn<I, N>,
+    rt: &R,
+    pass: Pass<N>,
+    call: &Call,
+    mut facts: Facts,
+) -> (Pass<N>, Answer<I::Fault>)
+    requires own { pass.turn ≡ turn.now }
+    requires fit { Fit call.now }
+    ensures { Called pass result.0 call.now result.1 }
+{
+    let mut held = turn.hold(rt, pass);
+    for _ in rt.forever() {
+        let (changes, decision) = judge(&mut held, call, &facts);
+        match decision {
+            Decision::Done(reply) => return settle(turn, held, changes, reply),
+            Decision::Needs(needs) => {
+                if work(alloc, &needs, call, &mut facts, &Open).is_err() {
+                    return without_memory(step_back(turn, held));
+                }
+            }
+        }
+    }
+    unreachable!()
+}
