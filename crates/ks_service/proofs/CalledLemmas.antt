@@ -11,6 +11,7 @@ use Rattle.ks_machine.specs.declared.reply.Reply.{Reply}
 use Rattle.ks_machine.specs.declared.reply.Reply.TheVariants as reply
 use Rattle.ks_machine.specs.Fronts.{Front, IsSound, ◌⊑◌, after, answer}
 use Rattle.ks_machine.specs.Moment.{moment_of}
+use Rattle.ks_machine.specs.Told.{IsTellable}
 use Rattle.ks_service.specs.declared.answer.Answer.{Answer}
 use Rattle.ks_service.specs.Called.{Called, IsDecidedUnless, IsNextUnless, IsUndecided, capped, is_memory, made_by, numbered}
 use Rattle.ks_service.proofs.EventLemmas.{after_raised, answer_raised, cut_event, event, event_high, event_is_place, event_kept, event_within, made_none, made_raised, memory_is, place, place_comes_before, place_goes_on}
@@ -72,9 +73,9 @@ module _ {F : Type 0} (p : Passed) (call : Call) (moment kept : ℕ) (change : O
 
   called_at : Happened p call moment kept → IsSound (event p.seen moment change kept) → Keeps
       → IsDecidedUnless (is_memory said) p after_event call (place p.seen moment kept) (answered p moment said keeps)
-      → IsNextUnless (is_memory said) p.seen call moment
+      → IsNextUnless (is_memory said) p.seen call moment → IsTellable said
       → Called p after_event call (answered p moment said keeps)
-  called_at h sound all decided next =
+  called_at h sound all decided next tellable =
       let high = not_before p call moment kept h in
       let at = sym (cut_event p.seen moment kept change) in record {
         turn = refl;
@@ -84,6 +85,7 @@ module _ {F : Type 0} (p : Passed) (call : Call) (moment kept : ℕ) (change : O
         sound = sound;
         moment = event_high p.seen moment kept change;
         decided = subst (λ g. IsDecidedUnless (is_memory said) p after_event call g (answered p moment said keeps)) at decided;
+        tellable = tellable;
         top = subst (λ m. (risen p.seen.high m p.top ≡ p.top) ⊎ (risen p.seen.high m p.top ≡ capped call.reading)) (sym (event_high p.seen moment kept change)) (top_event p.seen.high moment p.top call.reading h.moment_is);
         weight = refl;
         alone = λ _. (refl, next);
@@ -104,7 +106,7 @@ module _ {F : Type 0} (p : Passed) (call : Call) (moment kept : ℕ) (change : O
       let is : is_memory said ≡ true = ap is_memory memory in
       called_at h sound all
       (subst (λ b. IsDecidedUnless b p after_event call (place p.seen moment kept) (answered p moment said keeps)) (sym is) (undecided none sound))
-      (subst (λ b. IsNextUnless b p.seen call moment) (sym is) h.moment_is)
+      (subst (λ b. IsNextUnless b p.seen call moment) (sym is) h.moment_is) (subst IsTellable (sym memory) tt)
 
 -- the plain machine's step
 module _ {F : Type 0} (p : Passed) (call : Call) (kept : ℕ) (said : Reply) (keeps : Kept F) where
@@ -131,11 +133,11 @@ module _ {F : Type 0} (p : Passed) (call : Call) (kept : ℕ) (said : Reply) (ke
   next_by false = refl
   next_by true = inl refl
 
-  pub called_decided : said ≡ answer p.seen call → IsSound p.seen → p.seen.kept ≤ kept → IsSound (event p.seen at_call made kept) → Keeps p call at_call kept made said keeps
+  pub called_decided : said ≡ answer p.seen call → IsTellable said → IsSound p.seen → p.seen.kept ≤ kept → IsSound (event p.seen at_call made kept) → Keeps p call at_call kept made said keeps
       → Called p (released p (event p.seen at_call made kept)) call (answered p at_call said keeps)
-  called_decided replied sound more sound' all =
+  called_decided replied tellable sound more sound' all =
       called_at p call at_call kept made said keeps (record { sound = sound; moment_is = inl refl; more = more }) sound' all
-      (decided_by (is_memory said) refl replied sound') (next_by (is_memory said))
+      (decided_by (is_memory said) refl replied sound') (next_by (is_memory said)) tellable
 
 -- the answer says these numbers
 pub at_numbers : {F : Type 0} (p q : Passed) (call : Call) (said : Answer F) (count moment : ℕ) → said.changes ≡ count → said.moment ≡ moment

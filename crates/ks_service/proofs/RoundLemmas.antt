@@ -7,6 +7,7 @@ use Rattle.ks_machine.specs.declared.reply.Reply.{Reply}
 use Rattle.ks_machine.specs.declared.reply.Reply.TheVariants as reply
 use Rattle.ks_machine.specs.Fronts.{Front, IsSound, ◌⊑◌, after, answer, cut, then}
 use Rattle.ks_machine.specs.Moment.{moment_of}
+use Rattle.ks_machine.specs.Told.{IsTellable}
 use Rattle.ks_machine.proofs.FrontLemmas.{reflexive, transitive}
 use Rattle.ks_service.specs.declared.answer.Answer.{Answer}
 use Rattle.ks_service.specs.Called.{Called, IsDecidedUnless, IsNextUnless, capped, is_memory, made_by, numbered}
@@ -42,9 +43,9 @@ module _ (F : Type 0) {S : Type 0} (means : S → Front → Type 0) (kept : S �
         alone = λ g goes_on also. alone value p.seen (event p.seen moment change (kept value)) g later goes_on (event_few p.seen moment (kept value) change) stands also;
       }
 
-  settled_decided : AreAlone means → IsSound p.seen → p.seen.kept ≤ kept value → (said ≡ answer p.seen call) × means value (with_kept (after p.seen call) (kept value))
+  settled_decided : AreAlone means → IsSound p.seen → p.seen.kept ≤ kept value → IsTellable said → (said ≡ answer p.seen call) × means value (with_kept (after p.seen call) (kept value))
       → Settled F means p call said value
-  settled_decided alone sound more replied =
+  settled_decided alone sound more tellable replied =
       let moment = moment_of p.seen.high call.reading in
       let change = made_by p.seen call in
       let stands : means value (event p.seen moment change (kept value)) = subst (λ g. means value (with_kept g (kept value))) (after_is p.seen call) replied.1 in record {
@@ -52,7 +53,7 @@ module _ (F : Type 0) {S : Type 0} (means : S → Front → Type 0) (kept : S �
         lands = lands_at alone moment change (omega arith) more stands;
         called = λ answer is count last sound' all.
             at_numbers p (released p (event p.seen moment change (kept value))) call answer _ _ count (last ∙ event_high p.seen moment (kept value) change)
-            (called_decided p call (kept value) answer.reply answer.kept (is ∙ replied.0) sound more sound' all);
+            (called_decided p call (kept value) answer.reply answer.kept (is ∙ replied.0) (subst IsTellable (sym is) tellable) sound more sound' all);
       }
 
   settled_memory : AreAlone means → IsSound p.seen → p.seen.kept ≤ kept value → (moment : ℕ) → (moment ≡ moment_of p.seen.high call.reading) ⊎ (moment ≡ p.seen.high)
@@ -66,10 +67,10 @@ module _ (F : Type 0) {S : Type 0} (means : S → Front → Type 0) (kept : S �
             (called_memory p call moment (kept value) None answer.reply answer.kept (is ∙ memory) refl h sound' all);
       }
 
-  settled : AreAlone means → IsSound p.seen → p.seen.kept ≤ kept value → Replied means kept p.seen call said value → Settled F means p call said value
-  settled alone sound more (inl replied) = settled_decided alone sound more replied
-  settled alone sound more (inr (memory, inl stands)) = settled_memory alone sound more (moment_of p.seen.high call.reading) (inl refl) memory stands
-  settled alone sound more (inr (memory, inr stands)) = settled_memory alone sound more p.seen.high (inr refl) memory stands
+  settled : AreAlone means → IsSound p.seen → p.seen.kept ≤ kept value → IsTellable said → Replied means kept p.seen call said value → Settled F means p call said value
+  settled alone sound more tellable (inl replied) = settled_decided alone sound more tellable replied
+  settled alone sound more tellable (inr (memory, inl stands)) = settled_memory alone sound more (moment_of p.seen.high call.reading) (inl refl) memory stands
+  settled alone sound more tellable (inr (memory, inr stands)) = settled_memory alone sound more p.seen.high (inr refl) memory stands
 
 -- more is kept after the reply
 replied_kept : {S : Type 0} (means : S → Front → Type 0) (kept : S → ℕ) (f : Front) (call : Call) (said : Reply) (old new : S)
@@ -82,10 +83,10 @@ replied_kept means kept f call said old new keeps (inr (memory, inr stands)) = i
 module _ (F : Type 0) {S : Type 0} (means : S → Front → Type 0) (kept : S → ℕ) (p : Passed) (call : Call) (said : Reply) (held shown value : S) where
   -- the value that was held is shown, and keeps its changes
   pub settled_kept : shown ≡ held → ((g : Front) → means shown g → means value (with_kept g (kept value))) → kept shown ≤ kept value
-      → AreAlone means → IsSound p.seen → p.seen.kept ≤ kept held → Replied means kept p.seen call said held → Settled F means p call said value
-  settled_kept is keeps grows alone sound more replied =
+      → AreAlone means → IsSound p.seen → p.seen.kept ≤ kept held → IsTellable said → Replied means kept p.seen call said held → Settled F means p call said value
+  settled_kept is keeps grows alone sound more tellable replied =
       let same : kept shown ≡ kept held = ap kept is in
-      settled F means kept p call said value alone sound (omega (arith, more, grows, same))
+      settled F means kept p call said value alone sound (omega (arith, more, grows, same)) tellable
       (replied_kept means kept p.seen call said shown value keeps (subst (λ v. Replied means kept p.seen call said v) (sym is) replied))
 
   pub settles : Settled F means p call said value → (q : Passed) → ((f : Front) → p.seen ⊑ f → means value f → q ≡ released p f)
@@ -139,6 +140,7 @@ called_waited p q r call said w c = record {
   sound = c.sound;
   moment = c.moment;
   decided = decided_later (is_memory said.reply) p q r call (cut r.seen said.changes said.moment) said (ap (λ (x : Passed). x.own) w.pass) c.decided;
+  tellable = c.tellable;
   top = subst (λ t. (r.top ≡ t) ⊎ (r.top ≡ capped call.reading)) (ap (λ (x : Passed). x.top) w.pass) c.top;
   weight = c.weight ∙ ap (λ (x : Passed). x.weight) w.pass;
   alone = λ all. subst (λ (f : Front). (said.changes ≡ length f.changes) × IsNextUnless (is_memory said.reply) f call said.moment) (w.alone all)

@@ -10,6 +10,7 @@ use Rattle.ks_machine.specs.Attempts.{everything}
 use Rattle.ks_machine.specs.Fronts.{Front, IsSound, ◌⊑◌, after, answer, change_of, cut, replay}
 use Rattle.ks_machine.specs.Moment.{last_moment, moment_of}
 use Rattle.ks_machine.specs.Steps.{step}
+use Rattle.ks_machine.specs.Told.{IsTellable}
 use Rattle.ks_service.specs.declared.answer.Answer.{Answer}
 use Rattle.ks_state.specs.declared.decides.Kept.TheVariants as keeping
 use Rattle.ks_state.specs.Decides.{with_kept}
@@ -98,6 +99,8 @@ pub record Called {F : Type 0} (old new : Passed) (call : Call) (said : Answer F
   pub moment : new.seen.high ≡ said.moment
   -- there the call was decided, unless there was no memory
   pub decided : IsDecidedUnless (is_memory said.reply) old new call (cut new.seen said.changes said.moment) said
+  -- each moment in the reply has a text
+  pub tellable : IsTellable said.reply
   -- the pass raised the highest moment to the reading, or not at all
   pub top : (new.top ≡ old.top) ⊎ (new.top ≡ capped call.reading)
   pub weight : new.weight ≡ old.weight

@@ -1,6 +1,7 @@
 ghost use Rattle.std.specs.Prelude.{◌≡◌, ◌≤◌};
 ghost use Rattle.ks_machine.specs.Fit.{Fit};
 ghost use Rattle.ks_machine.specs.Fronts.{Front};
+ghost use Rattle.ks_machine.specs.Told.{IsTellable};
 ghost use Rattle.ks_state.specs.Decides.{Replied};
 
 use crate::rounds::ROUNDS;
@@ -18,6 +19,7 @@ pub fn answer_alone<I: Decides>(alloc: Global, state: &mut I, call: &Call) -> Re
     requires stands { (f : Front) × I.stands state.old f }
     ensures replied { (f : Front) → I.stands state.old f → Replied I.stands I.kept f call.now result state.new }
     ensures kept { I.kept state.old ≤ I.kept state.new }
+    ensures tellable { IsTellable result }
 {
     let mut facts = Facts::new(alloc);
     for _ in 0..=ROUNDS {

@@ -3,10 +3,11 @@ ghost use Rattle.std.specs.Prelude.{◌≡◌, ◌≤◌, length, MatchResult};
 ghost use Rattle.ks_machine.specs.declared.call.Call.{Call as PlainCall};
 ghost use Rattle.ks_machine.specs.Fit.{Fit};
 ghost use Rattle.ks_machine.specs.Fronts.{IsSound};
+ghost use Rattle.ks_machine.specs.Told.{IsTellable};
 ghost use Rattle.ks_service.specs.Called.{Called};
 ghost use Rattle.ks_service.specs.Rounds.{Judged, Waited};
 ghost use Rattle.ks_service.specs.Work.{AreDerivable};
-ghost use Rattle.ks_state.specs.Decides.{Replied};
+ghost use Rattle.ks_state.specs.Decides.{CanBeTold, Replied};
 
 use crate::answer::Answer;
 use crate::work::work;
@@ -31,6 +32,7 @@ fn judge<I: Decides, N: First>(held: &mut Held<I, N>, call: &Call, facts: &Facts
     ensures sound { IsSound held.new.pass.seen }
     ensures judged { Judged I.stands I.kept held.new.pass.seen call.now result.1 held.new.value }
     ensures kept { held.new.pass.seen.kept ≤ I.kept held.new.value }
+    ensures tellable { CanBeTold result.1 }
 {
     let value = held.value();
     let (changes, _) = value.front();
@@ -57,6 +59,7 @@ fn settle<I: Decides, N: First>(
     requires count { changes ≡ length held.pass.seen.changes }
     requires sound { IsSound held.pass.seen }
     requires kept { held.pass.seen.kept ≤ I.kept held.value }
+    requires tellable { IsTellable reply }
     requires replied { (call : PlainCall) × Replied I.stands I.kept held.pass.seen call reply held.value }
     ensures { (call : PlainCall) → Replied I.stands I.kept held.pass.seen call reply held.value → Called held.pass result.0 call result.1 }
 {
