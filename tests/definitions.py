@@ -25,6 +25,8 @@ def defined(path):
     """The public definitions of a file; an operator goes by what stands between its places."""
     text = path.read_text(encoding="utf-8")
     found = re.findall(r"^(?:abbrev |unfoldable )?pub (?:record |data )?(\S+?)[ :(]", text, re.M)
+    # Those of a module with parameters stand two places in.
+    found += re.findall(r"^  (?:abbrev |unfoldable )pub (\S+?)[ :(]", text, re.M)
     for block in re.findall(r"^abbrev mutual\n((?:  .*\n|\n)*)", text, re.M):
         found += re.findall(r"^  pub (\S+?)[ :(]", block, re.M)
     for block in re.findall(r"^pub data .*\n((?:  .*\n)*)", text, re.M):
