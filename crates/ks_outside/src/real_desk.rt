@@ -13,11 +13,13 @@ use std::time::{SystemTime, UNIX_EPOCH};
 
 /// A desk over a listener of TCP connections, the clock and the random source. It tells nothing, and
 /// counts its faults; the counts stand still at 2^64 - 1. It closes each link that is given back and
-/// keeps no receipt. Several desks may share one listener. It hands out links without end.
+/// keeps no receipt. Several desks may share one listener. It hands out links without end; without a
+/// listener, as where the program listens at no address or its address could not be opened, it hands out
+/// none, and each `accept` fails.
 #[derive(Drop)]
 pub struct RealDesk<'a, R> {
     rt: &'a R,
-    listener: &'a TcpListener,
+    listener: Option<&'a TcpListener>,
     last: u64,
     accept_faults: u64,
     fill_faults: u64,
@@ -33,7 +35,7 @@ impl<'a, R> Model for RealDesk<'a, R> {
 
 impl<'a, R> RealDesk<'a, R> {
     /// A desk that has not failed yet, and whose last reading is 0.
-    pub fn new(rt: &'a R, listener: &'a TcpListener) -> RealDesk<'a, R>
+    pub fn new(rt: &'a R, listener: Option<&'a TcpListener>) -> RealDesk<'a, R>
         ensures { result ≡ record { last = 0; accept_faults = 0; fill_faults = 0 } }
     {
         RealDesk {
@@ -52,7 +54,7 @@ impl<R: Clock + RandomSource> Desk for RealDesk<'_, R> {
     ghost desk = { untold_desk };
 
     /// Waits for the next connection. One that ended before it was accepted is passed over; every other
-    /// error is a fault.
+    /// error is a fault, and so is a want of a listener.
     fn accept(&mut self) -> Result<Option<TcpLink>, Failed>
         ensures faults { Counts (IsErr result) self.old.accept_faults self.new.accept_faults }
         // There is always a link or a fault, and the count rises at a fault alone.
@@ -117,7 +119,10 @@ impl<R: Clock + RandomSource> Desk for RealDesk<'_, R> {
 
 /// The next connection. An accept that a signal interrupted is tried again, and so is one whose connection
 /// has ended meanwhile.
-fn next_stream(listener: &TcpListener) -> Result<TcpStream, Failed> {
+fn next_stream(listener: Option<&TcpListener>) -> Result<TcpStream, Failed> {
+    let Some(listener) = listener else {
+        return Err(Failed);
+    };
     'tries: for _ in 0..u64::MAX {
         match listener.accept() {
             Ok((stream, _)) => return Ok(stream),

@@ -13,7 +13,7 @@ fn a_desk_serves_a_connection(rt: HostRuntime) -> Result<(), Fail> {
     let listener = TcpListener::bind(&rt, "127.0.0.1:0")?;
     let mut client = TcpStream::connect(&rt, listener.local_addr()?)?;
     client.write_all(b"abc")?;
-    let mut desk = RealDesk::new(&rt, &listener);
+    let mut desk = RealDesk::new(&rt, Some(&listener));
     let moment = serve(&mut desk)?.ok_or("no link")?;
     assert!(rt; moment > 1_700_000_000);
     let mut answer = [0; 3];
@@ -29,7 +29,7 @@ fn a_desk_serves_a_connection(rt: HostRuntime) -> Result<(), Fail> {
 #[test]
 fn a_desk_fills_the_whole_piece(rt: HostRuntime) -> Result<(), Fail> {
     let listener = TcpListener::bind(&rt, "127.0.0.1:0")?;
-    let mut desk = RealDesk::new(&rt, &listener);
+    let mut desk = RealDesk::new(&rt, Some(&listener));
     let mut drawn = [0; 64];
     assert_eq!(rt; desk.fill(&mut drawn), Ok(()));
     for part in drawn.chunks(16) {
@@ -44,7 +44,7 @@ fn a_desk_fills_the_whole_piece(rt: HostRuntime) -> Result<(), Fail> {
 #[test]
 fn a_desk_counts_seconds(rt: HostRuntime) -> Result<(), Fail> {
     let listener = TcpListener::bind(&rt, "127.0.0.1:0")?;
-    let mut desk = RealDesk::new(&rt, &listener);
+    let mut desk = RealDesk::new(&rt, Some(&listener));
     let first = desk.reading();
     assert!(rt; first > 1_700_000_000 && first < 100_000_000_000, "{first}");
     thread::sleep(&rt, Duration::from_millis(1_100));
@@ -53,6 +53,17 @@ fn a_desk_counts_seconds(rt: HostRuntime) -> Result<(), Fail> {
         second > first && second < first.saturating_add(60),
         "{first} {second}"
     );
+    Ok(())
+}
+
+#[test]
+fn a_desk_without_a_listener_hands_out_no_link(rt: HostRuntime) -> Result<(), Fail> {
+    let mut desk = RealDesk::new(&rt, None);
+    assert!(rt; desk.accept().is_err());
+    assert!(rt; desk.reading() > 1_700_000_000);
+    let mut drawn = [0; 16];
+    assert_eq!(rt; desk.fill(&mut drawn), Ok(()));
+    assert!(rt; drawn.iter().any(|byte| *byte != 0), "16 zeros");
     Ok(())
 }
 
