@@ -8,17 +8,21 @@ use crate::real_source::read_uninterrupted;
 use crate::{DirFault, Failed, KeyDir};
 use ks_base::{Bytes, Memory};
 use std::alloc::Global;
-use std::fs::{File, OpenFile};
+use std::fs::{File, OpenFile, OpenOptions};
 use std::io::{ErrorKind, Read, Write};
 use std::marker::Model;
+use std::os::unix::fs::OpenOptionsExt;
 use std::rt::Files;
 use std::{fs, io};
 
 const LAST_INDEX: u32 = 999_999_999;
 
+/// The mode of a new key file: its owner reads and writes it.
+const OWNER_ALONE: u32 = 0o600;
+
 /// A key folder over a folder of the system. The name of a key file is the decimal of its index without a
-/// leading zero; other names are passed over. It does not tell its files, and counts its faults. The
-/// count stands still at 2^64 - 1.
+/// leading zero; other names are passed over. A new key file has the mode 0600. It does not tell its files,
+/// and counts its faults. The count stands still at 2^64 - 1.
 #[derive(Drop)]
 pub struct Folder<'a, R> {
     rt: &'a R,
@@ -164,7 +168,7 @@ fn write_new<R: Files + AllocGlobal>(
     if index > LAST_INDEX || stands(rt, name.as_str())? {
         return Err(DirFault::Failed);
     }
-    let mut file = File::create(rt, fresh.as_str())?;
+    let mut file = made_anew(rt, fresh.as_str())?;
     file.write_all(content)?;
     file.sync_all()?;
     if stands(rt, name.as_str())? {
@@ -172,6 +176,22 @@ fn write_new<R: Files + AllocGlobal>(
     }
     fs::rename(rt, fresh.as_str(), name.as_str())?;
     Ok(())
+}
+
+/// A new file that its owner alone may read. What a stop left under this name is removed first, since a file
+/// that stands keeps its mode.
+fn made_anew<R: Files>(rt: &R, name: &str) -> Result<R::File, DirFault> {
+    match fs::remove_file(rt, name) {
+        Ok(()) => {}
+        Err(error) if error.kind() == ErrorKind::NotFound => {}
+        Err(error) => return Err(error.into()),
+    }
+    let file = OpenOptions::new()
+        .write(true)
+        .create_new(true)
+        .mode(OWNER_ALONE)
+        .open(rt, name)?;
+    Ok(file)
 }
 
 fn rename<R: Files + AllocGlobal>(rt: &R, path: &str, from: u32, to: u32) -> Result<(), DirFault> {

@@ -2,6 +2,7 @@
 
 use ks_outside::{DirFault, Folder, KeyDir};
 use std::fs;
+use std::os::unix::fs::PermissionsExt;
 use std::test::Fail;
 
 #[test]
@@ -42,6 +43,23 @@ fn a_standing_file_is_not_replaced(rt: HostRuntime) -> Result<(), Fail> {
     assert_eq!(rt; dir.read(5, &mut into), Ok(Some(4)));
     assert!(rt; into.starts_with(b"five"));
     fs::remove_dir_all(&rt, "standing")?;
+    Ok(())
+}
+
+#[test]
+fn a_key_file_is_for_its_owner_alone(rt: HostRuntime) -> Result<(), Fail> {
+    fs::create_dir(&rt, "owned")?;
+    // A stop left this, which all may read.
+    fs::write(&rt, "owned/1.new", "part of a key")?;
+    fs::set_permissions(&rt, "owned/1.new", fs::Permissions::from_mode(0o644))?;
+    let mut dir = Folder::new(rt.alloc(), &rt, "owned")?;
+    assert_eq!(rt; dir.write_new(0, b"zero"), Ok(()));
+    assert_eq!(rt; dir.write_new(1, b"one"), Ok(()));
+    for name in ["owned/0", "owned/1"] {
+        let mode = fs::metadata(&rt, name)?.permissions().mode();
+        assert_eq!(rt; mode & 0o777, 0o600, "{name}");
+    }
+    fs::remove_dir_all(&rt, "owned")?;
     Ok(())
 }
 
