@@ -6,8 +6,8 @@ use Rattle.std.specs.Str.{bytes_eq}
 use Rattle.ks_base.specs.declared.memory.Memory.{Memory}
 use Rattle.ks_setup.specs.declared.words.Words.{Words}
 use Rattle.ks_setup.specs.declared.words.Words.TheVariants.{Usage}
-use Rattle.ks_setup.specs.Words.{check, read_by, talk, words_of}
-use Rattle.ks_setup.proofs.TalkLemmas.{named_check, named_else, named_talk, not_named}
+use Rattle.ks_setup.specs.Words.{check, read_by, rotate, setup, talk, words_of}
+use Rattle.ks_setup.proofs.NameLemmas.{named_check, named_else, named_rotate, named_setup, named_talk, not_named}
 
 abbrev texts : List (Bor (List ℕ)) → List (List ℕ)
 texts lent = map (λ word. word.now) lent
@@ -27,9 +27,24 @@ pub talk_lent : (words : List (List ℕ)) (lent : List (Bor (List ℕ))) (name :
     → read_by talk (map (λ word. word.now) lent) ≡ words_of words
 talk_lent words lent name b d are first is h also g = sym (named_talk (texts lent) name.now b d (first_text lent name first) is h also g) ∙ ap words_of are
 
-pub else_lent : (words : List (List ℕ)) (lent : List (Bor (List ℕ))) (name : Bor (List ℕ)) (b d : Bool) → map (λ word. word.now) lent ≡ words
-    → Some name ≡ slice_get lent 0 → b ≡ bytes_eq name.now (codes "check") → b ≡ false → d ≡ bytes_eq name.now (codes "talk") → d ≡ false → Usage ≡ words_of words
-else_lent words lent name b d are first is h also g = sym (named_else (texts lent) name.now b d (first_text lent name first) is h also g) ∙ ap words_of are
+pub setup_lent : (words : List (List ℕ)) (lent : List (Bor (List ℕ))) (name : Bor (List ℕ)) (b d e : Bool) → map (λ word. word.now) lent ≡ words
+    → Some name ≡ slice_get lent 0 → b ≡ bytes_eq name.now (codes "check") → b ≡ false → d ≡ bytes_eq name.now (codes "talk") → d ≡ false
+    → e ≡ bytes_eq name.now (codes "setup") → e ≡ true → read_by setup (map (λ word. word.now) lent) ≡ words_of words
+setup_lent words lent name b d e are first is h also g third f =
+    sym (named_setup (texts lent) name.now b d e (first_text lent name first) is h also g third f) ∙ ap words_of are
+
+pub rotate_lent : (words : List (List ℕ)) (lent : List (Bor (List ℕ))) (name : Bor (List ℕ)) (b d e r : Bool) → map (λ word. word.now) lent ≡ words
+    → Some name ≡ slice_get lent 0 → b ≡ bytes_eq name.now (codes "check") → b ≡ false → d ≡ bytes_eq name.now (codes "talk") → d ≡ false
+    → e ≡ bytes_eq name.now (codes "setup") → e ≡ false → r ≡ bytes_eq name.now (codes "rotate") → r ≡ true
+    → read_by rotate (map (λ word. word.now) lent) ≡ words_of words
+rotate_lent words lent name b d e r are first is h also g third f fourth k =
+    sym (named_rotate (texts lent) name.now b d e r (first_text lent name first) is h also g third f fourth k) ∙ ap words_of are
+
+pub else_lent : (words : List (List ℕ)) (lent : List (Bor (List ℕ))) (name : Bor (List ℕ)) (b d e r : Bool) → map (λ word. word.now) lent ≡ words
+    → Some name ≡ slice_get lent 0 → b ≡ bytes_eq name.now (codes "check") → b ≡ false → d ≡ bytes_eq name.now (codes "talk") → d ≡ false
+    → e ≡ bytes_eq name.now (codes "setup") → e ≡ false → r ≡ bytes_eq name.now (codes "rotate") → r ≡ false → Usage ≡ words_of words
+else_lent words lent name b d e r are first is h also g third f fourth k =
+    sym (named_else (texts lent) name.now b d e r (first_text lent name first) is h also g third f fourth k) ∙ ap words_of are
 
 pub none_lent : (words : List (List ℕ)) (lent : List (Bor (List ℕ))) → map (λ word. word.now) lent ≡ words → None ≡ slice_get lent 0 → Usage ≡ words_of words
 none_lent words [] are first = sym (not_named [] refl) ∙ ap words_of are

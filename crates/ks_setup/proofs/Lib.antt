@@ -3,9 +3,13 @@ pub mod ChoiceLemmas
 pub mod CountLemmas
 pub mod DrawLemmas
 pub mod EntryLemmas
+pub mod FolderLemmas
+pub mod FolderWordLemmas
 pub mod FrontLemmas
 pub mod KeyLemmas
 pub mod LentLemmas
+pub mod NameLemmas
+pub mod NumberLemmas
 pub mod OpeningLemmas
 pub mod ReadLemmas
 pub mod TalkLemmas

@@ -1,16 +1,15 @@
 -- The words that give each command.
 use Rattle.std.proofs.Common.{◌≡◌, ℕ, Bool, true, false, not, ◌||◌, List, [], ◌∷◌, Option, Some, None, refl, ap, ap₂, sym, ◌∙◌, inl, inr, codes}
-use Rattle.std.specs.Prelude.{slice_get}
 use Rattle.std.specs.List.{list_all}
 use Rattle.std.specs.Option.{option_map_or}
 use Rattle.std.specs.Str.{bytes_eq}
 use Rattle.std.proofs.lemmas.Bool.{cases_Bool}
-use Rattle.std.proofs.lemmas.Slice.Eq.{bytes_eq-Decides}
 use Rattle.clap.specs.Words.{Row, first_of, matches_of}
 use Rattle.ks_setup.specs.declared.words.Places.{Places}
 use Rattle.ks_setup.specs.declared.words.Words.{Words}
 use Rattle.ks_setup.specs.declared.words.Words.TheVariants.{Check, Talk, Usage}
-use Rattle.ks_setup.specs.Words.{check, check_app, is_dashed, is_open, names_option, read_by, rows_read, talk, talk_app, talk_places, words_of}
+use Rattle.ks_setup.specs.Words.{check, check_app, is_dashed, is_open, max_said, names_option, read_by, rotate, rotate_app, rotated_with, rows_read, setup, setup_app, talk, talk_app, talk_places, words_of}
+use Rattle.ks_setup.proofs.NameLemmas.{check_name, is_name, not_named, other_name, talk_name}
 use Rattle.ks_setup.proofs.ReadLemmas.{both_true, read_fault, read_none, read_some}
 use Rattle.ks_setup.proofs.WordLemmas.{check_word_taken, check_words_fault, file_is_first, folder_is_second, no_word_fault, one_word_fault, three_words_fault, two_words_taken}
 
@@ -116,55 +115,28 @@ check_only name (word ∷ words) e = elim (cases_Bool (list_all (is_open check_a
   | inr h ↦ not_usage _ (check_usage _ (read_none check_app (name ∷ word ∷ words) h)) e
 ]
 
--- the first word names the command
+-- what each command needs of its words; the other commands give neither of these two
+setup_found : (found : Option (List Row)) (places : Places) → (option_map_or setup.meaning found Usage ≡ Check → ⊥) × (option_map_or setup.meaning found Usage ≡ Talk places → ⊥)
+setup_found None places = (λ e. cc, λ e. cc)
+setup_found (Some rows) places = (λ e. cc, λ e. cc)
 
-pub named_check : (words : List (List ℕ)) (name : List ℕ) (b : Bool) → slice_get words 0 ≡ Some name → b ≡ bytes_eq name (codes "check") → b ≡ true
-    → words_of words ≡ read_by check words
-unfolding words_of
-named_check [] name b first is h = cc
-named_check (word ∷ words) name b first is h =
-    let same : word ≡ name = cc in
-    let test : bytes_eq word (codes "check") ≡ true = ap (λ w. bytes_eq w (codes "check")) same ∙ sym is ∙ h in
-    rw test refl
+rotated_is : (folder : Option (List ℕ)) (max : Option ℕ) (places : Places) → (rotated_with folder max ≡ Check → ⊥) × (rotated_with folder max ≡ Talk places → ⊥)
+rotated_is folder None places = (λ e. cc, λ e. cc)
+rotated_is folder (Some max) places = (λ e. cc, λ e. cc)
 
-pub named_talk : (words : List (List ℕ)) (name : List ℕ) (b d : Bool) → slice_get words 0 ≡ Some name → b ≡ bytes_eq name (codes "check") → b ≡ false
-    → d ≡ bytes_eq name (codes "talk") → d ≡ true → words_of words ≡ read_by talk words
-unfolding words_of
-named_talk [] name b d first is h also g = cc
-named_talk (word ∷ words) name b d first is h also g =
-    let same : word ≡ name = cc in
-    let test : bytes_eq word (codes "check") ≡ false = ap (λ w. bytes_eq w (codes "check")) same ∙ sym is ∙ h in
-    let next : bytes_eq word (codes "talk") ≡ true = ap (λ w. bytes_eq w (codes "talk")) same ∙ sym also ∙ g in
-    rw (test, next) refl
+rotate_found : (found : Option (List Row)) (places : Places) → (option_map_or rotate.meaning found Usage ≡ Check → ⊥) × (option_map_or rotate.meaning found Usage ≡ Talk places → ⊥)
+rotate_found None places = (λ e. cc, λ e. cc)
+rotate_found (Some rows) places = rotated_is (first_of (codes "folder") rows) (max_said (first_of (codes "max") rows)) places
 
-pub named_else : (words : List (List ℕ)) (name : List ℕ) (b d : Bool) → slice_get words 0 ≡ Some name → b ≡ bytes_eq name (codes "check") → b ≡ false
-    → d ≡ bytes_eq name (codes "talk") → d ≡ false → words_of words ≡ Usage
-unfolding words_of
-named_else [] name b d first is h also g = cc
-named_else (word ∷ words) name b d first is h also g =
-    let same : word ≡ name = cc in
-    let test : bytes_eq word (codes "check") ≡ false = ap (λ w. bytes_eq w (codes "check")) same ∙ sym is ∙ h in
-    let next : bytes_eq word (codes "talk") ≡ false = ap (λ w. bytes_eq w (codes "talk")) same ∙ sym also ∙ g in
-    rw (test, next) refl
+abbrev IsNeither : Places → Words → Type 0
+IsNeither places words = (words ≡ Check → ⊥) × (words ≡ Talk places → ⊥)
 
-pub not_named : (words : List (List ℕ)) → slice_get words 0 ≡ None → words_of words ≡ Usage
-unfolding words_of
-not_named [] first = refl
-not_named (word ∷ words) first = cc
-
--- what each command needs of its words
-
-check_name : (name : List ℕ) (rest : List (List ℕ)) → bytes_eq name (codes "check") ≡ true → words_of (name ∷ rest) ≡ read_by check (name ∷ rest)
-check_name name rest h = named_check (name ∷ rest) name true refl (sym h) refl
-
-talk_name : (name : List ℕ) (rest : List (List ℕ)) → bytes_eq name (codes "check") ≡ false → bytes_eq name (codes "talk") ≡ true → words_of (name ∷ rest) ≡ read_by talk (name ∷ rest)
-talk_name name rest h g = named_talk (name ∷ rest) name false true refl (sym h) refl (sym g) refl
-
-else_name : (name : List ℕ) (rest : List (List ℕ)) → bytes_eq name (codes "check") ≡ false → bytes_eq name (codes "talk") ≡ false → words_of (name ∷ rest) ≡ Usage
-else_name name rest h g = named_else (name ∷ rest) name false false refl (sym h) refl (sym g) refl
-
-is_name : (name text : List ℕ) → bytes_eq name text ≡ true → name ≡ text
-is_name name text h = (bytes_eq-Decides name text).0 h
+other_is_neither : (name : List ℕ) (rest : List (List ℕ)) (places : Places) → bytes_eq name (codes "check") ≡ false → bytes_eq name (codes "talk") ≡ false
+    → IsNeither places (words_of (name ∷ rest))
+unfolding read_by
+other_is_neither name rest places h g =
+    other_name (IsNeither places) name rest h g (λ e. setup_found (rows_read setup_app (name ∷ rest)) places) (rotate_found (rows_read rotate_app (name ∷ rest)) places)
+    (λ e. cc, λ e. cc)
 
 pub check_words_are : (words : List (List ℕ)) → words_of words ≡ Check → words ≡ codes "check" ∷ []
 check_words_are [] e = not_usage _ (not_named [] refl) e
@@ -172,7 +144,7 @@ check_words_are (name ∷ rest) e = elim (cases_Bool (bytes_eq name (codes "chec
   | inl h ↦ ap₂ (λ a b. a ∷ b) (is_name name (codes "check") h) (check_only name rest (sym (check_name name rest h) ∙ e))
   | inr h ↦ elim (cases_Bool (bytes_eq name (codes "talk"))) [
     | inl g ↦ absurd (talk_is_not_check (name ∷ rest) (sym (talk_name name rest h g) ∙ e))
-    | inr g ↦ not_usage _ (else_name name rest h g) e
+    | inr g ↦ absurd ((other_is_neither name rest (talk_places None None) h g).0 e)
   ]
 ]
 
@@ -196,7 +168,7 @@ talk_words_are (name ∷ rest) places e = elim (cases_Bool (bytes_eq name (codes
   | inl h ↦ absurd (check_is_not_talk (name ∷ rest) places (sym (check_name name rest h) ∙ e))
   | inr h ↦ elim (cases_Bool (bytes_eq name (codes "talk"))) [
     | inl g ↦ talk_rest name rest places (is_name name (codes "talk") g) (talk_only name rest places (sym (talk_name name rest h g) ∙ e))
-    | inr g ↦ refused _ places (else_name name rest h g) e
+    | inr g ↦ absurd ((other_is_neither name rest places h g).1 e)
   ]
 ]
 

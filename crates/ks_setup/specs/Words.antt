@@ -1,13 +1,15 @@
 -- The commands of the program, and the words that give them.
-use Rattle.std.specs.Prelude.{ℕ, Bool, true, false, not, ◌&&◌, ◌||◌, ◌==◌, List, [], ◌∷◌, ◌++◌, drop, find, Option, Some, None, option_and_then, if◌then◌else◌, codes}
+use Rattle.std.specs.Prelude.{ℕ, ◌≤◌, Bool, true, false, not, ◌&&◌, ◌||◌, ◌==◌, nat_lt, nat_le, List, [], ◌∷◌, ◌++◌, length, drop, find, Option, Some, None, option_and_then, if◌then◌else◌, codes}
 use Rattle.std.specs.List.{list_all, list_any}
 use Rattle.std.specs.Option.{option_map_or}
+use Rattle.std.specs.Char.{is_digit}
 use Rattle.std.specs.Str.{bytes_eq}
+use Rattle.std.specs.Str.Parse.{digits_value, without_leading_plus}
 use Rattle.clap.specs.Kinds.{Kinds}
 use Rattle.clap.specs.Words.{App, Row, Rule, fault_of, first_of, matches_of, new_app, new_rule, with_rule}
 use Rattle.ks_setup.specs.declared.words.Places.{Places}
 use Rattle.ks_setup.specs.declared.words.Words.{Words}
-use Rattle.ks_setup.specs.declared.words.Words.TheVariants.{Check, Talk, Usage}
+use Rattle.ks_setup.specs.declared.words.Words.TheVariants.{Check, Talk, Setup, Rotate, Usage}
 
 -- the word begins with `-`
 abbrev pub is_dashed : List ℕ → Bool
@@ -73,8 +75,69 @@ talk = record {
   meaning = λ rows. Talk (talk_places (first_of (codes "file") rows) (first_of (codes "folder") rows));
 }
 
+abbrev pub setup_app : App
+setup_app = with_rule (new_app (codes "setup")) (needed (codes "folder"))
+
+-- where the keys of a folder are made or rotated
+abbrev pub folder_places : Option (List ℕ) → Places
+folder_places folder = record { file = None; folder = folder; address = None; workers = 1 }
+
+abbrev pub setup : Form
+setup = record { app = setup_app; meaning = λ rows. Setup (folder_places (first_of (codes "folder") rows)) }
+
+-- one digit or more, and nothing else
+abbrev pub is_numeral : List ℕ → Bool
+is_numeral digits = nat_lt 0 (length digits) && list_all (λ c. is_digit c 10) digits
+
+abbrev pub digits_between : ℕ → ℕ → List ℕ → Option ℕ
+digits_between least most digits =
+    if is_numeral digits && (nat_le least (digits_value 10 digits) && nat_le (digits_value 10 digits) most)
+    then Some (digits_value 10 digits) else None
+
+-- the number within these bounds that a word of digits writes, which may have a plus before them
+unfoldable pub number_between : ℕ → ℕ → List ℕ → Option ℕ
+number_between least most word = digits_between least most (without_leading_plus word)
+
+-- an option with a value
+abbrev pub optional : List ℕ → Rule
+optional id = record (new_rule id) { long = Some id }
+
+abbrev pub rotate_app : App
+rotate_app = with_rule (with_rule (new_app (codes "rotate")) (needed (codes "folder"))) (optional (codes "max"))
+
+-- how many keys a rotation leaves: 3 where nothing is said
+abbrev pub max_said : Option (List ℕ) → Option ℕ
+max_said None = Some 3
+max_said (Some word) = number_between 2 32 word
+
+-- from 2 to 32 keys may be left
+abbrev pub HasMax : Words → Type 0
+HasMax (Rotate places max) = (2 ≤ max) × (max ≤ 32)
+HasMax Check = Unit {0}
+HasMax (Talk places) = Unit {0}
+HasMax (Setup places) = Unit {0}
+HasMax Usage = Unit {0}
+
+-- the path of the folder that a command names
+abbrev pub folder_in : Words → Option (List ℕ)
+folder_in Check = None
+folder_in (Talk places) = places.folder
+folder_in (Setup places) = places.folder
+folder_in (Rotate places max) = places.folder
+folder_in Usage = None
+
+abbrev pub rotated_with : Option (List ℕ) → Option ℕ → Words
+rotated_with folder None = Usage
+rotated_with folder (Some max) = Rotate (folder_places folder) max
+
+abbrev pub rotate : Form
+rotate = record {
+  app = rotate_app;
+  meaning = λ rows. rotated_with (first_of (codes "folder") rows) (max_said (first_of (codes "max") rows));
+}
+
 abbrev pub forms : List Form
-forms = check ∷ talk ∷ []
+forms = check ∷ talk ∷ setup ∷ rotate ∷ []
 
 -- what the words of a command mean
 unfoldable pub read_by : Form → List (List ℕ) → Words

@@ -1,12 +1,19 @@
-ghost use Rattle.std.specs.Prelude.{◌≡◌, IfOk, map, option_map};
+ghost use Rattle.std.specs.Prelude.{◌≡◌, IfOk, codes, map, option_map};
 ghost use Rattle.clap.specs.Words.{app_of, first_value, found_of};
-ghost use Rattle.ks_setup.specs.Words.{check, check_app, read_by, talk, talk_app};
+ghost use Rattle.ks_setup.specs.Words.{check, check_app, folder_places, max_said, number_between, read_by, rotate, rotate_app, setup, setup_app, talk, talk_app};
 
 use crate::reader::parsed;
 use crate::words::{Places, Words};
 use clap::{Arg, ArgMatches, Command};
 use ks_base::{Memory, Text};
 use std::alloc::{AllocError, Global};
+
+/// The fewest and the most keys that a rotation may be asked to leave, and how many it leaves by itself.
+const FEWEST_KEYS: u32 = 2;
+
+const MOST_KEYS: u32 = 32;
+
+const KEYS_KEPT: u32 = 3;
 
 /// `check`, which takes no word.
 pub(crate) fn read_check(alloc: Global, words: &[&str]) -> Result<Words, Memory>
@@ -39,6 +46,79 @@ fn talk_command<'a>(alloc: Global) -> Result<Command<'a>, AllocError>
     let file = Arg::new(alloc, "file").required(true);
     let folder = Arg::new(alloc, "folder").required(true);
     Command::new(alloc, "talk").arg(file)?.arg(folder)
+}
+
+/// `setup FOLDER`.
+pub(crate) fn read_setup(alloc: Global, words: &[&str]) -> Result<Words, Memory>
+    ensures { IfOk result (λ read. read ≡ read_by setup (map (λ word. word.now) words.now)) }
+{
+    match parsed(setup_command(alloc)?, words)? {
+        Some(matches) => Ok(Words::Setup(folder_alone(alloc, &matches)?)),
+        None => Ok(Words::Usage),
+    }
+}
+
+fn setup_command<'a>(alloc: Global) -> Result<Command<'a>, AllocError>
+    ensures { IfOk result (λ command. app_of command ≡ setup_app) }
+{
+    Command::new(alloc, "setup").arg(Arg::new(alloc, "folder").required(true))
+}
+
+/// `rotate FOLDER [--max N]`.
+pub(crate) fn read_rotate(alloc: Global, words: &[&str]) -> Result<Words, Memory>
+    ensures { IfOk result (λ read. read ≡ read_by rotate (map (λ word. word.now) words.now)) }
+{
+    let Some(matches) = parsed(rotate_command(alloc)?, words)? else {
+        return Ok(Words::Usage);
+    };
+    match max_of(&matches) {
+        Some(max) => Ok(Words::Rotate(folder_alone(alloc, &matches)?, max)),
+        None => Ok(Words::Usage),
+    }
+}
+
+fn rotate_command<'a>(alloc: Global) -> Result<Command<'a>, AllocError>
+    ensures { IfOk result (λ command. app_of command ≡ rotate_app) }
+{
+    let folder = Arg::new(alloc, "folder").required(true);
+    let max = Arg::new(alloc, "max").long("max");
+    Command::new(alloc, "rotate").arg(folder)?.arg(max)
+}
+
+/// How many keys a rotation is to leave.
+fn max_of(matches: &ArgMatches<'_>) -> Option<u32>
+    ensures { result ≡ max_said (first_value (found_of matches.now) (codes "max")) }
+{
+    match matches.get_str("max") {
+        Some(word) => number_between(word, FEWEST_KEYS, MOST_KEYS),
+        None => Some(KEYS_KEPT),
+    }
+}
+
+/// The number within these bounds that a word writes.
+fn number_between(word: &str, least: u32, most: u32) -> Option<u32>
+    ensures { result ≡ number_between least most word.now }
+{
+    let Ok(number) = word.parse::<u32>() else {
+        return None;
+    };
+    if least <= number && number <= most {
+        Some(number)
+    } else {
+        None
+    }
+}
+
+/// What a command works on that has a folder alone.
+fn folder_alone(alloc: Global, matches: &ArgMatches<'_>) -> Result<Places, Memory>
+    ensures { IfOk result (λ places. places ≡ folder_places (first_value (found_of matches.now) (codes "folder"))) }
+{
+    Ok(Places {
+        file: None,
+        folder: text_of(alloc, matches, "folder")?,
+        address: None,
+        workers: 1,
+    })
 }
 
 /// The first value of an argument.

@@ -1,9 +1,9 @@
 //! What holds of the definitions that the contracts cite. Each law is the contract of a function that
 //! does nothing.
 ghost use Rattle.std.specs.Prelude.{◌≡◌, ◌↔◌, ℕ, List, [], ◌∷◌, false, Some, codes};
-ghost use Rattle.ks_setup.specs.Words.{is_dashed, talk_places, words_of};
+ghost use Rattle.ks_setup.specs.Words.{folder_places, is_dashed, talk_places, words_of};
 ghost use Rattle.ks_setup.specs.declared.words.Places.{Places};
-ghost use Rattle.ks_setup.specs.declared.words.Words.TheVariants.{Check, Talk};
+ghost use Rattle.ks_setup.specs.declared.words.Words.TheVariants.{Check, Talk, Setup, Rotate};
 
 /// `check` is given by the one word `check` alone.
 pub fn check_is_one_word()
@@ -18,4 +18,16 @@ pub fn talk_is_three_words()
     ensures only { (words : List (List ℕ)) (places : Places) → words_of words ≡ Talk places
         → (file folder : List ℕ) × (is_dashed file ≡ false) × (is_dashed folder ≡ false)
         × (words ≡ codes "talk" ∷ file ∷ folder ∷ []) × (places ≡ talk_places (Some file) (Some folder)) }
+{}
+
+/// `setup` is given by the two words `setup` and a folder alone, where the folder does not begin with `-`.
+pub fn setup_is_two_words()
+    ensures given { (folder : List ℕ) → is_dashed folder ≡ false → words_of (codes "setup" ∷ folder ∷ []) ≡ Setup (folder_places (Some folder)) }
+    ensures only { (words : List (List ℕ)) (places : Places) → words_of words ≡ Setup places
+        → (folder : List ℕ) × (is_dashed folder ≡ false) × (words ≡ codes "setup" ∷ folder ∷ []) × (places ≡ folder_places (Some folder)) }
+{}
+
+/// `rotate` with a folder alone leaves at most 3 keys.
+pub fn rotate_leaves_three()
+    ensures { (folder : List ℕ) → is_dashed folder ≡ false → words_of (codes "rotate" ∷ folder ∷ []) ≡ Rotate (folder_places (Some folder)) 3 }
 {}

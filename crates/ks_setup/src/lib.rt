@@ -19,6 +19,6 @@ mod words;
 mod written;
 
 pub use folder::wants_folder;
-pub use laws::{check_is_one_word, talk_is_three_words};
+pub use laws::{check_is_one_word, rotate_leaves_three, setup_is_two_words, talk_is_three_words};
 pub use opening::{OpeningFault, read_opening};
 pub use words::{Places, Words, read_words};

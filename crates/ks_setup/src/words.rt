@@ -1,7 +1,7 @@
-ghost use Rattle.std.specs.Prelude.{◌≡◌, IfOk, map};
-ghost use Rattle.ks_setup.specs.Words.{words_of};
+ghost use Rattle.std.specs.Prelude.{◌≡◌, IfOk, map, option_copied};
+ghost use Rattle.ks_setup.specs.Words.{HasMax, folder_in, words_of};
 
-use crate::commands::{read_check, read_talk};
+use crate::commands::{read_check, read_rotate, read_setup, read_talk};
 use ks_base::{Memory, Text};
 use std::alloc::{AllocError, Global};
 
@@ -26,8 +26,28 @@ pub enum Words {
     /// `talk FILE FOLDER`: one connection is served, by the first desk alone, so there is no address and one
     /// worker.
     Talk(Places),
+    /// `setup FOLDER`: the keys of an empty folder are made.
+    Setup(Places),
+    /// `rotate FOLDER [--max N]`: the keys of a folder are rotated, and at most N of them are left, from 2
+    /// to 32. Where N is not said it is 3, as in Keystone.
+    Rotate(Places, u32),
     /// The words are no command's.
     Usage,
+}
+
+impl Words {
+    /// The path of the folder of the keys, where the command names one.
+    pub fn folder(&self) -> Option<&Text>
+        ensures { option_copied result ≡ folder_in self.now }
+    {
+        match self {
+            Words::Talk(places) => places.folder.as_ref(),
+            Words::Setup(places) => places.folder.as_ref(),
+            Words::Rotate(places, _) => places.folder.as_ref(),
+            Words::Check => None,
+            Words::Usage => None,
+        }
+    }
 }
 
 /// The command that these words give, the program's own name not among them.
@@ -37,7 +57,8 @@ pub enum Words {
 /// with `-` and names no option of the command is refused, so `--`, `-h` and `--help` are. What no
 /// command takes is `Words::Usage`.
 pub fn read_words(alloc: Global, words: &[Text]) -> Result<Words, Memory>
-    ensures { IfOk result (λ read. read ≡ words_of words.now) }
+    ensures words { IfOk result (λ read. read ≡ words_of words.now) }
+    ensures max { IfOk result HasMax }
 {
     let words = borrowed(alloc, words)?;
     let words = words.as_slice();
@@ -49,6 +70,12 @@ pub fn read_words(alloc: Global, words: &[Text]) -> Result<Words, Memory>
     }
     if *name == "talk" {
         return read_talk(alloc, words);
+    }
+    if *name == "setup" {
+        return read_setup(alloc, words);
+    }
+    if *name == "rotate" {
+        return read_rotate(alloc, words);
     }
     Ok(Words::Usage)
 }
