@@ -69,7 +69,7 @@ key_text_line text key is =
       }
     ]
 
-file_is_read : (content : List ℕ) (key : Key) → IsKeyFile content key → key_in_file content ≡ Some key
+pub file_is_read : (content : List ℕ) (key : Key) → IsKeyFile content key → key_in_file content ≡ Some key
 file_is_read content key is =
     let line = key_text_line is.0 key is.1 in
     elim is.2 [

@@ -1,6 +1,7 @@
 pub mod FileLemmas
 pub mod IndexLemmas
 pub mod KeyFileLemmas
+pub mod KeepingLemmas
 pub mod LineLemmas
 pub mod PromotionLemmas
 pub mod ReadingLemmas

@@ -47,7 +47,7 @@ all_below index (file ∷ files) under =
     }
 
 -- a folder whose first file is staged
-staged_promoted : (content : List ℕ) (files : List KeyFile) → AreIndices 1 (indices_of files) →
+pub staged_promoted : (content : List ℕ) (files : List KeyFile) → AreIndices 1 (indices_of files) →
     promoted ((0, content) ∷ files) ≡ files ++ (highest (indices_of files) + 1, content) ∷ []
 staged_promoted content files rising =
     let r : AllAbove 0 files = all_above 0 1 files (omega arith) rising in

@@ -7,7 +7,7 @@ mod reading;
 mod rotating;
 mod writing;
 
-pub use laws::file_is_key;
+pub use laws::{file_is_key, rotation_leaves_the_newest, set_up_is_read};
 pub use reading::read_dir;
 pub use rotating::rotate_dir;
 pub use writing::setup;
