@@ -42,6 +42,15 @@ pub fn command(alloc: Global, line: &[u8]) -> Result<String> {
             said.push_str("talk")?;
             push_places(&mut said, &places)?;
         }
+        Words::Setup(places) => {
+            said.push_str("setup")?;
+            push_places(&mut said, &places)?;
+        }
+        Words::Rotate(places, max) => {
+            said.push_str("rotate")?;
+            push_places(&mut said, &places)?;
+            write!(said, " max={max}")?;
+        }
         Words::Usage => said.push_str("usage")?,
     }
     Ok(said)
