@@ -1,10 +1,12 @@
 // The program: reads the words of its command line, runs their command over the standard input and
-// output, and says on the standard error why it did not end whole.
+// output, the folder that they name, the clock and the random source, and says on the standard error why
+// it did not end whole.
 #![tactic(auto)]
 
-use ks_base::Text;
-use ks_outside::{RealSink, RealSource};
-use ks_top::{Fault, run};
+use ks_base::{Memory, Text};
+use ks_outside::{Folder, RealDesk, RealSink, RealSource};
+use ks_setup::read_words;
+use ks_top::{Ended, Fault, run};
 use std::env;
 use std::io::ErrorKind;
 use std::process::ExitCode;
@@ -34,13 +36,29 @@ fn words<R: Env + AllocGlobal>(rt: &R) -> Result<Vec<Text>, Fault> {
     Ok(words)
 }
 
+/// The folder that these words name, which is not opened yet. Where they name none it has no path.
+fn folder<'a, R: AllocGlobal>(rt: &'a R, words: &[Text]) -> Result<Folder<'a, R>, Memory> {
+    let command = read_words(rt.alloc(), words)?;
+    match command.folder() {
+        Some(path) => Folder::new(rt.alloc(), rt, path.as_str()),
+        None => Folder::new(rt.alloc(), rt, ""),
+    }
+}
+
+/// Runs the command of these words.
+fn run_words(rt: &HostRuntime, words: &[Text]) -> Ended {
+    let Ok(mut dir) = folder(rt, words) else {
+        return Fault::Memory.ended();
+    };
+    let mut input = RealSource::new(rt.stdin());
+    let mut output = RealSink::new(rt.stdout());
+    let mut desk = RealDesk::new(rt, None);
+    run(rt, words, &mut input, &mut output, &mut dir, &mut desk)
+}
+
 fn main(rt: HostRuntime) -> ExitCode {
     let ended = match words(&rt) {
-        Ok(words) => {
-            let mut input = RealSource::new(rt.stdin());
-            let mut output = RealSink::new(rt.stdout());
-            run(&rt, words.as_slice(), &mut input, &mut output)
-        }
+        Ok(words) => run_words(&rt, words.as_slice()),
         Err(fault) => fault.ended(),
     };
     let _ = match ended.fault {

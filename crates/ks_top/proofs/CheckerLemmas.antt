@@ -20,6 +20,9 @@ pub held_ends : (f : Fault) (bytes : List ℕ) (old new : Checker) → Holds byt
 held_ends (fault.BadLine n) bytes old new h = ((step_of-long old.place _ h.0, h.1, h.2), tt)
 held_ends fault.Memory bytes old new h = (h, tt)
 held_ends fault.Usage bytes old new h = absurd h
+held_ends fault.Folder bytes old new h = absurd h
+held_ends (fault.Keys reason) bytes old new h = absurd h
+held_ends fault.Desk bytes old new h = absurd h
 held_ends fault.Read bytes old new h = absurd h
 held_ends fault.Write bytes old new h = absurd h
 
@@ -73,6 +76,9 @@ stands_line (Err (fault.BadLine n)) whole last rest old new written before h ins
 }
 stands_line (Err fault.Memory) whole last rest old new written before h inside ends = holds_front whole (last ++ 10 ∷ rest) old new written before h ends.0
 stands_line (Err fault.Usage) whole last rest old new written before h inside ends = absurd ends.0
+stands_line (Err fault.Folder) whole last rest old new written before h inside ends = absurd ends.0
+stands_line (Err (fault.Keys reason)) whole last rest old new written before h inside ends = absurd ends.0
+stands_line (Err fault.Desk) whole last rest old new written before h inside ends = absurd ends.0
 stands_line (Err fault.Read) whole last rest old new written before h inside ends = absurd ends.0
 stands_line (Err fault.Write) whole last rest old new written before h inside ends = absurd ends.0
 
@@ -97,6 +103,9 @@ stands_hold (Err (fault.BadLine n)) whole bytes old new written before h inside 
 }
 stands_hold (Err fault.Memory) whole bytes old new written before h inside held = holds_front whole bytes old new written before h held
 stands_hold (Err fault.Usage) whole bytes old new written before h inside held = absurd held
+stands_hold (Err fault.Folder) whole bytes old new written before h inside held = absurd held
+stands_hold (Err (fault.Keys reason)) whole bytes old new written before h inside held = absurd held
+stands_hold (Err fault.Desk) whole bytes old new written before h inside held = absurd held
 stands_hold (Err fault.Read) whole bytes old new written before h inside held = absurd held
 stands_hold (Err fault.Write) whole bytes old new written before h inside held = absurd held
 
@@ -180,6 +189,9 @@ finish_line (Err (fault.BadLine n)) whole old new written before h inside long e
 }
 finish_line (Err fault.Memory) whole old new written before h inside long ends forward = holds_front whole [] old new written before h ends.0
 finish_line (Err fault.Usage) whole old new written before h inside long ends forward = absurd ends.0
+finish_line (Err fault.Folder) whole old new written before h inside long ends forward = absurd ends.0
+finish_line (Err (fault.Keys reason)) whole old new written before h inside long ends forward = absurd ends.0
+finish_line (Err fault.Desk) whole old new written before h inside long ends forward = absurd ends.0
 finish_line (Err fault.Read) whole old new written before h inside long ends forward = absurd ends.0
 finish_line (Err fault.Write) whole old new written before h inside long ends forward = absurd ends.0
 
@@ -189,6 +201,9 @@ pub moves_err : (f : Fault) (whole : List ℕ → Checked) (rest rest' : List �
 moves_err (fault.BadLine n) whole rest rest' checker written before h = h
 moves_err fault.Memory whole rest rest' checker written before h = h
 moves_err fault.Usage whole rest rest' checker written before h = absurd h
+moves_err fault.Folder whole rest rest' checker written before h = absurd h
+moves_err (fault.Keys reason) whole rest rest' checker written before h = absurd h
+moves_err fault.Desk whole rest rest' checker written before h = absurd h
 moves_err fault.Read whole rest rest' checker written before h = absurd h
 moves_err fault.Write whole rest rest' checker written before h = h
 
@@ -301,6 +316,9 @@ stops_at fault.Memory n piece text left left' old new written written' before r 
   holds = moves;
 }
 stops_at fault.Usage n piece text left left' old new written written' before r taken moves = absurd moves
+stops_at fault.Folder n piece text left left' old new written written' before r taken moves = absurd moves
+stops_at (fault.Keys reason) n piece text left left' old new written written' before r taken moves = absurd moves
+stops_at fault.Desk n piece text left left' old new written written' before r taken moves = absurd moves
 stops_at fault.Read n piece text left left' old new written written' before r taken moves = absurd moves
 
 pub stops_reading : (text : List ℕ) (left left' : Option (List ℕ)) (checker : Checker) (written : Option (List ℕ)) (before : List ℕ) →
@@ -335,6 +353,9 @@ finishes (Err fault.Memory) piece text left left' old new written before r taken
   holds = ends;
 }
 finishes (Err fault.Usage) piece text left left' old new written before r taken ends = absurd ends
+finishes (Err fault.Folder) piece text left left' old new written before r taken ends = absurd ends
+finishes (Err (fault.Keys reason)) piece text left left' old new written before r taken ends = absurd ends
+finishes (Err fault.Desk) piece text left left' old new written before r taken ends = absurd ends
 finishes (Err fault.Read) piece text left left' old new written before r taken ends = absurd ends
 finishes (Err fault.Write) piece text left left' old new written before r taken ends = absurd ends
 
@@ -372,6 +393,9 @@ closes (Err fault.Memory) text before left written written' old new h wrote othe
 }
 closes (Err fault.Write) text before left written written' old new h wrote others = absurd (others refl)
 closes (Err fault.Usage) text before left written written' old new h wrote others = absurd h
+closes (Err fault.Folder) text before left written written' old new h wrote others = absurd h
+closes (Err (fault.Keys reason)) text before left written written' old new h wrote others = absurd h
+closes (Err fault.Desk) text before left written written' old new h wrote others = absurd h
 
 -- the last answers could not be written
 pub closes_short : (ended : Result (Unit {0}) Fault) (failed : Failed) (text before : List ℕ) (left written written' : Option (List ℕ)) (old new : Checker) →
@@ -420,6 +444,9 @@ closes_short (Err fault.Memory) failed text before left written written' old new
     }
 closes_short (Err fault.Write) failed text before left written written' old new h wrote others = absurd (others refl)
 closes_short (Err fault.Usage) failed text before left written written' old new h wrote others = absurd h
+closes_short (Err fault.Folder) failed text before left written written' old new h wrote others = absurd h
+closes_short (Err (fault.Keys reason)) failed text before left written written' old new h wrote others = absurd h
+closes_short (Err fault.Desk) failed text before left written written' old new h wrote others = absurd h
 
 -- nothing was read and nothing written
 pub untouched : (text before : List ℕ) (left written : Option (List ℕ)) → left ≡ Some text → written ≡ Some before → IsCutShort text before left written

@@ -1,4 +1,5 @@
 pub mod LineLemmas
 pub mod CheckLemmas
 pub mod CheckerLemmas
+pub mod KeyFolderLemmas
 mod TalkLemmas

@@ -60,6 +60,9 @@ gives_up fault.Write input before count held left left' written written' h wrote
 }
 gives_up fault.Read input before count held left left' written written' h wrote = absurd wrote
 gives_up fault.Usage input before count held left left' written written' h wrote = absurd wrote
+gives_up fault.Folder input before count held left left' written written' h wrote = absurd wrote
+gives_up (fault.Keys reason) input before count held left left' written written' h wrote = absurd wrote
+gives_up fault.Desk input before count held left left' written written' h wrote = absurd wrote
 gives_up (fault.BadLine n) input before count held left left' written written' h wrote = absurd wrote
 
 wrote_short : (input before : List ℕ) (count : ℕ) (held : List ℕ) (left written written' : Option (List ℕ)) →
@@ -91,6 +94,9 @@ stops fault.Write input before count held left left' written written' h word nex
 ]
 stops fault.Read input before count held left left' written written' h word next wrote = absurd wrote
 stops fault.Usage input before count held left left' written written' h word next wrote = absurd wrote
+stops fault.Folder input before count held left left' written written' h word next wrote = absurd wrote
+stops (fault.Keys reason) input before count held left left' written written' h word next wrote = absurd wrote
+stops fault.Desk input before count held left left' written written' h word next wrote = absurd wrote
 stops (fault.BadLine n) input before count held left left' written written' h word next wrote = absurd wrote
 
 -- the answers so far and one more

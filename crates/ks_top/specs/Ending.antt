@@ -1,5 +1,6 @@
 -- How `check` and the program end.
 use Rattle.std.specs.Prelude.{◌≡◌, ℕ, List, [], ◌++◌, Option, Some, None, Result, Ok, Err}
+use Rattle.ks_base.specs.declared.faults.KeysFault.TheVariants.{Failed, NoKeys, BadKey, TooMany, AlreadySet, IndexEnd, Memory}
 use Rattle.ks_outside.specs.Streams.{Begins}
 use Rattle.ks_top.specs.declared.fault.Fault.{Fault}
 use Rattle.ks_top.specs.declared.fault.Fault.TheVariants as fault
@@ -26,10 +27,24 @@ EndsCheck input before left written (Err fault.Read) = IsCutShort input before l
 EndsCheck input before left written (Err fault.Write) = IsCutShort input before left written
 EndsCheck input before left written (Err fault.Memory) = IsCutShort input before left written
 EndsCheck input before left written (Err fault.Usage) = ⊥
+EndsCheck input before left written (Err fault.Folder) = ⊥
+EndsCheck input before left written (Err (fault.Keys reason)) = ⊥
+EndsCheck input before left written (Err fault.Desk) = ⊥
 
 -- there was no memory to read the words of the command line: nothing was read, and nothing written
 abbrev pub HasNotBegun : List ℕ → List ℕ → Option (List ℕ) → Option (List ℕ) → Result (Unit {0}) Fault → Type 0
 HasNotBegun input before left written ended = (ended ≡ Err fault.Memory) × (left ≡ Some input) × (written ≡ Some before)
+
+-- the faults of a command that only reads and writes
+abbrev pub IsStreamFault : Fault → Type 0
+IsStreamFault fault.Read = Unit {0}
+IsStreamFault fault.Write = Unit {0}
+IsStreamFault fault.Memory = Unit {0}
+IsStreamFault (fault.BadLine n) = Unit {0}
+IsStreamFault fault.Usage = ⊥
+IsStreamFault fault.Folder = ⊥
+IsStreamFault (fault.Keys reason) = ⊥
+IsStreamFault fault.Desk = ⊥
 
 -- each fault has its status
 abbrev pub status_of : Option Fault → ℕ
@@ -39,6 +54,15 @@ status_of (Some fault.Read) = 3
 status_of (Some fault.Write) = 4
 status_of (Some fault.Memory) = 5
 status_of (Some (fault.BadLine n)) = 6
+status_of (Some fault.Folder) = 8
+status_of (Some (fault.Keys Failed)) = 8
+status_of (Some (fault.Keys NoKeys)) = 9
+status_of (Some (fault.Keys (BadKey index))) = 9
+status_of (Some (fault.Keys TooMany)) = 9
+status_of (Some fault.Desk) = 10
+status_of (Some (fault.Keys AlreadySet)) = 11
+status_of (Some (fault.Keys IndexEnd)) = 12
+status_of (Some (fault.Keys Memory)) = 5
 
 abbrev pub result_of : Option Fault → Result (Unit {0}) Fault
 result_of None = Ok tt

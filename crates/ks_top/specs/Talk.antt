@@ -123,3 +123,6 @@ EndsTalk input before left written (Err fault.Write) = WroteShort input before w
 EndsTalk input before left written (Err fault.Memory) = RanOut input before written
 EndsTalk input before left written (Err fault.Usage) = ⊥
 EndsTalk input before left written (Err (fault.BadLine n)) = ⊥
+EndsTalk input before left written (Err fault.Folder) = ⊥
+EndsTalk input before left written (Err (fault.Keys reason)) = ⊥
+EndsTalk input before left written (Err fault.Desk) = ⊥

@@ -1,2 +1,3 @@
+pub mod KeyCalls
 pub mod Progress
 pub mod Talking

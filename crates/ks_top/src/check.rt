@@ -1,6 +1,6 @@
-ghost use Rattle.std.specs.Prelude.{◌≡◌, ◌≢◌, ◌≤◌, ℕ, List, Some, Err, IsErrOf, IfOk, ◌<◌, length};
+ghost use Rattle.std.specs.Prelude.{◌≡◌, ◌≤◌, ℕ, List, Some, IsErrOf, IfOk, IfErr, ◌<◌, length};
 ghost use Rattle.ks_outside.specs.Streams.{OnlyReads, OnlyWrites};
-ghost use Rattle.ks_top.specs.Ending.{EndsCheck};
+ghost use Rattle.ks_top.specs.Ending.{EndsCheck, IsStreamFault};
 
 use crate::checker::{Checker, PIECE};
 use crate::fault::Fault;
@@ -11,7 +11,7 @@ use std::alloc::{AllocError, Global};
 /// Lines before a bad line are answered, and so are those before a fault of the input.
 pub fn check<S: Source, K: Sink>(alloc: Global, input: &mut S, output: &mut K) -> Result<(), Fault>
     ensures told { (text before : List ℕ) → (S.stream input.old).left ≡ Some text → (K.stream output.old).written ≡ Some before → EndsCheck text before (S.stream input.new).left (K.stream output.new).written result }
-    ensures usage { result ≢ Err Fault.Usage }
+    ensures causes { IfErr result IsStreamFault }
     ensures reads { OnlyReads (IsErrOf result Fault.Read) (S.stream input.old) (S.stream input.new) }
     ensures writes { OnlyWrites (IsErrOf result Fault.Write) (K.stream output.old) (K.stream output.new) }
 {

@@ -119,12 +119,12 @@ impl Place {
 }
 
 impl Checker {
-    ghost use Rattle.std.specs.Prelude.{◌≡◌, ◌≢◌, ◌+◌, ◌<◌, ◌≤◌, ◌++◌, ◌⊎◌, ℕ, List, [], Option, IfOk, OnOk, length, IsErr, IsErrOf, Some, Err};
+    ghost use Rattle.std.specs.Prelude.{◌≡◌, ◌≢◌, ◌+◌, ◌<◌, ◌≤◌, ◌++◌, ◌⊎◌, ℕ, List, [], Option, IfOk, IfErr, OnOk, length, IsErr, IsErrOf, Some, Err};
     ghost use Rattle.ks_outside.specs.Streams.{OnlyReads, OnlyWrites};
     ghost use Rattle.ks_top.specs.Lines.{IsInLine};
     ghost use Rattle.ks_top.specs.Check.{Checked};
     ghost use Rattle.ks_top.specs.steps.Progress.{IsAtStart, EndsLine, Holds, WritesOut, Stands, Moves, Flushes, Finishes, ReadsAll, bytes_read};
-    ghost use Rattle.ks_top.specs.Ending.{EndsCheck};
+    ghost use Rattle.ks_top.specs.Ending.{EndsCheck, IsStreamFault};
 
     /// Before the first byte.
     pub fn new(alloc: Global) -> Result<Checker, AllocError>
@@ -140,7 +140,7 @@ impl Checker {
     /// Keeps the beginning of a line whose line feed is still to come.
     fn hold(&mut self, bytes: &[u8]) -> Result<(), Fault>
         requires { IsInLine bytes.now }
-        ensures usage { result ≢ Err Fault.Usage }
+        ensures causes { IfErr result IsStreamFault }
         ensures reads { result ≢ Err Fault.Read }
         ensures writes { result ≢ Err Fault.Write }
         ensures holds { Holds bytes.now self.old self.new result }
@@ -159,7 +159,7 @@ impl Checker {
     /// Answers the line that ends with these bytes.
     fn end_line(&mut self, alloc: Global, last: &[u8]) -> Result<(), Fault>
         requires { IsInLine last.now }
-        ensures usage { result ≢ Err Fault.Usage }
+        ensures causes { IfErr result IsStreamFault }
         ensures reads { result ≢ Err Fault.Read }
         ensures writes { result ≢ Err Fault.Write }
         ensures ends { EndsLine last.now self.old self.new result }
@@ -208,7 +208,7 @@ impl Checker {
         piece: &[u8],
         output: &mut K,
     ) -> Result<(), Fault>
-        ensures usage { result ≢ Err Fault.Usage }
+        ensures causes { IfErr result IsStreamFault }
         ensures reads { result ≢ Err Fault.Read }
         ensures moves { (whole : List ℕ → Checked) (before : List ℕ) → Stands whole piece.now self.old (K.stream output.old).written before → Moves whole [] result self.new (K.stream output.new).written before }
         ensures bytes { OnOk result (bytes_read self.old + length piece.now ≤ bytes_read self.new) }
@@ -232,7 +232,7 @@ impl Checker {
 
     /// Answers a last line that lacks its line feed.
     fn finish(&mut self, alloc: Global) -> Result<(), Fault>
-        ensures usage { result ≢ Err Fault.Usage }
+        ensures causes { IfErr result IsStreamFault }
         ensures reads { result ≢ Err Fault.Read }
         ensures writes { result ≢ Err Fault.Write }
         ensures finishes { (whole : List ℕ → Checked) (before : List ℕ) (written : Option (List ℕ)) → Stands whole [] self.old written before → Finishes whole result self.new written before }
@@ -257,7 +257,7 @@ impl Checker {
     ) -> Result<(), Fault>
         requires fresh { IsAtStart self.old }
         requires room { 0 < length piece.old }
-        ensures usage { result ≢ Err Fault.Usage }
+        ensures causes { IfErr result IsStreamFault }
         ensures told { (text before : List ℕ) → (S.stream input.old).left ≡ Some text → (K.stream output.old).written ≡ Some before → ReadsAll text (S.stream input.new).left result self.new (K.stream output.new).written before }
         ensures reads { OnlyReads (IsErrOf result Fault.Read) (S.stream input.old) (S.stream input.new) }
         ensures writes { OnlyWrites (IsErrOf result Fault.Write) (K.stream output.old) (K.stream output.new) }
@@ -298,7 +298,7 @@ impl Checker {
         requires fresh { IsAtStart self.old }
         requires room { 0 < length piece.old }
         ensures told { (text before : List ℕ) → (S.stream input.old).left ≡ Some text → (K.stream output.old).written ≡ Some before → EndsCheck text before (S.stream input.new).left (K.stream output.new).written result }
-        ensures usage { result ≢ Err Fault.Usage }
+        ensures causes { IfErr result IsStreamFault }
         ensures reads { OnlyReads (IsErrOf result Fault.Read) (S.stream input.old) (S.stream input.new) }
         ensures writes { OnlyWrites (IsErrOf result Fault.Write) (K.stream output.old) (K.stream output.new) }
     {

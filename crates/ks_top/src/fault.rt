@@ -1,4 +1,5 @@
 use crate::checker::MOST_LINES;
+use ks_base::KeysFault;
 use std::error::Error;
 use std::fmt;
 
@@ -15,12 +16,37 @@ pub enum Fault {
     Memory,
     /// The line of this number, counted from 1, is not in the grammar of `check`.
     BadLine(u64),
+    /// The folder of the keys failed.
+    Folder,
+    /// The folder of the keys is refused. It is never `Failed` or `Memory`: these are faults of their own.
+    Keys(KeysFault),
+    /// The first desk had no random bytes.
+    Desk,
+}
+
+const USAGE: &str =
+    "usage: ks check | ks talk FILE FOLDER | ks setup FOLDER | ks rotate FOLDER [--max N]";
+
+/// Why a folder of keys is refused.
+fn write_refusal<W: fmt::Write>(f: &mut fmt::Formatter<W>, fault: &KeysFault) -> fmt::Result {
+    match fault {
+        KeysFault::Failed => write!(f, "the key folder failed"),
+        KeysFault::NoKeys => write!(f, "the key folder has no key"),
+        KeysFault::BadKey(index) => write!(f, "file {index} of the key folder is no Fernet key"),
+        KeysFault::TooMany => write!(f, "the key folder has more than 32 keys"),
+        KeysFault::AlreadySet => write!(f, "the key folder has keys already"),
+        KeysFault::IndexEnd => write!(
+            f,
+            "the key folder has a file 999999999, and none can follow it"
+        ),
+        KeysFault::Memory => write!(f, "out of memory"),
+    }
 }
 
 impl fmt::Display for Fault {
     fn fmt<W: fmt::Write>(&self, f: &mut fmt::Formatter<W>) -> fmt::Result {
         match self {
-            Fault::Usage => write!(f, "usage: ks check | ks talk FILE FOLDER"),
+            Fault::Usage => write!(f, "{USAGE}"),
             Fault::Read => write!(f, "standard input could not be read"),
             Fault::Write => write!(f, "standard output could not be written"),
             Fault::Memory => write!(f, "out of memory"),
@@ -29,6 +55,9 @@ impl fmt::Display for Fault {
                 write!(f, "line {n} is behind the last that is read")
             }
             Fault::BadLine(n) => write!(f, "line {n} is not a moment, one space and a token"),
+            Fault::Folder => write!(f, "the key folder failed"),
+            Fault::Keys(fault) => write_refusal(f, fault),
+            Fault::Desk => write!(f, "there were no random bytes"),
         }
     }
 }

@@ -5,6 +5,7 @@ mod answer;
 mod check;
 mod checker;
 mod fault;
+mod key_folder;
 mod lines;
 mod program;
 mod talk;

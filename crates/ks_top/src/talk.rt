@@ -1,9 +1,10 @@
-ghost use Rattle.std.specs.Prelude.{◌≡◌, ◌≢◌, ◌≤◌, ◌<◌, ℕ, List, Some, Err, IsErr, IsErrOf, IfOk, ◌↔◌, ◌⊎◌};
+ghost use Rattle.std.specs.Prelude.{◌≡◌, ◌≤◌, ◌<◌, ℕ, List, Some, IsErr, IsErrOf, IfOk, IfErr, ◌↔◌, ◌⊎◌};
 ghost use Rattle.ks_outside.specs.Streams.{OnlyReads, OnlyWrites};
 ghost use Rattle.ks_machine.specs.declared.reply.Reply.TheVariants as reply;
 ghost use Rattle.ks_machine.specs.Told.{IsTellable};
 ghost use Rattle.ks_render.specs.Answers.{response_of, wire_bad};
 ghost use Rattle.ks_routes.specs.Routes.{command_of};
+ghost use Rattle.ks_top.specs.Ending.{IsStreamFault};
 ghost use Rattle.ks_top.specs.Talk.{EndsTalk, default_url, ends_with, is_head, reply_of, reply_to, response_to};
 ghost use Rattle.ks_top.specs.steps.Talking.{GivesUp, Writes};
 
@@ -24,7 +25,7 @@ const MOST_REQUESTS: u32 = 1_000_000;
 /// request, which are answered too.
 pub fn talk<S: Source, K: Sink>(alloc: Global, input: &mut S, output: &mut K) -> Result<(), Fault>
     ensures told { (text before : List ℕ) → (S.stream input.old).left ≡ Some text → (K.stream output.old).written ≡ Some before → EndsTalk text before (S.stream input.new).left (K.stream output.new).written result }
-    ensures usage { result ≢ Err Fault.Usage }
+    ensures causes { IfErr result IsStreamFault }
     ensures reads { OnlyReads (IsErrOf result Fault.Read) (S.stream input.old) (S.stream input.new) }
     ensures writes { OnlyWrites (IsErrOf result Fault.Write) (K.stream output.old) (K.stream output.new) }
 {
