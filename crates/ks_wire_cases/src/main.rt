@@ -7,6 +7,7 @@ mod causes;
 mod checks;
 mod commands;
 mod cut;
+mod folders;
 mod numbers;
 mod replies;
 mod requests;
@@ -24,5 +25,6 @@ fn main(rt: HostRuntime) -> Result<()> {
     routes::try_tables(&rt)?;
     replies::try_tables(&rt)?;
     checks::try_tables(&rt)?;
-    talks::try_tables(&rt)
+    talks::try_tables(&rt)?;
+    folders::try_tables(&rt)
 }

@@ -1,9 +1,10 @@
-//! Runs of the program over an input and an output in memory.
+//! Runs of the program over an input, an output, a folder and a desk in memory.
 
 use anyhow::{Context, Result};
 use ks_base::Text;
-use ks_outside::{MemorySink, MemorySource};
+use ks_outside::{MemoryDesk, MemoryDir, MemorySink, MemorySource};
 use ks_top::{Ended, run};
+use std::alloc::Global;
 
 /// No piece is longer, and no output.
 pub const WHOLE: usize = 1_000_000;
@@ -27,6 +28,15 @@ impl Outside {
     }
 }
 
+/// The words of a command line.
+fn texts(alloc: Global, words: &[&str]) -> Result<Vec<Text>> {
+    let mut made = Vec::new(alloc);
+    for word in words {
+        made.push(Text::read(alloc, word.as_bytes())?.context("no text")?)?;
+    }
+    Ok(made)
+}
+
 /// Runs the words of a command on an input, and gives its end and what it wrote.
 pub fn run_on<R: AllocGlobal>(
     rt: &R,
@@ -35,13 +45,25 @@ pub fn run_on<R: AllocGlobal>(
     outside: &Outside,
 ) -> Result<(Ended, Vec<u8>)> {
     let alloc = rt.alloc();
-    let mut words = Vec::new(alloc);
-    for word in command {
-        words.push(Text::read(alloc, word.as_bytes())?.context("no text")?)?;
-    }
+    let mut dir = MemoryDir::new(alloc, &[], &[], None)?;
+    let mut desk = MemoryDesk::new(alloc, Vec::new(alloc), &[], &[], &[], &[])?;
+    run_over(rt, command, input, outside, &mut dir, &mut desk)
+}
+
+/// The same over a folder and a desk.
+pub fn run_over<R: AllocGlobal>(
+    rt: &R,
+    command: &[&str],
+    input: &[u8],
+    outside: &Outside,
+    dir: &mut MemoryDir,
+    desk: &mut MemoryDesk,
+) -> Result<(Ended, Vec<u8>)> {
+    let alloc = rt.alloc();
+    let words = texts(alloc, command)?;
     let longest = outside.longest.max(1);
     let mut source = MemorySource::new(alloc, input, &[outside.read], longest)?;
     let mut sink = MemorySink::new(alloc, WHOLE, &[outside.write], longest)?;
-    let ended = run(rt, words.as_slice(), &mut source, &mut sink);
+    let ended = run(rt, words.as_slice(), &mut source, &mut sink, dir, desk);
     Ok((ended, Vec::from_slice(alloc, sink.written())?))
 }
