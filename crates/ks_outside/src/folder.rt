@@ -175,7 +175,7 @@ fn write_new<R: Files + AllocGlobal>(
         return Err(DirFault::Failed);
     }
     fs::rename(rt, fresh.as_str(), name.as_str())?;
-    Ok(())
+    sync_names(rt, path)
 }
 
 /// A new file that its owner alone may read. What a stop left under this name is removed first, since a file
@@ -201,7 +201,7 @@ fn rename<R: Files + AllocGlobal>(rt: &R, path: &str, from: u32, to: u32) -> Res
         return Err(DirFault::Failed);
     }
     fs::rename(rt, old.as_str(), new.as_str())?;
-    Ok(())
+    sync_names(rt, path)
 }
 
 fn remove<R: Files + AllocGlobal>(rt: &R, path: &str, index: u32) -> Result<(), DirFault> {
@@ -210,6 +210,13 @@ fn remove<R: Files + AllocGlobal>(rt: &R, path: &str, index: u32) -> Result<(), 
         return Err(DirFault::Failed);
     }
     fs::remove_file(rt, name.as_str())?;
+    sync_names(rt, path)
+}
+
+/// Has the disk hold which files the folder has, so that what was made, renamed or removed stays so after a
+/// stop of the machine.
+fn sync_names<R: Files>(rt: &R, path: &str) -> Result<(), DirFault> {
+    File::open(rt, path)?.sync_all()?;
     Ok(())
 }
 
