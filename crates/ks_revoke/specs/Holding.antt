@@ -4,6 +4,8 @@ use Rattle.std.specs.List.{AllByRecursion}
 use Rattle.ks_base.specs.declared.limits.TheConstants.{EVENTS}
 use Rattle.ks_base.specs.declared.events.EventRow.{EventRow}
 use Rattle.ks_base.specs.Revocation.{live}
+use Rattle.ks_base.specs.Tables.{IsAscending}
+use Rattle.ks_revoke.specs.Things.{thing_cmp, thing_of}
 use Rattle.ks_revoke.specs.Marks.{AreMarks}
 
 -- the moments never go back, and none is above the greatest
@@ -16,7 +18,9 @@ pub record IsHeld (life high : ℕ) (events marks : List EventRow) : Type 0 wher
   pub within : length events ≤ EVENTS
   pub in_order : AreInOrder high events
   pub all_live : live life high events ≡ events
-  pub marks_are : AreMarks events marks
+  -- at most one row a thing, and the live ones are the greatest moments: each other one is past
+  pub ascending : IsAscending thing_cmp thing_of marks
+  pub marks_are : AreMarks events (live life high marks)
 
 -- how many events more may be added: as many as both lists have places for, and at most 262,144 in all
 abbrev pub room_of : ℕ → ℕ → ℕ → ℕ → ℕ

@@ -5,9 +5,11 @@
 mod fault;
 mod laws;
 mod live;
+mod live_marks;
 mod marks;
 mod revoked;
 
 pub use fault::RevokeFault;
 pub use laws::{events_are_kept_or_past, live_events_suffice, marks_are_determined};
+pub use live_marks::LiveMarks;
 pub use revoked::Revoked;

@@ -1,5 +1,5 @@
 //! Which events are live.
-ghost use Rattle.std.specs.Prelude.{◌≡◌, ◌≤◌, false};
+ghost use Rattle.std.specs.Prelude.{◌≡◌, ◌≤◌};
 ghost use Rattle.std.specs.VecDeque.{deque_len, deque_capacity};
 ghost use Rattle.ks_base.specs.Revocation.{is_live, live};
 ghost use Rattle.ks_revoke.specs.Holding.{AreInOrder};
@@ -18,21 +18,17 @@ pub(crate) fn is_live(life: u64, high: u64, event: &EventRow) -> bool
     high.saturating_sub(event.moment).saturating_sub(life) <= KEPT_FOR
 }
 
-/// Takes the events that are past at this moment from the front, and says whether any was. It takes no memory.
-pub(crate) fn drop_past(events: &mut VecDeque<EventRow>, life: u64, high: u64) -> bool
+/// Takes the events that are past at this moment from the front. It takes no memory.
+pub(crate) fn drop_past(events: &mut VecDeque<EventRow>, life: u64, high: u64)
     requires { AreInOrder high events.old.items }
     ensures live { events.new.items ≡ live life high events.old.items }
-    ensures stay { result ≡ false → events.new.items ≡ events.old.items }
     ensures len { deque_len events.new ≤ deque_len events.old }
     ensures capacity { deque_capacity events.new ≡ deque_capacity events.old }
 {
-    let mut any = false;
     while let Some(first) = events.front() {
         if is_live(life, high, first) {
             break;
         }
         let _past = events.pop_front();
-        any = true;
     }
-    any
 }

@@ -1,12 +1,14 @@
-//! The greatest moments, a row a thing.
-ghost use Rattle.std.specs.Prelude.{◌≡◌, ◌+◌, ◌<◌, ◌≤◌, length, vec_len, vec_capacity};
+//! The greatest moments, a row a thing. A row whose events are all past may stand among them.
+ghost use Rattle.std.specs.Prelude.{◌≡◌, ◌+◌, ◌<◌, ◌≤◌, ◌↔◌, true, length, vec_len, vec_capacity};
 ghost use Rattle.std.specs.List.{list_any};
 ghost use Rattle.std.specs.List.Sorted.{IsSearchInRange};
 ghost use Rattle.ks_base.specs.Places.{IsPlace};
+ghost use Rattle.ks_base.specs.Revocation.{live};
 ghost use Rattle.ks_base.specs.Tables.{IsAscending, put_row};
 ghost use Rattle.ks_revoke.specs.Marks.{ends_if};
 ghost use Rattle.ks_revoke.specs.Things.{rank_of, bytes_of, thing_cmp, thing_of, things_of};
 
+use crate::live::is_live;
 use ks_base::{EventRow, Holder, Revoke};
 use std::cmp::Ordering;
 
@@ -65,6 +67,18 @@ pub(crate) fn put(marks: &mut Vec<EventRow>, row: &EventRow)
     }
 }
 
+/// Whether to sweep the past rows out of as many rows, where as many events are left: where there are more than two
+/// rows for each event.
+///
+/// A live event names one thing, so there are no more live rows than events, and more than half of the rows are past
+/// then. Each of those is past since the last sweep, by an event of its own. So a sweep passes over fewer rows than
+/// twice the events that went since the last one.
+pub(crate) fn is_sweep_due(rows: usize, events: usize) -> bool
+    ensures { result ≡ true ↔ events + events < rows }
+{
+    rows.saturating_sub(events) > events
+}
+
 /// The things of a holder that an event may name.
 fn things(holder: &Holder) -> [Option<Revoke>; 8]
     ensures { result ≡ things_of holder.now }
@@ -81,26 +95,35 @@ fn things(holder: &Holder) -> [Option<Revoke>; 8]
     ]
 }
 
-/// Whether the row of this thing, if there is one, ends the tokens that were issued then.
-fn ends(marks: &[EventRow], thing: &Option<Revoke>, issued: u64) -> bool
+/// Whether the live row of this thing, if there is one, ends the tokens that were issued then.
+fn ends(life: u64, high: u64, marks: &[EventRow], thing: &Option<Revoke>, issued: u64) -> bool
     requires { IsAscending thing_cmp thing_of marks.now }
-    ensures { result ≡ ends_if issued marks.now thing.now }
+    ensures { result ≡ ends_if issued (live life high marks.now) thing.now }
 {
     let Some(thing) = thing else {
         return false;
     };
     match place(marks, thing) {
-        Ok(at) => issued <= marks[at].moment,
+        Ok(at) => {
+            let mark = &marks[at];
+            is_live(life, high, mark) && issued <= mark.moment
+        }
         Err(_) => false,
     }
 }
 
-/// Whether the row of some thing of the holder ends the tokens that were issued then.
-pub(crate) fn any_ends(marks: &[EventRow], holder: &Holder, issued: u64) -> bool
+/// Whether the row, live at this moment, of some thing of the holder ends the tokens that were issued then.
+pub(crate) fn any_ends(
+    life: u64,
+    high: u64,
+    marks: &[EventRow],
+    holder: &Holder,
+    issued: u64,
+) -> bool
     requires { IsAscending thing_cmp thing_of marks.now }
-    ensures { result ≡ list_any (ends_if issued marks.now) (things_of holder.now) }
+    ensures { result ≡ list_any (ends_if issued (live life high marks.now)) (things_of holder.now) }
 {
     things(holder)
         .iter()
-        .any(|thing| ends(marks, thing, issued))
+        .any(|thing| ends(life, high, marks, thing, issued))
 }

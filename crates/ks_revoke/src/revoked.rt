@@ -5,9 +5,9 @@ ghost use Rattle.ks_base.specs.Revocation.{is_revoked, live, window};
 ghost use Rattle.ks_revoke.specs.Marks.{AreMarks};
 ghost use Rattle.ks_revoke.specs.Histories.{History, Stands, added, advanced};
 
-use crate::RevokeFault;
 use crate::live::{drop_past, is_live};
-use crate::marks::{any_ends, put};
+use crate::marks::{any_ends, is_sweep_due, put};
+use crate::{LiveMarks, RevokeFault};
 use ks_base::limits::EVENTS;
 use ks_base::{EventList, EventRow, Holder, Kind, Memory};
 use std::alloc::Global;
@@ -15,7 +15,8 @@ use std::collections::VecDeque;
 use std::marker::Model;
 
 /// The live events, in the order in which they were added, and the greatest moment of each thing that one of them
-/// names.
+/// names. The greatest moment of a thing that none of them names any more may stand for a while: it is past, and
+/// nothing that is told depends on it.
 #[derive(Drop)]
 pub struct Revoked {
     life: u64,
@@ -84,7 +85,7 @@ impl Revoked {
     }
 
     /// Raises the greatest moment to this one, if it is greater, and takes the events out that are past then. It
-    /// takes no memory.
+    /// takes no memory, and over any run of calls no more steps than a few for each call and each event that goes.
     pub fn advance(&mut self, high: u64)
         ensures advanced { let top = max self.old.high high in self.new ≡ record self.old { high = top; events = live self.old.life top self.old.events; room = self.new.room } }
         ensures kept { self.old.room ≤ self.new.room }
@@ -96,10 +97,10 @@ impl Revoked {
         }
         self.high = high;
         let life = self.life;
-        if !drop_past(&mut self.events, life, high) {
-            return;
+        drop_past(&mut self.events, life, high);
+        if is_sweep_due(self.marks.len(), self.events.len()) {
+            self.marks.retain(|mark| is_live(life, high, mark));
         }
-        self.marks.retain(|mark| is_live(life, high, mark));
     }
 
     /// Whether an event revokes a token of this holder that was issued then. It takes no memory.
@@ -107,7 +108,7 @@ impl Revoked {
         ensures kept { result ≡ is_revoked self.now.events holder.now issued }
         ensures history { (history : History) → Stands self.now history → history.high < issued + history.life + window → result ≡ is_revoked history.events holder.now issued }
     {
-        any_ends(self.marks.as_slice(), holder, issued)
+        any_ends(self.life, self.high, self.marks.as_slice(), holder, issued)
     }
 
     /// The live events, in the order in which they were added.
@@ -126,10 +127,10 @@ impl Revoked {
 
     /// The greatest moments: a row for each thing that a live event names, ordered by the place of its variant in
     /// `Revoke` and then by its bytes. It takes no memory.
-    pub fn marks(&self) -> &[EventRow]
-        ensures marks { AreMarks self.now.events result.now }
-        ensures history { (history : History) → Stands self.now history → AreMarks (live history.life history.high history.events) result.now }
+    pub fn marks(&self) -> LiveMarks<'_>
+        ensures marks { AreMarks self.now.events result }
+        ensures history { (history : History) → Stands self.now history → AreMarks (live history.life history.high history.events) result }
     {
-        self.marks.as_slice()
+        LiveMarks::new(self.life, self.high, self.marks.as_slice())
     }
 }

@@ -44,6 +44,15 @@ impl Events {
         self.high = self.high.max(moment);
         self.revoked.advance(moment);
     }
+
+    /// The greatest moments that are lent.
+    pub fn marks(&self, alloc: Global) -> Result<Vec<EventRow>> {
+        let mut rows = Vec::new(alloc);
+        for row in self.revoked.marks() {
+            rows.push(*row)?;
+        }
+        Ok(rows)
+    }
 }
 
 impl Fault for RevokeFault {
@@ -78,7 +87,7 @@ pub fn call(
         }
         "is_revoked" => tested(alloc, events, words),
         "kept" => rows_text(alloc, events.revoked.kept()?.as_slice()),
-        "marks" => rows_text(alloc, events.revoked.marks()),
+        "marks" => rows_text(alloc, events.marks(alloc)?.as_slice()),
         "random_events" => history::random_run(alloc, words.number()?, words.number()?),
         _ => return Ok(None),
     };

@@ -212,7 +212,7 @@ fn kept_differs(alloc: Global, events: &Events, all: &[EventRow]) -> Result<Opti
         return Ok(Some("kept"));
     }
     let marks = last_of_each(alloc, kept.as_slice())?;
-    if events.revoked.marks() != marks.as_slice() {
+    if events.marks(alloc)?.as_slice() != marks.as_slice() {
         return Ok(Some("marks"));
     }
     Ok(None)

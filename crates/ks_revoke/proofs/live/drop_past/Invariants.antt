@@ -1,4 +1,4 @@
-use Rattle.std.proofs.Common.{◌≡◌, ◌≤◌, false}
+use Rattle.std.proofs.Common.{◌≡◌, ◌≤◌}
 use Rattle.std.specs.VecDeque.{deque_len, deque_capacity}
 use Rattle.ks_base.specs.Revocation.{live}
 use Rattle.ks_revoke.specs.Holding.{AreInOrder}
@@ -8,7 +8,6 @@ abbrev pub invariant-loop-first : goal.invariant-loop-first
 invariant-loop-first l = record {
   in_order : AreInOrder l.high l.events.items;
   same : live l.life l.high l.events.items ≡ live l.life l.high l.initial.events.items;
-  stay : l.any ≡ false → l.events.items ≡ l.initial.events.items;
   len : deque_len l.events ≤ deque_len l.initial.events;
   capacity : deque_capacity l.events ≡ deque_capacity l.initial.events;
 }

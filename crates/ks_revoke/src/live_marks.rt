@@ -1,0 +1,53 @@
+//! The rows that are lent.
+ghost use Rattle.std.specs.Prelude.{◌≡◌};
+ghost use Rattle.std.specs.Iterator.{YieldsFirstRef, item_count};
+ghost use Rattle.ks_base.specs.Revocation.{live};
+
+use crate::live::is_live;
+use ks_base::EventRow;
+use std::marker::Model;
+
+/// The rows of a table that are live at a moment, lent one after another in their order; contracts see those that are
+/// still to come. Each row that is past is passed over.
+#[derive(Drop)]
+pub struct LiveMarks<'a> {
+    life: u64,
+    high: u64,
+    rows: &'a [EventRow],
+}
+
+impl<'a> Model for LiveMarks<'a> {
+    ghost use Rattle.std.specs.Prelude.{List};
+    ghost use Rattle.ks_base.specs.declared.events.EventRow.{EventRow};
+    ghost use Rattle.ks_base.specs.Revocation.{live};
+
+    ghost Value = { List EventRow };
+
+    ghost view = { λ marks. live marks.life marks.high marks.rows.now };
+}
+
+impl<'a> LiveMarks<'a> {
+    pub(crate) fn new(life: u64, high: u64, rows: &'a [EventRow]) -> LiveMarks<'a>
+        ensures { result ≡ live life high rows.now }
+    {
+        LiveMarks { life, high, rows }
+    }
+}
+
+impl<'a> Iterator for LiveMarks<'a> {
+    type Item = &'a EventRow;
+
+    ghost next_gives = { YieldsFirstRef (λ rows. rows) };
+
+    ghost remaining = { item_count (λ rows. rows) };
+
+    fn next(&mut self) -> Option<&'a EventRow> {
+        while let Some((first, others)) = self.rows.split_first() {
+            self.rows = others;
+            if is_live(self.life, self.high, first) {
+                return Some(first);
+            }
+        }
+        None
+    }
+}
