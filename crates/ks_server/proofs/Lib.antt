@@ -1,0 +1,11 @@
+pub mod OrderLemmas
+pub mod TieLemmas
+pub mod SessionLemmas
+pub mod WorkLemmas
+pub mod LawLemmas
+pub mod FolderLemmas
+pub mod ExchangeLemmas
+pub mod AnswerLemmas
+pub mod EndLemmas
+pub mod ProgressLemmas
+pub mod ConnectionLemmas

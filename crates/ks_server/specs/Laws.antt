@@ -1,0 +1,32 @@
+-- What holds of exchanges in order, whatever they are.
+use Rattle.std.specs.Prelude.{◌≡◌, ◌≤◌, List, Some, slice_get}
+use Rattle.std.specs.List.{AllByRecursion}
+use Rattle.ks_machine.specs.declared.change.Entry.{Entry}
+use Rattle.ks_machine.specs.Fronts.{Front, IsSound, ◌⊑◌, cut}
+use Rattle.ks_server.specs.Exchanges.{Exchange, cut_at, front_after}
+use Rattle.ks_server.specs.Orders.{InOrder}
+use Rattle.ks_server.specs.Work.{Moves}
+use Rattle.ks_turn.specs.Passes.{Passed}
+
+-- what a pass did is in order: from what it had seen to what it has seen
+abbrev pub MovesInOrder : Type 0
+MovesInOrder = (old new : Passed) (xs : List Exchange) → Moves old new xs → InOrder old.seen new.seen xs
+
+-- where the receipt of an exchange stands in the journal
+pub record IsPlaced (seen journal : Front) (x : Exchange) : Type 0 where
+  -- the front that it cuts off goes on from what was seen, with all that is kept, and the journal from it
+  pub after_seen : seen ⊑ cut journal x.receipt.changes x.receipt.moment
+  pub in_journal : cut_at journal x.receipt ⊑ journal
+  -- and the journal from the front after the exchange
+  pub is_past : front_after journal x ⊑ journal
+  -- its moment is not above the highest, nor above that of the change with its number
+  pub high : x.receipt.moment ≤ journal.high
+  pub next : (entry : Entry) → slice_get journal.changes x.receipt.changes ≡ Some entry → x.receipt.moment ≤ entry.moment
+
+abbrev pub ReceiptsArePlaced : Type 0
+ReceiptsArePlaced =
+    (seen journal : Front) (xs : List Exchange) → InOrder seen journal xs → seen ⊑ journal → IsSound seen → AllByRecursion (λ x. IsPlaced seen journal x) xs
+
+-- what is in order stays so as the journal goes on
+abbrev pub OrderStays : Type 0
+OrderStays = (seen f g : Front) (xs : List Exchange) → InOrder seen f xs → f ⊑ g → InOrder seen g xs

@@ -1,0 +1,3 @@
+-- What private clauses mean.
+pub mod Answers
+pub mod Progress

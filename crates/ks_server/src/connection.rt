@@ -1,0 +1,91 @@
+ghost use Rattle.std.specs.Prelude.{◌≡◌};
+ghost use Rattle.ks_server.specs.Ties.{KeepsLinks};
+ghost use Rattle.ks_server.specs.Work.{Serves};
+
+use crate::closed::Closed;
+use crate::number::RequestNumber;
+use crate::requests::MOST_REQUESTS;
+use crate::respond::{give_up, refuse_bytes};
+use crate::server::Server;
+use ks_base::Text;
+use ks_http::{Next, Reader};
+use ks_outside::{Desk, Gate, KeyDir, Sink, Source};
+use ks_routes::Routes;
+use ks_state::Decides;
+use ks_turn::{First, Pass, Turn};
+use std::alloc::Global;
+use std::sync::Wait;
+
+/// Answers the requests that come on a link, each before the next one is read, through one pass of the turn. The
+/// connection ends with the input, with a request that asks for it or is the 1,000,000th, with bytes that are no
+/// request, which are answered too, with a fault of the link, with a fault of keeping changes, or where there is no
+/// memory.
+///
+/// `connection` is the number of the link on its desk, from 0. `routes` is the table of routes, made once for all
+/// links, and `url` the public URL, that of the opening's settings.
+pub fn serve_connection<
+    I: Decides,
+    N: First,
+    R: Wait,
+    P: Desk,
+    D: KeyDir,
+    L: Source + Sink,
+    G: Gate,
+>(
+    alloc: Global,
+    turn: &Turn<I, N>,
+    rt: &R,
+    mut pass: Pass<N>,
+    desk: &mut P,
+    dir: &mut D,
+    connection: u64,
+    link: &mut L,
+    gate: &G,
+    routes: &Routes,
+    url: &Text,
+) -> (Pass<N>, Closed<I::Fault>)
+    requires own { pass.turn ≡ turn.now }
+    requires url { url.now ≡ pass.seen.opening.settings.url }
+    ensures links { KeepsLinks (P.desk desk.old) (P.desk desk.new) }
+    ensures serves { Serves pass result.0 (P.desk desk.old) (P.desk desk.new) (D.dir dir.old) (D.dir dir.new) connection (L.stream link.old) (L.stream link.new) result.1 }
+{
+    let server = Server {
+        alloc,
+        turn,
+        rt,
+        gate,
+        routes,
+        url,
+    };
+    let Ok(mut reader) = Reader::new(alloc) else {
+        return (pass, give_up(link));
+    };
+    let mut count = 0;
+    'requests: loop {
+        match reader.next_request(alloc, link) {
+            Next::Request(request) => {
+                let close = request.close;
+                let number = RequestNumber {
+                    connection,
+                    request: count,
+                };
+                let (next, answered) = server.answer(pass, desk, dir, number, request, link);
+                if let Err(why) = answered {
+                    return (next, why);
+                }
+                if close {
+                    return (next, Closed::Asked);
+                }
+                count += 1;
+                if count == MOST_REQUESTS {
+                    return (next, Closed::Last);
+                }
+                pass = next;
+            }
+            Next::End => return (pass, Closed::End),
+            Next::Bad(cause) => return (pass, refuse_bytes(alloc, cause, link)),
+            Next::ReadFault => return (pass, Closed::ReadFault),
+            Next::Memory => return (pass, give_up(link)),
+        }
+    }
+}

@@ -1,0 +1,10 @@
+//! What holds of exchanges in order, whatever they are.
+ghost use Rattle.ks_server.specs.Laws.{MovesInOrder, OrderStays, ReceiptsArePlaced};
+
+/// What a pass saw and made is in the order of one journal, and stays so as the journal goes on. Each receipt names a
+/// place in it, between what was seen before and all that comes later. The call does nothing: its contract is the law.
+pub fn exchanges_are_in_order()
+    ensures moves { MovesInOrder }
+    ensures places { ReceiptsArePlaced }
+    ensures stays { OrderStays }
+{}

@@ -1,0 +1,17 @@
+//! Requests of HTTP on links, each answered by the identity machine before the next one is read.
+#![tactic(auto)]
+
+mod closed;
+mod connection;
+mod draws;
+mod folder;
+mod laws;
+mod number;
+mod replied;
+mod requests;
+mod respond;
+mod server;
+
+pub use closed::Closed;
+pub use connection::serve_connection;
+pub use laws::exchanges_are_in_order;
