@@ -1,6 +1,5 @@
 -- How a connection goes on from request to request, and how it ends: the bytes, all at one journal.
-use Rattle.std.proofs.Common.{◌≡◌, inl, inr, ℕ, ◌+◌, ◌<◌, ◌==◌, Bool, true, false, ◌||◌, List, [], ◌∷◌, ◌++◌, length, Option, Some, Err, refl, sym, ap, subst, ◌∙◌, arith, append_assoc, append-nil}
-use Rattle.std.proofs.lemmas.Bool.Decides.{nat_tests}
+use Rattle.std.proofs.Common.{◌≡◌, inl, inr, ℕ, ◌+◌, ◌<◌, true, false, List, [], ◌∷◌, ◌++◌, length, Option, Some, Err, refl, sym, ap, subst, ◌∙◌, arith, append_assoc, append-nil}
 use Rattle.std.proofs.lemmas.List.{map-append, length-map}
 use Rattle.ks_http.proofs.RequestLemmas.{first_more, first_then, first_read}
 use Rattle.ks_http.specs.declared.cause.HttpCause.{HttpCause}
@@ -47,16 +46,6 @@ responses_more journal count xs x count_is =
     responses_both journal 0 xs (x ∷ []) ∙ ap (λ l. responses journal 0 xs ++ l) (responses_one journal (0 + length xs) x ∙ ap (λ n. response journal n x) same)
 
 -- the end of a connection
-
-or_false : (a b : Bool) → (a || b) ≡ false → (a ≡ false) × (b ≡ false)
-or_false true b h = cc h
-or_false false b h = (refl, h)
-
-pub not_full : (count : ℕ) → count < 1000000 → (count + 1 == 1000000) ≡ false → count + 1 < 1000000
-not_full count few e = grind (arith, nat_tests)
-
-pub full : (count : ℕ) → (count + 1 == 1000000) ≡ true → count + 1 ≡ 1000000
-full count e = grind (arith, nat_tests)
 
 asked_goes_on : asked ≡ ended → ⊥
 asked_goes_on e = cc e

@@ -1,4 +1,4 @@
--- Sessions: what was written reads the same off each later journal, and how a connection goes on and ends.
+-- Sessions: what was told, written and left out reads the same off each later journal.
 use Rattle.std.proofs.Common.{◌≡◌, ℕ, ◌+◌, ◌≤◌, List, [], ◌∷◌, ◌++◌, length, Option, Some, refl, sym, ap, subst, ◌∙◌, arith}
 use Rattle.ks_http.specs.Next.{Close, asked, last, ended, bad}
 use Rattle.ks_http.specs.Responses.{memory_response}

@@ -8,7 +8,7 @@ use Rattle.ks_machine.specs.Outcomes.{bytes_in}
 use Rattle.ks_outside.specs.Desks.{DeskState}
 use Rattle.ks_outside.specs.Files.{DirState}
 use Rattle.ks_server.specs.Exchanges.{Exchange, receipts_of}
-use Rattle.ks_server.specs.Ties.{AreNumbered, HasFolder, HaveReadings, IsAsked, KeepsLinks, Rises, Tied, drawn_by, is_failed_draw, readings_after}
+use Rattle.ks_server.specs.Ties.{AreNumbered, HasFolder, HaveReadings, IsAsked, Rises, Tied, drawn_by, is_failed_draw, readings_after}
 
 pub all_both : (P : Exchange → Type 0) (xs ys : List Exchange) → AllByRecursion P xs → AllByRecursion P ys → AllByRecursion P (xs ++ ys)
 all_both P [] ys one other = other
@@ -80,16 +80,3 @@ pub numbered_both : (connection number : ℕ) (xs ys : List Exchange) → AreNum
 numbered_both connection number [] ys one other = subst (λ n. AreNumbered connection n ys) (omega arith) other
 numbered_both connection number (x ∷ xs) ys one other =
     (one.0, one.1, numbered_both connection (number + 1) xs ys one.2 (subst (λ n. AreNumbered connection n ys) (omega arith) other))
-
--- links
-
-pub keeps_none : {Link : Type 0} (desk : DeskState Link) → KeepsLinks desk desk
-keeps_none desk = record { coming = refl; returned = refl; room = refl; accept_faults = refl }
-
-pub keeps_both : {Link : Type 0} (a b c : DeskState Link) → KeepsLinks a b → KeepsLinks b c → KeepsLinks a c
-keeps_both a b c one other = record {
-  coming = other.coming ∙ one.coming;
-  returned = other.returned ∙ one.returned;
-  room = other.room ∙ one.room;
-  accept_faults = other.accept_faults ∙ one.accept_faults;
-}
