@@ -5,9 +5,10 @@ use Rattle.std.specs.List.{AllByRecursion}
 use Rattle.ks_machine.proofs.FrontLemmas.{reflexive, transitive}
 use Rattle.ks_machine.specs.declared.change.Entry.{Entry}
 use Rattle.ks_machine.specs.Fronts.{Front, IsSound, ◌⊑◌}
-use Rattle.ks_server.proofs.OrderLemmas.{bare_before, chain_to, from_later, goes_kept, left_later, next_later}
+use Rattle.ks_server.proofs.OrderLemmas.{bare_before, chain_to, from_later, goes_kept, left_later, next_later, within_of}
+use Rattle.ks_server.proofs.SessionLemmas.{ends_kept}
 use Rattle.ks_server.specs.Exchanges.{Exchange, bare, cut_at, front_after}
-use Rattle.ks_server.specs.Laws.{IsPlaced, MovesInOrder, OrderStays, ReceiptsArePlaced}
+use Rattle.ks_server.specs.Laws.{IsPlaced, MovesInOrder, OrderStays, ReceiptsArePlaced, SessionsStay}
 use Rattle.ks_server.specs.Orders.{Goes, HasPlace, IsFrom}
 
 pub moves_in_order : MovesInOrder
@@ -69,3 +70,7 @@ placed_all seen journal now since (x ∷ xs) from on sound goes last =
 
 pub receipts_are_placed : ReceiptsArePlaced
 receipts_are_placed seen journal xs order on sound = placed_all seen journal order.now (bare seen) xs (reflexive (bare seen)) on sound order.goes order.on
+
+pub sessions_stay : (F : Type 0) → SessionsStay F
+sessions_stay F seen f g xs order on input before left written why ends =
+    ends_kept why f g on input before left written xs (within_of f (bare seen) order.now xs order.goes) ends

@@ -1,10 +1,12 @@
 -- What holds of exchanges in order, whatever they are.
-use Rattle.std.specs.Prelude.{◌≡◌, ◌≤◌, List, Some, slice_get}
+use Rattle.std.specs.Prelude.{◌≡◌, ℕ, ◌≤◌, List, Option, Some, slice_get}
 use Rattle.std.specs.List.{AllByRecursion}
 use Rattle.ks_machine.specs.declared.change.Entry.{Entry}
 use Rattle.ks_machine.specs.Fronts.{Front, IsSound, ◌⊑◌, cut}
+use Rattle.ks_server.specs.declared.closed.Closed.{Closed}
 use Rattle.ks_server.specs.Exchanges.{Exchange, cut_at, front_after}
 use Rattle.ks_server.specs.Orders.{InOrder}
+use Rattle.ks_server.specs.Sessions.{EndsSession}
 use Rattle.ks_server.specs.Work.{Moves}
 use Rattle.ks_turn.specs.Passes.{Passed}
 
@@ -30,3 +32,9 @@ ReceiptsArePlaced =
 -- what is in order stays so as the journal goes on
 abbrev pub OrderStays : Type 0
 OrderStays = (seen f g : Front) (xs : List Exchange) → InOrder seen f xs → f ⊑ g → InOrder seen g xs
+
+-- how a session ended reads the same off each later journal
+abbrev pub SessionsStay : Type 0 → Type 0
+SessionsStay F =
+    (seen f g : Front) (xs : List Exchange) → InOrder seen f xs → f ⊑ g → (input before : List ℕ) (left written : Option (List ℕ)) (why : Closed F)
+    → EndsSession f input before left written xs why → EndsSession g input before left written xs why

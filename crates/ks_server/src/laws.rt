@@ -1,5 +1,5 @@
 //! What holds of exchanges in order, whatever they are.
-ghost use Rattle.ks_server.specs.Laws.{MovesInOrder, OrderStays, ReceiptsArePlaced};
+ghost use Rattle.ks_server.specs.Laws.{MovesInOrder, OrderStays, ReceiptsArePlaced, SessionsStay};
 
 /// What a pass saw and made is in the order of one journal, and stays so as the journal goes on. Each receipt names a
 /// place in it, between what was seen before and all that comes later. The call does nothing: its contract is the law.
@@ -7,4 +7,10 @@ pub fn exchanges_are_in_order()
     ensures moves { MovesInOrder }
     ensures places { ReceiptsArePlaced }
     ensures stays { OrderStays }
+{}
+
+/// The bytes of a session, and how it ended, read the same off each later journal, whatever the faults of keeping are. The
+/// call does nothing: its contract is the law.
+pub fn sessions_stay<F>()
+    ensures { SessionsStay F }
 {}

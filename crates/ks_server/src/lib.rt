@@ -14,4 +14,4 @@ mod server;
 
 pub use closed::Closed;
 pub use connection::serve_connection;
-pub use laws::exchanges_are_in_order;
+pub use laws::{exchanges_are_in_order, sessions_stay};
