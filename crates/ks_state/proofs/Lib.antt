@@ -1,16 +1,10 @@
 pub mod DropLemmas
 pub mod FactLemmas
-pub mod FindLemmas
 pub mod IdLemmas
-pub mod IndexLemmas
 pub mod KeptLemmas
 pub mod MakeLemmas
-pub mod NameLemmas
 pub mod OpenLemmas
-pub mod OpeningLemmas
-pub mod ParentLemmas
 pub mod PlanLemmas
-pub mod PutLemmas
 pub mod ReplyLemmas
 pub mod SettleLemmas
 pub mod StandLemmas

@@ -15,7 +15,8 @@ use Rattle.ks_machine.specs.Openings.{NamedRule}
 use Rattle.ks_ring.specs.Rings.{RingState}
 use Rattle.ks_state.specs.DomainRows.{has_group, has_project, has_user}
 use Rattle.ks_state.specs.Logs.{Logged, is_room, written}
-use Rattle.ks_state.specs.Shown.{HasRoom, Shown, changed, rows_in}
+use Rattle.ks_opening.specs.Opened.{rows_in}
+use Rattle.ks_state.specs.Shown.{HasRoom, Shown, changed}
 
 -- what is shown of these parts
 abbrev pub parts : Settings → List NamedRule → RingState → Rows → Logged → Shown

@@ -1,122 +1,29 @@
 -- An identity that opens stands for the first front of its opening.
-use Rattle.std.proofs.Common.{◌≡◌, [], ◌∷◌, ◌⊎◌, inl, inr, Option, Some, None, Result, Ok, Err, refl, sym, ap, subst, ◌∙◌, arith}
-use Rattle.std.specs.Result.{IsErrAnd}
-use Rattle.ks_base.specs.Refusals.{first_of}
-use Rattle.ks_machine.specs.declared.settings.OpenFault.{OpenFault}
-use Rattle.ks_machine.specs.declared.settings.OpenFault.TheVariants as fault
+use Rattle.std.proofs.Common.{◌≡◌, [], None, refl, sym, ap, subst, ◌∙◌, arith}
 use Rattle.ks_machine.specs.Fronts.{replay, replayed}
 use Rattle.ks_machine.specs.Lawful.{AreLawful, IsOpeningInRange}
-use Rattle.ks_machine.specs.Opened.{absent_fault, disabled_above, first_alone, full_fault, ids_fault, names_fault, open_fault, opened_state, prohibited, rows_opened, too_deep}
+use Rattle.ks_machine.specs.Opened.{open_fault, opened_state}
 use Rattle.ks_machine.specs.Openings.{PlainOpening}
 use Rattle.ks_machine.specs.Ranges.{IsSettings}
-use Rattle.ks_ring.specs.Rings.{RingState, new_of}
-use Rattle.ks_state.specs.declared.opening.opened.Opened.{Opened}
-use Rattle.ks_state.specs.Listed.{listed_fault, rows_fault}
-use Rattle.ks_state.specs.Opened.{IsOpened, keys_fault, rows_of, shown_at_first}
-use Rattle.ks_state.specs.Opening.{Tells, first_front}
-use Rattle.ks_state.specs.Standing.{Stands, with_live}
-use Rattle.ks_state.proofs.OpeningLemmas.{first_none}
+use Rattle.ks_machine.specs.States.{State}
+use Rattle.ks_opening.specs.declared.opened.Opened.{Opened}
+use Rattle.ks_opening.specs.Opened.{state_of}
+use Rattle.ks_state.specs.Standing.{Stands, first_front, with_live}
 
--- the faults in their order: of the rows, of their numbers, and of the keys
-
-grouped : {F : Type 0} (a b c d e f g h : Option F) →
-    first_of (a ∷ b ∷ c ∷ d ∷ e ∷ f ∷ g ∷ h ∷ []) ≡ first_of (first_of (a ∷ b ∷ first_of (c ∷ d ∷ e ∷ f ∷ []) ∷ []) ∷ g ∷ h ∷ [])
-grouped (Some x) b c d e f g h = refl
-grouped None (Some x) c d e f g h = refl
-grouped None None (Some x) d e f g h = refl
-grouped None None None (Some x) e f g h = refl
-grouped None None None None (Some x) f g h = refl
-grouped None None None None None (Some x) g h = refl
-grouped None None None None None None g h = refl
-
-fault_is : (opening : PlainOpening) →
-    open_fault opening ≡ first_of (listed_fault opening ∷ full_fault (rows_opened opening) ∷ keys_fault opening.ring ∷ [])
-unfolding open_fault
-fault_is opening =
-    grouped (ids_fault opening) (names_fault opening) (absent_fault (rows_opened opening) opening) (first_alone (too_deep (rows_opened opening)) opening.projects)
-    (first_alone (disabled_above (rows_opened opening)) opening.projects) (first_alone (prohibited (rows_opened opening)) opening.implications)
-    (full_fault (rows_opened opening)) (keys_fault opening.ring)
-
--- a check that is not passed
-abbrev pub Refuses : Option OpenFault → OpenFault → Type 0
-Refuses refusal why = (why ≡ fault.Memory) ⊎ (refusal ≡ Some why)
-
-handed : {X : Type 0} (refusal : Option OpenFault) (r : Result X OpenFault) (why : OpenFault) → IsErrAnd r (λ e. e ≡ why) → Refuses refusal why → Tells refusal r
-handed refusal (Ok x) why is tells = absurd is
-handed refusal (Err e) why is (inl memory) = inl (is ∙ memory)
-handed refusal (Err e) why is (inr fault) = inr (fault ∙ ap Some (sym is))
-
-early_by : (rows full keys : Option OpenFault) (why : OpenFault) → Refuses rows why → Refuses (first_of (rows ∷ full ∷ keys ∷ [])) why
-early_by rows full keys why (inl memory) = inl memory
-early_by rows full keys why (inr is) = inr (rw is refl)
-
-pub tells_early : {X : Type 0} (opening : PlainOpening) (r : Result X OpenFault) (why : OpenFault) → IsErrAnd r (λ e. e ≡ why) →
-    Refuses (listed_fault opening) why → Tells (open_fault opening) r
-tells_early opening r why is tells =
-    subst (λ (o : Option OpenFault). Tells o r) (sym (fault_is opening))
-    (handed (first_of (listed_fault opening ∷ full_fault (rows_opened opening) ∷ keys_fault opening.ring ∷ [])) r why is
-    (early_by (listed_fault opening) (full_fault (rows_opened opening)) (keys_fault opening.ring) why tells))
-
-full_by : (rows full keys : Option OpenFault) (why : OpenFault) → rows ≡ None → Some why ≡ full → Refuses (first_of (rows ∷ full ∷ keys ∷ [])) why
-full_by rows full keys why fine is = inr (rw (fine, ← is) refl)
-
-pub tells_full : {X : Type 0} (opened : Opened) (opening : PlainOpening) (r : Result X OpenFault) (why : OpenFault) → IsErrAnd r (λ e. e ≡ why) →
-    IsOpened opened opening → listed_fault opening ≡ None → Some why ≡ full_fault (rows_of opened) → Tells (open_fault opening) r
-tells_full opened opening r why is made fine full =
-    subst (λ (o : Option OpenFault). Tells o r) (sym (fault_is opening))
-    (handed (first_of (listed_fault opening ∷ full_fault (rows_opened opening) ∷ keys_fault opening.ring ∷ [])) r why is
-    (full_by (listed_fault opening) (full_fault (rows_opened opening)) (keys_fault opening.ring) why fine (full ∙ ap full_fault made.rows)))
-
-keys_by : (rows full keys : Option OpenFault) (why : OpenFault) → rows ≡ None → None ≡ full → Some why ≡ keys →
-    Refuses (first_of (rows ∷ full ∷ keys ∷ [])) why
-keys_by rows full keys why fine few is = inr (rw (fine, ← few, ← is) refl)
-
-pub tells_keys : {X : Type 0} (opened : Opened) (opening : PlainOpening) (r : Result X OpenFault) (why : OpenFault) → IsErrAnd r (λ e. e ≡ why) →
-    IsOpened opened opening → listed_fault opening ≡ None → None ≡ full_fault (rows_of opened) → Some why ≡ keys_fault opened.keys → Tells (open_fault opening) r
-tells_keys opened opening r why is made fine few keys =
-    subst (λ (o : Option OpenFault). Tells o r) (sym (fault_is opening))
-    (handed (first_of (listed_fault opening ∷ full_fault (rows_opened opening) ∷ keys_fault opening.ring ∷ [])) r why is
-    (keys_by (listed_fault opening) (full_fault (rows_opened opening)) (keys_fault opening.ring) why fine (few ∙ ap full_fault made.rows)
-    (keys ∙ ap keys_fault made.keys)))
-
-all_by : (rows full keys : Option OpenFault) → rows ≡ None → None ≡ full → None ≡ keys → first_of (rows ∷ full ∷ keys ∷ []) ≡ None
-all_by rows full keys fine few is = rw (fine, ← few, ← is) refl
-
--- where nothing is at fault, the opening is accepted
-pub accepted : (opened : Opened) (opening : PlainOpening) → IsOpened opened opening → listed_fault opening ≡ None → None ≡ full_fault (rows_of opened) →
-    None ≡ keys_fault opened.keys → open_fault opening ≡ None
-accepted opened opening made fine few keys =
-    fault_is opening ∙ all_by (listed_fault opening) (full_fault (rows_opened opening)) (keys_fault opening.ring) fine (few ∙ ap full_fault made.rows)
-    (keys ∙ ap keys_fault made.keys)
-
--- the first front
-
-state_is : (opened : Opened) (opening : PlainOpening) (ring : RingState) → IsOpened opened opening → ring ≡ new_of opened.keys →
-    (shown_at_first opened ring).state ≡ with_live (replay (first_front opening))
+first_state : (opening : PlainOpening) → opened_state opening ≡ with_live (replay (first_front opening))
 unfolding replay replayed opened_state
-state_is opened opening ring made is = λ i. record {
-  settings = made.settings i;
-  rules = made.rules i;
-  ring = (is ∙ ap new_of made.keys) i;
-  rows = made.rows i;
-  events = [];
-  high = 0;
-  made = 0;
-}
+first_state opening = refl
 
-pub stands_first : (opened : Opened) (opening : PlainOpening) (ring : RingState) → IsOpeningInRange opening → IsOpened opened opening → ring ≡ new_of opened.keys →
-    open_fault opening ≡ None → Stands (shown_at_first opened ring) (first_front opening)
+pub stands_first : (state : State) (opening : PlainOpening) → IsOpeningInRange opening → state ≡ opened_state opening → open_fault opening ≡ None →
+    Stands (record { state = state; newest = [] }) (first_front opening)
 unfolding AreLawful
-stands_first opened opening ring range made is none = record {
-  state = state_is opened opening ring made is;
+stands_first state opening range is none = record {
+  state = is ∙ first_state opening;
   newest = record { older = []; last = refl; some = λ empty. refl };
   lawful = record { range = range; accepted = none; changes = omega arith; high = omega arith; count = omega arith };
 }
 
 -- the settings keep their ranges
-pub settings_are : (opened : Opened) (opening : PlainOpening) → IsOpeningInRange opening → IsOpened opened opening → IsSettings opened.settings
-settings_are opened opening range made = subst IsSettings (sym made.settings) range.settings
-
--- no id is repeated where the rows are not at fault
-pub no_repeats : (opening : PlainOpening) → listed_fault opening ≡ None → ids_fault opening ≡ None
-no_repeats opening none = (first_none (ids_fault opening) (names_fault opening ∷ rows_fault (rows_opened opening) opening ∷ []) none).0
+pub settings_are : (opened : Opened) (opening : PlainOpening) → IsOpeningInRange opening → state_of opened ≡ opened_state opening → IsSettings opened.settings
+unfolding opened_state
+settings_are opened opening range is = subst IsSettings (sym (ap (λ (S : State). S.settings) is)) range.settings

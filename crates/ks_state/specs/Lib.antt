@@ -2,10 +2,7 @@ pub mod Decides
 pub mod Deciding
 pub mod DomainRows
 pub mod Ends
-pub mod Listed
 pub mod Logs
-pub mod Opened
-pub mod Opening
 pub mod Planning
 pub mod Replies
 pub mod Shown

@@ -1,12 +1,8 @@
 -- What contracts see of an identity, and what a change makes of it.
 use Rattle.std.specs.Prelude.{◌≡◌, ℕ, ◌<◌, ◌^◌, Bool, true, false, List, length, Option, Some, None, Result, Ok, Err}
-use Rattle.ks_base.specs.declared.grants.GrantRow.{GrantRow}
 use Rattle.ks_base.specs.declared.rows.ProjectRow.{ProjectRow}
-use Rattle.ks_base.specs.declared.trusts.TrustRow.{TrustRow}
 use Rattle.ks_base.specs.People.{PeopleState}
 use Rattle.ks_base.specs.Revocation.{live}
-use Rattle.ks_base.specs.RoleLists.{RolesState}
-use Rattle.ks_base.specs.Rows.{Rows}
 use Rattle.ks_base.specs.Trees.{TreeState}
 use Rattle.ks_machine.specs.declared.change.Change.{Change}
 use Rattle.ks_machine.specs.declared.change.Entry.{Entry}
@@ -22,20 +18,6 @@ pub record Shown : Type 0 where
   pub state : State
   -- the newest changes, in the order in which they were made
   pub newest : List Entry
-
--- the rows of the tables
-abbrev pub rows_in : TreeState → PeopleState → RolesState → List GrantRow → List TrustRow → Rows
-rows_in tree people roles grants trusts = record {
-  domains = tree.domains;
-  projects = tree.projects;
-  users = people.users;
-  groups = people.groups;
-  members = people.members;
-  roles = roles.roles;
-  implications = roles.implications;
-  grants = grants;
-  trusts = trusts;
-}
 
 -- the tree and the people of an identity
 abbrev pub tree_in : Shown → TreeState

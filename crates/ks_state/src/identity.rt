@@ -35,7 +35,8 @@ impl Model for Identity {
     ghost use Rattle.std.specs.Coded.{codes};
     ghost use Rattle.ks_rule.specs.TreeCodes.{tree_code};
     ghost use Rattle.ks_machine.specs.Ranges.{IsSettings};
-    ghost use Rattle.ks_state.specs.Shown.{Shown, rows_in};
+    ghost use Rattle.ks_opening.specs.Opened.{rows_in};
+    ghost use Rattle.ks_state.specs.Shown.{Shown};
 
     ghost Value = { Shown };
 

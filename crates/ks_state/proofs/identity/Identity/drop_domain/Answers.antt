@@ -5,7 +5,8 @@ use Rattle.ks_machine.specs.declared.change.Change.TheVariants as change
 use Rattle.ks_machine.specs.Changes.{ended_by, ring_after, trusts_after}
 use Rattle.ks_trust.specs.State.{without_trusts}
 use Rattle.ks_state.specs.Logs.{is_room}
-use Rattle.ks_state.specs.Shown.{HasRoom, Shown, changed, rows_in}
+use Rattle.ks_opening.specs.Opened.{rows_in}
+use Rattle.ks_state.specs.Shown.{HasRoom, Shown, changed}
 use Rattle.ks_state.proofs.MakeLemmas.{domain_rows, grants_dropped, made, parts, people_dropped}
 use Rattle.ks_state.proofs.identity.Identity.drop_domain.Goals as goal
 

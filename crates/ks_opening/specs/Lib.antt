@@ -1,0 +1,3 @@
+-- What the public contracts mean. Of `steps` only private clauses speak.
+pub mod Opened
+pub mod steps

@@ -1,0 +1,96 @@
+//! Tables that are made of the rows of a file, in any order.
+ghost use Rattle.std.specs.Prelude.{◌≡◌, IfOk};
+ghost use Rattle.ks_base.specs.Orders.{grant_cmp, imply_cmp, member_cmp};
+ghost use Rattle.ks_base.specs.Tables.{id_cmp, put_row};
+ghost use Rattle.ks_machine.specs.Opened.{put_all};
+ghost use Rattle.ks_opening.specs.steps.Indexed.{AreApart};
+
+use ks_assign::Grants;
+use ks_base::{
+    DomainList, GrantList, GroupList, ImplyList, ListOf, MemberList, Memory, Ordered, ProjectList,
+    RoleList, Row, RowSet, Table, UserList,
+};
+use ks_people::People;
+use ks_roles::Roles;
+use ks_tree::Tree;
+use std::alloc::Global;
+
+/// The table of rows of which no two have one id. They go in by rising ids, so that each comes behind those that stand.
+fn table_of<R: Row>(alloc: Global, rows: ListOf<R>) -> Result<Table<R>, Memory>
+    requires { AreApart id_cmp R.key rows }
+    ensures { IfOk result (λ table. table ≡ put_all (put_row id_cmp R.key) rows) }
+{
+    let mut rows = rows.into_vec();
+    rows.sort_unstable_by(|a, b| b.id().cmp(a.id()));
+    let mut table = Table::new(alloc);
+    while let Some(row) = rows.pop() {
+        table.put(row)?;
+    }
+    Ok(table)
+}
+
+/// The set of these rows, each once. They go in by their order, so that each comes behind those that stand.
+fn set_of<R: Ordered>(alloc: Global, rows: ListOf<R>) -> Result<RowSet<R>, Memory>
+    ensures { IfOk result (λ set. set ≡ put_all (put_row R.cmp (λ row. row)) rows) }
+{
+    let mut rows = rows.into_vec();
+    rows.sort_unstable_by(|a, b| b.compare(a));
+    let mut set = RowSet::new(alloc);
+    while let Some(row) = rows.pop() {
+        let _new = set.add(row)?;
+    }
+    Ok(set)
+}
+
+/// The trees of these domains and projects.
+pub(crate) fn tree_of(
+    alloc: Global,
+    domains: DomainList,
+    projects: ProjectList,
+) -> Result<Tree, Memory>
+    requires domains { AreApart id_cmp (λ row. row.id) domains }
+    requires projects { AreApart id_cmp (λ row. row.id) projects }
+    ensures { IfOk result (λ tree. tree ≡ record { domains = put_all (put_row id_cmp (λ row. row.id)) domains; projects = put_all (put_row id_cmp (λ row. row.id)) projects }) }
+{
+    let domains = table_of(alloc, domains)?;
+    let projects = table_of(alloc, projects)?;
+    Ok(Tree::from_tables(alloc, domains, projects))
+}
+
+/// These users and groups, and their memberships.
+pub(crate) fn people_of(
+    alloc: Global,
+    users: UserList,
+    groups: GroupList,
+    members: MemberList,
+) -> Result<People, Memory>
+    requires users { AreApart id_cmp (λ row. row.id) users }
+    requires groups { AreApart id_cmp (λ row. row.id) groups }
+    ensures { IfOk result (λ people. people ≡ record { users = put_all (put_row id_cmp (λ row. row.id)) users; groups = put_all (put_row id_cmp (λ row. row.id)) groups; members = put_all (put_row member_cmp (λ row. row)) members }) }
+{
+    let users = table_of(alloc, users)?;
+    let groups = table_of(alloc, groups)?;
+    let members = set_of(alloc, members)?;
+    Ok(People::from_tables(alloc, users, groups, members))
+}
+
+/// These roles, and their implications.
+pub(crate) fn roles_of(
+    alloc: Global,
+    roles: RoleList,
+    implications: ImplyList,
+) -> Result<Roles, Memory>
+    requires { AreApart id_cmp (λ row. row.id) roles }
+    ensures { IfOk result (λ all. all ≡ record { roles = put_all (put_row id_cmp (λ row. row.id)) roles; implications = put_all (put_row imply_cmp (λ row. row)) implications }) }
+{
+    let roles = table_of(alloc, roles)?;
+    let implications = set_of(alloc, implications)?;
+    Ok(Roles::from_tables(alloc, roles, implications))
+}
+
+/// These grants.
+pub(crate) fn grants_of(alloc: Global, rows: GrantList) -> Result<Grants, Memory>
+    ensures { IfOk result (λ grants. grants ≡ put_all (put_row grant_cmp (λ row. row)) rows) }
+{
+    Ok(Grants::from_rows(alloc, set_of(alloc, rows)?))
+}

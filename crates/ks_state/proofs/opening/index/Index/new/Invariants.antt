@@ -1,5 +1,0 @@
-use Rattle.ks_state.proofs.IndexLemmas.{IsBuilt}
-use Rattle.ks_state.proofs.opening.index.Index.new.Given as goal
-
-abbrev pub invariant-loop-at : goal.invariant-loop-at
-invariant-loop-at g l = IsBuilt l.kind g.R.Row.key l.rows l.places l.at
