@@ -6,11 +6,13 @@ pub mod EntryLemmas
 pub mod FolderLemmas
 pub mod FolderWordLemmas
 pub mod FrontLemmas
+pub mod IdLemmas
 pub mod KeyLemmas
 pub mod LentLemmas
 pub mod NameLemmas
 pub mod NumberLemmas
 pub mod OpeningLemmas
+pub mod OrphanLemmas
 pub mod ReadLemmas
 pub mod TalkLemmas
 pub mod WalkLemmas

@@ -2,4 +2,8 @@ pub mod Words
 pub mod Entries
 pub mod Written
 pub mod Openings
+pub mod Spots
+pub mod Meetings
+pub mod RowLines
+pub mod FormLines
 pub mod Steps

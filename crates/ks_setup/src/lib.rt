@@ -10,6 +10,7 @@ mod grants;
 mod key_texts;
 mod keys;
 mod laws;
+mod lines;
 mod opening;
 mod policy;
 mod reader;
@@ -20,5 +21,6 @@ mod written;
 
 pub use folder::wants_folder;
 pub use laws::{check_is_one_word, rotate_leaves_three, setup_is_two_words, talk_is_three_words};
+pub use lines::{opening_line, state_line};
 pub use opening::{OpeningFault, read_opening};
 pub use words::{Places, Words, read_words};

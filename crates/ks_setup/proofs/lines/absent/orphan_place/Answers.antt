@@ -1,0 +1,16 @@
+use Rattle.std.proofs.Common.{sym, ◌∙◌}
+use Rattle.ks_setup.proofs.OrphanLemmas.{orphan_here, orphan_later, orphan_nowhere}
+use Rattle.ks_setup.proofs.lines.absent.orphan_place.Goals as goal
+
+pub returns-then-is_orphan : goal.returns-then-is_orphan
+returns-then-is_orphan c =
+    orphan_here c.args.id.now c.args.rows.now c.rows.at c.index-rows-at.result _ c.rows-test.true c.index-rows-at.is (rw c.split_at.ensures.front at c.split_at.ensures.front_len)
+    (rw c.split_at.ensures.front at (sym c.is_orphan.ensures ∙ c.if-is_orphan.true)) c.rows.invariant
+
+pub rows-preserved : goal.rows-preserved
+rows-preserved c =
+    orphan_later c.args.id.now c.args.rows.now c.rows.at c.index-rows-at.result _ c.rows-test.true c.index-rows-at.is
+    (rw c.split_at.ensures.front at (sym c.is_orphan.ensures ∙ c.if-is_orphan.false)) c.rows.invariant
+
+pub returns : goal.returns
+returns c = orphan_nowhere c.args.id.now c.args.rows.now c.rows.at _ c.rows-test.false c.rows.invariant

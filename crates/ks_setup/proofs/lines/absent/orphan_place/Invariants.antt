@@ -1,0 +1,6 @@
+use Rattle.std.proofs.Common.{◌≡◌, [], take, drop}
+use Rattle.ks_setup.specs.RowLines.{orphan_place}
+use Rattle.ks_setup.proofs.lines.absent.orphan_place.Given as goal
+
+abbrev pub invariant-rows : goal.invariant-rows
+invariant-rows l = orphan_place l.id (take l.at l.rows) (drop l.at l.rows) ≡ orphan_place l.id [] l.rows

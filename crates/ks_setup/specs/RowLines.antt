@@ -1,0 +1,199 @@
+-- The line that a person reads for each fault of the rows of an opening file.
+use Rattle.std.specs.Prelude.{ℕ, Bool, false, not, ◌&&◌, ◌||◌, if◌then◌else◌, List, [], ◌∷◌, ◌++◌, length, find, position, Option, Some, None, option_map, codes, decimal}
+use Rattle.std.specs.List.{concat, list_any}
+use Rattle.std.specs.Option.{option_or}
+use Rattle.ks_base.specs.declared.faults.LoadFault.{LoadFault}
+use Rattle.ks_base.specs.declared.faults.LoadFault.TheVariants as load
+use Rattle.ks_base.specs.declared.grants.Actor.{Actor}
+use Rattle.ks_base.specs.declared.grants.Actor.TheVariants as actor
+use Rattle.ks_base.specs.declared.grants.ImplyRow.{ImplyRow}
+use Rattle.ks_base.specs.declared.grants.Target.{Target}
+use Rattle.ks_base.specs.declared.grants.Target.TheVariants as target
+use Rattle.ks_base.specs.declared.kinds.Kind.{Kind}
+use Rattle.ks_base.specs.declared.kinds.Kind.TheVariants as kind
+use Rattle.ks_base.specs.declared.limits.TheConstants.{KEYS, LEVELS}
+use Rattle.ks_base.specs.declared.rows.ProjectRow.{ProjectRow}
+use Rattle.ks_base.specs.Limits.{limit}
+use Rattle.ks_base.specs.Rows.{Id, same}
+use Rattle.ks_base.specs.Tree.{is_child_of}
+use Rattle.ks_machine.specs.declared.settings.OpenFault.{OpenFault}
+use Rattle.ks_machine.specs.declared.settings.OpenFault.TheVariants as fault
+use Rattle.ks_setup.specs.declared.lines.spot.Field.{Field}
+use Rattle.ks_setup.specs.declared.lines.spot.Field.TheVariants as field
+use Rattle.ks_setup.specs.declared.lines.spot.Spot.{Spot}
+use Rattle.ks_setup.specs.declared.written.Written.{Written}
+use Rattle.ks_setup.specs.Meetings.{NamedRow, domain_named, first_place, group_named, has_id, id_meeting, name_meeting, project_named, role_named, user_named}
+use Rattle.ks_setup.specs.Spots.{list_name, located, quoted, row_name, row_path, spot_at}
+
+-- two rows with one id
+
+abbrev pub id_line : Kind → Id → Option (ℕ × ℕ) → List ℕ
+id_line kind id None = concat (codes "two " ∷ list_name kind ∷ codes " have the id " ∷ quoted id ∷ [])
+id_line kind id (Some places) =
+    located (spot_at kind field.Id (Some places.1)) (concat (quoted id ∷ codes " is the id of " ∷ row_path kind places.0 ∷ codes " too" ∷ []))
+
+abbrev pub ids_meeting : Written → Kind → Id → Option (ℕ × ℕ)
+ids_meeting written kind.Domain id = id_meeting domain_named id written.domains
+ids_meeting written kind.Project id = id_meeting project_named id written.projects
+ids_meeting written kind.User id = id_meeting user_named id written.users
+ids_meeting written kind.Group id = id_meeting group_named id written.groups
+ids_meeting written kind.Role id = id_meeting role_named id written.roles
+ids_meeting written kind.Implication id = None
+ids_meeting written kind.Grant id = None
+ids_meeting written kind.Member id = None
+ids_meeting written kind.Trust id = None
+ids_meeting written kind.Event id = None
+
+-- two rows with one name, the first of which has this id
+
+abbrev pub in_domain : Option Id → List ℕ
+in_domain None = []
+in_domain (Some domain) = concat (codes " in the domain " ∷ quoted domain ∷ [])
+
+abbrev pub name_unplaced : Kind → Id → List ℕ
+name_unplaced kind id = concat (codes "two " ∷ list_name kind ∷ codes " have the name of the one with the id " ∷ quoted id ∷ [])
+
+abbrev pub name_at : Kind → NamedRow → ℕ → ℕ → List ℕ
+name_at kind row first later = located (spot_at kind field.Name (Some later))
+    (concat (quoted row.name ∷ codes " is the name of " ∷ row_path kind first ∷ in_domain row.domain ∷ codes " too" ∷ []))
+
+abbrev pub name_placed : Kind → Id → Option NamedRow → Option (ℕ × ℕ) → List ℕ
+name_placed kind id None places = name_unplaced kind id
+name_placed kind id (Some row) None = name_unplaced kind id
+name_placed kind id (Some row) (Some places) = name_at kind row places.0 places.1
+
+abbrev pub name_line_in : {R : Type 0} → (R → NamedRow) → Kind → Id → List R → List ℕ
+name_line_in named kind id rows = name_placed kind id (option_map named (find (has_id named id) rows)) (name_meeting named id rows)
+
+abbrev pub name_line : Written → Kind → Id → List ℕ
+name_line written kind.Domain id = name_line_in domain_named kind.Domain id written.domains
+name_line written kind.Project id = name_line_in project_named kind.Project id written.projects
+name_line written kind.User id = name_line_in user_named kind.User id written.users
+name_line written kind.Group id = name_line_in group_named kind.Group id written.groups
+name_line written kind.Role id = name_line_in role_named kind.Role id written.roles
+name_line written kind.Implication id = name_unplaced kind.Implication id
+name_line written kind.Grant id = name_unplaced kind.Grant id
+name_line written kind.Member id = name_unplaced kind.Member id
+name_line written kind.Trust id = name_unplaced kind.Trust id
+name_line written kind.Event id = name_unplaced kind.Event id
+
+-- rows that name what does not stand
+
+abbrev pub is_user : Id → Actor → Bool
+is_user id (actor.User user) = same user id
+is_user id (actor.Group group) = false
+
+abbrev pub is_group : Id → Actor → Bool
+is_group id (actor.User user) = false
+is_group id (actor.Group group) = same group id
+
+abbrev pub is_project : Id → Target → Bool
+is_project id (target.Project project) = same project id
+is_project id (target.Domain domain) = false
+is_project id target.System = false
+
+abbrev pub is_domain : Id → Target → Bool
+is_domain id (target.Project project) = false
+is_domain id (target.Domain domain) = same domain id
+is_domain id target.System = false
+
+abbrev pub names_role : Id → ImplyRow → Bool
+names_role id row = same row.prior id || same row.implied id
+
+abbrev pub role_field : Id → ImplyRow → Field
+role_field id row = if same row.prior id then field.Prior else field.Implied
+
+abbrev pub implication_at : Id → Option ℕ → Option ImplyRow → Option Spot
+implication_at id place None = None
+implication_at id place (Some row) = spot_at kind.Implication (role_field id row) place
+
+-- the first row of each list that names the domain, the lists in the order in which they are tested
+abbrev pub domain_spot : Written → Id → Option Spot
+domain_spot written id =
+    option_or (spot_at kind.Project field.DomainId (position (λ row. same row.domain id) written.projects))
+    (option_or (spot_at kind.User field.DomainId (position (λ row. same row.domain id) written.users))
+    (option_or (spot_at kind.Group field.DomainId (position (λ row. same row.domain id) written.groups))
+    (spot_at kind.Grant field.Domain (position (λ row. is_domain id row.target) written.assignments))))
+
+abbrev pub user_spot : Written → Id → Option Spot
+user_spot written id =
+    option_or (spot_at kind.Member field.User (position (λ row. same row.user id) written.members))
+    (spot_at kind.Grant field.User (position (λ row. is_user id row.actor) written.assignments))
+
+abbrev pub group_spot : Written → Id → Option Spot
+group_spot written id =
+    option_or (spot_at kind.Member field.Group (position (λ row. same row.group id) written.members))
+    (spot_at kind.Grant field.Group (position (λ row. is_group id row.actor) written.assignments))
+
+abbrev pub role_spot : Written → Id → Option Spot
+role_spot written id =
+    option_or (implication_at id (position (names_role id) written.implications) (find (names_role id) written.implications))
+    (spot_at kind.Grant field.Role (position (λ row. same row.role id) written.assignments))
+
+abbrev pub absent_at : Option Spot → Kind → Id → List ℕ
+absent_at place kind id = located place (concat (codes "no " ∷ row_name kind ∷ codes " has the id " ∷ quoted id ∷ []))
+
+-- a project below this one, which does not stand before it in its domain
+abbrev pub is_orphan : Id → List ProjectRow → ProjectRow → Bool
+is_orphan id before row =
+    is_child_of id row && not (list_any (λ other. same other.id id && same other.domain row.domain) before)
+
+unfoldable pub orphan_place : Id → List ProjectRow → List ProjectRow → Option ℕ
+orphan_place id before [] = None
+orphan_place id before (row ∷ rows) =
+    if is_orphan id before row then Some (length before) else orphan_place id (before ++ row ∷ []) rows
+
+abbrev pub orphan_line : ℕ → Id → List ℕ
+orphan_line place id = located (spot_at kind.Project field.ParentId (Some place))
+    (concat (codes "no project before it in its domain has the id " ∷ quoted id ∷ []))
+
+abbrev pub orphan_or : Option ℕ → Id → List ℕ → List ℕ
+orphan_or None id other = other
+orphan_or (Some place) id other = orphan_line place id
+
+abbrev pub absent_line : Written → Kind → Id → List ℕ
+absent_line written kind.Domain id = absent_at (domain_spot written id) kind.Domain id
+absent_line written kind.Project id = orphan_or (orphan_place id [] written.projects) id
+    (absent_at (spot_at kind.Grant field.Project (position (λ row. is_project id row.target) written.assignments)) kind.Project id)
+absent_line written kind.User id = absent_at (user_spot written id) kind.User id
+absent_line written kind.Group id = absent_at (group_spot written id) kind.Group id
+absent_line written kind.Role id = absent_at (role_spot written id) kind.Role id
+absent_line written kind.Implication id = absent_at None kind.Implication id
+absent_line written kind.Grant id = absent_at None kind.Grant id
+absent_line written kind.Member id = absent_at None kind.Member id
+absent_line written kind.Trust id = absent_at None kind.Trust id
+absent_line written kind.Event id = absent_at None kind.Event id
+
+-- the tree, roles, room and keys
+
+abbrev pub deep_line : List ProjectRow → Id → List ℕ
+deep_line projects id = located (spot_at kind.Project field.ParentId (first_place project_named id projects))
+    (concat (codes "the project " ∷ quoted id ∷ codes " lies more than " ∷ decimal LEVELS ∷ codes " levels below its domain" ∷ []))
+
+abbrev pub disabled_line : List ProjectRow → Id → List ℕ
+disabled_line projects id = located (spot_at kind.Project field.ParentId (position (is_child_of id) projects))
+    (concat (codes "the project " ∷ quoted id ∷ codes " above it is disabled" ∷ []))
+
+abbrev pub prohibited_line : List ImplyRow → Id → List ℕ
+prohibited_line rows id = located (spot_at kind.Implication field.Implied (position (λ row. same row.implied id) rows))
+    (concat (codes "the role " ∷ quoted id ∷ codes " is named admin and may not be implied" ∷ []))
+
+abbrev pub full_line : Kind → List ℕ
+full_line kind = concat (list_name kind ∷ codes ": more than " ∷ decimal (limit kind) ∷ codes " " ∷ list_name kind ∷ [])
+
+abbrev pub ring_line : LoadFault → List ℕ
+ring_line load.Empty = concat (codes "keys: there is none" ∷ [])
+ring_line (load.Repeated index) = concat (codes "keys: two have the index " ∷ decimal index ∷ [])
+ring_line load.TooMany = concat (codes "keys: more than " ∷ decimal KEYS ∷ [])
+
+-- the line for a fault of the rows that are written: the place of the row that has it, and what is wrong there
+unfoldable pub row_line : Written → OpenFault → List ℕ
+row_line written (fault.IdRepeated kind id) = id_line kind id (ids_meeting written kind id)
+row_line written (fault.Name kind id) = name_line written kind id
+row_line written (fault.Absent kind id) = absent_line written kind id
+row_line written (fault.TooDeep id) = deep_line written.projects id
+row_line written (fault.DisabledAbove id) = disabled_line written.projects id
+row_line written (fault.Prohibited id) = prohibited_line written.implications id
+row_line written (fault.Full kind) = full_line kind
+row_line written (fault.Ring why) = ring_line why
+row_line written fault.Memory = concat (codes "out of memory" ∷ [])

@@ -1,0 +1,293 @@
+//! Rows that name what does not stand.
+ghost use Rattle.std.specs.Prelude.{◌≡◌, ◌&&◌, [], IfOk, find, position, string_bytes};
+ghost use Rattle.std.specs.List.{list_any};
+ghost use Rattle.std.specs.Option.{option_copied};
+ghost use Rattle.ks_base.specs.declared.kinds.Kind.TheVariants as variant;
+ghost use Rattle.ks_base.specs.Rows.{same};
+ghost use Rattle.ks_base.specs.Tree.{is_child_of};
+ghost use Rattle.ks_setup.specs.RowLines.{absent_at, absent_line, domain_spot, group_spot, implication_at, is_domain, is_group, is_orphan, is_project, is_user, names_role, orphan_line, orphan_place, role_field, role_spot, user_spot};
+
+use crate::lines::spot::{Field, Spot, id_quoted, joined, located, row_name, spot_at};
+use crate::written::{Written, WrittenUser};
+use ks_base::{
+    Actor, GrantRow, GroupRow, Id, ImplyRow, Kind, MemberRow, Memory, ProjectRow, Target,
+};
+use std::alloc::Global;
+
+fn project_in(rows: &[ProjectRow], domain: &Id) -> Option<usize>
+    ensures { result ≡ position (λ row. same row.domain domain.now) rows.now }
+{
+    rows.iter().position(|row| row.domain == *domain)
+}
+
+fn user_in(rows: &[WrittenUser], domain: &Id) -> Option<usize>
+    ensures { result ≡ position (λ row. same row.domain domain.now) rows.now }
+{
+    rows.iter().position(|row| row.domain == *domain)
+}
+
+fn group_in(rows: &[GroupRow], domain: &Id) -> Option<usize>
+    ensures { result ≡ position (λ row. same row.domain domain.now) rows.now }
+{
+    rows.iter().position(|row| row.domain == *domain)
+}
+
+fn member_user(rows: &[MemberRow], user: &Id) -> Option<usize>
+    ensures { result ≡ position (λ row. same row.user user.now) rows.now }
+{
+    rows.iter().position(|row| row.user == *user)
+}
+
+fn member_group(rows: &[MemberRow], group: &Id) -> Option<usize>
+    ensures { result ≡ position (λ row. same row.group group.now) rows.now }
+{
+    rows.iter().position(|row| row.group == *group)
+}
+
+fn is_user(actor: &Actor, id: &Id) -> bool
+    ensures { result ≡ is_user id.now actor.now }
+{
+    match actor {
+        Actor::User(user) => *user == *id,
+        Actor::Group(_) => false,
+    }
+}
+
+fn is_group(actor: &Actor, id: &Id) -> bool
+    ensures { result ≡ is_group id.now actor.now }
+{
+    match actor {
+        Actor::User(_) => false,
+        Actor::Group(group) => *group == *id,
+    }
+}
+
+fn is_project(target: &Target, id: &Id) -> bool
+    ensures { result ≡ is_project id.now target.now }
+{
+    match target {
+        Target::Project(project) => *project == *id,
+        Target::Domain(_) | Target::System => false,
+    }
+}
+
+fn is_domain(target: &Target, id: &Id) -> bool
+    ensures { result ≡ is_domain id.now target.now }
+{
+    match target {
+        Target::Domain(domain) => *domain == *id,
+        Target::Project(_) | Target::System => false,
+    }
+}
+
+fn grant_user(rows: &[GrantRow], user: &Id) -> Option<usize>
+    ensures { result ≡ position (λ row. is_user user.now row.actor) rows.now }
+{
+    rows.iter().position(|row| is_user(&row.actor, user))
+}
+
+fn grant_group(rows: &[GrantRow], group: &Id) -> Option<usize>
+    ensures { result ≡ position (λ row. is_group group.now row.actor) rows.now }
+{
+    rows.iter().position(|row| is_group(&row.actor, group))
+}
+
+fn grant_project(rows: &[GrantRow], project: &Id) -> Option<usize>
+    ensures { result ≡ position (λ row. is_project project.now row.target) rows.now }
+{
+    rows.iter().position(|row| is_project(&row.target, project))
+}
+
+fn grant_domain(rows: &[GrantRow], domain: &Id) -> Option<usize>
+    ensures { result ≡ position (λ row. is_domain domain.now row.target) rows.now }
+{
+    rows.iter().position(|row| is_domain(&row.target, domain))
+}
+
+fn grant_role(rows: &[GrantRow], role: &Id) -> Option<usize>
+    ensures { result ≡ position (λ row. same row.role role.now) rows.now }
+{
+    rows.iter().position(|row| row.role == *role)
+}
+
+fn names_role(row: &ImplyRow, role: &Id) -> bool
+    ensures { result ≡ names_role role.now row.now }
+{
+    row.prior == *role || row.implied == *role
+}
+
+fn implication_place(rows: &[ImplyRow], role: &Id) -> Option<usize>
+    ensures { result ≡ position (names_role role.now) rows.now }
+{
+    rows.iter().position(|row| names_role(row, role))
+}
+
+fn implication<'a>(rows: &'a [ImplyRow], role: &Id) -> Option<&'a ImplyRow>
+    ensures { option_copied result ≡ find (names_role role.now) rows.now }
+{
+    rows.iter().find(|row| names_role(*row, role))
+}
+
+fn role_field(row: &ImplyRow, role: &Id) -> Field
+    ensures { result ≡ role_field role.now row.now }
+{
+    if row.prior == *role {
+        return Field::Prior;
+    }
+    Field::Implied
+}
+
+/// The first implication that names the role.
+fn implication_spot(rows: &[ImplyRow], role: &Id) -> Option<Spot>
+    ensures { result ≡ implication_at role.now (position (names_role role.now) rows.now) (find (names_role role.now) rows.now) }
+{
+    match implication(rows, role) {
+        Some(row) => spot_at(
+            Kind::Implication,
+            role_field(row, role),
+            implication_place(rows, role),
+        ),
+        None => None,
+    }
+}
+
+fn domain_spot(written: &Written, id: &Id) -> Option<Spot>
+    ensures { result ≡ domain_spot written.now id.now }
+{
+    let project = project_in(written.projects.as_slice(), id);
+    let user = user_in(written.users.as_slice(), id);
+    let group = group_in(written.groups.as_slice(), id);
+    let grant = grant_domain(written.assignments.as_slice(), id);
+    spot_at(Kind::Project, Field::DomainId, project).or(spot_at(
+        Kind::User,
+        Field::DomainId,
+        user,
+    ).or(spot_at(Kind::Group, Field::DomainId, group).or(spot_at(
+        Kind::Grant,
+        Field::Domain,
+        grant,
+    ))))
+}
+
+fn user_spot(written: &Written, id: &Id) -> Option<Spot>
+    ensures { result ≡ user_spot written.now id.now }
+{
+    let member = member_user(written.members.as_slice(), id);
+    let grant = grant_user(written.assignments.as_slice(), id);
+    spot_at(Kind::Member, Field::User, member).or(spot_at(Kind::Grant, Field::User, grant))
+}
+
+fn group_spot(written: &Written, id: &Id) -> Option<Spot>
+    ensures { result ≡ group_spot written.now id.now }
+{
+    let member = member_group(written.members.as_slice(), id);
+    let grant = grant_group(written.assignments.as_slice(), id);
+    spot_at(Kind::Member, Field::Group, member).or(spot_at(Kind::Grant, Field::Group, grant))
+}
+
+fn role_spot(written: &Written, id: &Id) -> Option<Spot>
+    ensures { result ≡ role_spot written.now id.now }
+{
+    let implication = implication_spot(written.implications.as_slice(), id);
+    let grant = grant_role(written.assignments.as_slice(), id);
+    implication.or(spot_at(Kind::Grant, Field::Role, grant))
+}
+
+/// Whether the project lies below this one, and none of those before it is this one, in its domain.
+fn is_orphan(before: &[ProjectRow], row: &ProjectRow, id: &Id) -> bool
+    ensures { result ≡ is_orphan id.now before.now row.now }
+{
+    is_child_of(row, id) && !stands_in(before, &row.domain, id)
+}
+
+/// Whether the project lies right below this one.
+pub(crate) fn is_child_of(row: &ProjectRow, id: &Id) -> bool
+    ensures { result ≡ is_child_of id.now row.now }
+{
+    row.parent != row.domain && row.parent == *id
+}
+
+fn stands_in(rows: &[ProjectRow], domain: &Id, id: &Id) -> bool
+    ensures { result ≡ list_any (λ other. same other.id id.now && same other.domain domain.now) rows.now }
+{
+    rows.iter()
+        .any(|other| other.id == *id && other.domain == *domain)
+}
+
+/// The place of the first project that lies below this one, which does not stand before it in its domain.
+fn orphan_place(rows: &[ProjectRow], id: &Id) -> Option<usize>
+    ensures { result ≡ orphan_place id.now [] rows.now }
+{
+    'rows: for (at, row) in rows.iter().enumerate() {
+        let (before, _) = rows.split_at(at);
+        if is_orphan(before, row, id) {
+            return Some(at);
+        }
+    }
+    None
+}
+
+/// That no row of the kind has the id.
+fn absent_at(alloc: Global, spot: Option<Spot>, kind: Kind, id: &Id) -> Result<String, Memory>
+    ensures { IfOk result (λ made. string_bytes made ≡ absent_at spot kind id.now) }
+{
+    let id = id_quoted(alloc, id)?;
+    let said = joined(alloc, &["no ", row_name(kind), " has the id ", id.as_str()])?;
+    located(alloc, spot, said.as_str())
+}
+
+/// That the parent of the project at this place has no row before it in its domain.
+fn orphan_line(alloc: Global, place: usize, id: &Id) -> Result<String, Memory>
+    ensures { IfOk result (λ made. string_bytes made ≡ orphan_line place id.now) }
+{
+    let id = id_quoted(alloc, id)?;
+    let said = joined(
+        alloc,
+        &[
+            "no project before it in its domain has the id ",
+            id.as_str(),
+        ],
+    )?;
+    located(
+        alloc,
+        spot_at(Kind::Project, Field::ParentId, Some(place)),
+        said.as_str(),
+    )
+}
+
+/// That no project has the id.
+fn project_line(alloc: Global, written: &Written, id: &Id) -> Result<String, Memory>
+    ensures { IfOk result (λ made. string_bytes made ≡ absent_line written.now variant.Project id.now) }
+{
+    if let Some(place) = orphan_place(written.projects.as_slice(), id) {
+        return orphan_line(alloc, place, id);
+    }
+    let grant = grant_project(written.assignments.as_slice(), id);
+    absent_at(
+        alloc,
+        spot_at(Kind::Grant, Field::Project, grant),
+        Kind::Project,
+        id,
+    )
+}
+
+/// That no row of the kind has the id, which a row names.
+pub(crate) fn absent_line(
+    alloc: Global,
+    written: &Written,
+    kind: Kind,
+    id: &Id,
+) -> Result<String, Memory>
+    ensures { IfOk result (λ made. string_bytes made ≡ absent_line written.now kind id.now) }
+{
+    match kind {
+        Kind::Domain => absent_at(alloc, domain_spot(written, id), kind, id),
+        Kind::Project => project_line(alloc, written, id),
+        Kind::User => absent_at(alloc, user_spot(written, id), kind, id),
+        Kind::Group => absent_at(alloc, group_spot(written, id), kind, id),
+        Kind::Role => absent_at(alloc, role_spot(written, id), kind, id),
+        Kind::Implication | Kind::Grant | Kind::Member | Kind::Trust | Kind::Event => {
+            absent_at(alloc, None, kind, id)
+        }
+    }
+}
