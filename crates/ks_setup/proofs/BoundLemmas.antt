@@ -47,7 +47,7 @@ judged_ok path (Err misfit) a h = absurd (cc h)
 abbrev IsRounds : ℕ → Type 0
 IsRounds rounds = (1 ≤ rounds) × (rounds ≤ 100000)
 
-in_range : (least most n : ℕ) → is_in_range least most n ≡ true → (least ≤ n) × (n ≤ most)
+pub in_range : (least most n : ℕ) → is_in_range least most n ≡ true → (least ≤ n) × (n ≤ most)
 in_range least most n e =
     let both = and_parts (nat_le least n) (nat_le n most) e in
     let above = both.0 in

@@ -13,6 +13,7 @@ pub mod NameLemmas
 pub mod NumberLemmas
 pub mod OpeningLemmas
 pub mod OrphanLemmas
+pub mod RangeLemmas
 pub mod ReadLemmas
 pub mod TalkLemmas
 pub mod WalkLemmas

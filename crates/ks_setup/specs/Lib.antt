@@ -6,4 +6,5 @@ pub mod Spots
 pub mod Meetings
 pub mod RowLines
 pub mod FormLines
+pub mod Ranges
 pub mod Steps

@@ -1,6 +1,7 @@
 //! What holds of the definitions that the contracts cite. Each law is the contract of a function that
 //! does nothing.
 ghost use Rattle.std.specs.Prelude.{◌≡◌, ◌↔◌, ℕ, List, [], ◌∷◌, false, Some, codes};
+ghost use Rattle.ks_setup.specs.Ranges.{OpensInRange};
 ghost use Rattle.ks_setup.specs.Words.{folder_places, is_dashed, talk_places, words_of};
 ghost use Rattle.ks_setup.specs.declared.words.Places.{Places};
 ghost use Rattle.ks_setup.specs.declared.words.Words.TheVariants.{Check, Talk, Setup, Rotate};
@@ -30,4 +31,9 @@ pub fn setup_is_two_words()
 /// `rotate` with a folder alone leaves at most 3 keys.
 pub fn rotate_leaves_three()
     ensures { (folder : List ℕ) → is_dashed folder ≡ false → words_of (codes "rotate" ∷ folder ∷ []) ≡ Rotate (folder_places (Some folder)) 3 }
+{}
+
+/// The settings and rows of each opening are in range.
+pub fn openings_are_in_range()
+    ensures { OpensInRange }
 {}

@@ -1,0 +1,289 @@
+-- What a file of the right form opens with is in range.
+use Rattle.std.proofs.Common.{◌≡◌, ℕ, suc, Bool, true, false, List, [], ◌∷◌, length, Option, Some, None, Ok, Err, refl, sym, subst, arith}
+use Rattle.std.specs.Prelude.{Result, IfOk, IfSome, codes, if◌then◌else◌, option_and_then, take, unwrap_or}
+use Rattle.std.specs.Int.{IsInRange, is_in_range}
+use Rattle.std.specs.List.{AllByRecursion}
+use Rattle.std.proofs.lemmas.Bool.Decides.{nat_tests}
+use Rattle.serde_json.specs.Data.{Data, Items, no_items, item}
+use Rattle.serde_json.specs.Find.{as_number, as_u64}
+use Rattle.ks_base.specs.declared.limits.TheConstants.{DESCRIPTION_BYTES, NAME_BYTES}
+use Rattle.ks_base.specs.declared.shapes.ShapeFault.{ShapeFault}
+use Rattle.ks_machine.specs.declared.settings.Settings.{Settings}
+use Rattle.ks_machine.specs.Ranges.{AreRounds, IsDescription, IsDomainInRange, IsGroupInRange, IsName, IsProjectInRange, IsRoleInRange, IsSettings, IsUserInRange}
+use Rattle.ks_shape.specs.declared.misfit.Misfit.{Misfit}
+use Rattle.ks_shape.specs.declared.misfit.Misfit.TheVariants as misfit
+use Rattle.ks_shape.specs.Bodies.{whole_document}
+use Rattle.ks_shape.specs.Fields.{FieldType, if_given, judged, needed, needed_value, optional, optional_value}
+use Rattle.ks_shape.specs.Places.{Place, entry_at, names, path_at}
+use Rattle.ks_shape.specs.Readings.{◌>>=◌, found, need}
+use Rattle.ks_shape.specs.Types.{any_text, description_text, id_text, list_of, name_text, password_text, text_of, truth, whole}
+use Rattle.ks_setup.specs.declared.written.Written.{Written}
+use Rattle.ks_setup.specs.declared.written.WrittenUser.{WrittenUser}
+use Rattle.ks_setup.specs.Entries.{Entry, entries, entries_from, if_listed, listed, most_bytes}
+use Rattle.ks_setup.specs.Openings.{password_row, users_from}
+use Rattle.ks_setup.specs.Ranges.{OpensInRange}
+use Rattle.ks_setup.specs.Written.{default_domain, default_settings, document_of, domain_in, file_of, grant_in, group_in, implication_in, is_folder, keys_of, member_in, project_in, role_in, settings_at, settings_in, settings_of, user_in, written_in}
+use Rattle.ks_setup.proofs.BoundLemmas.{in_range}
+
+-- what is read behind a reading has a property where it has it whatever that reading gives, and where what it gives has another
+skip : {A B F : Type 0} (Q : B → Type 0) (r : Result A F) (f : A → Result B F) → ((a : A) → IfOk (f a) Q) → IfOk (r >>= f) Q
+skip Q (Ok a) f on = on a
+skip Q (Err fault) f on = tt
+
+step : {A B F : Type 0} (Q : B → Type 0) (P : A → Type 0) (r : Result A F) (f : A → Result B F)
+    → IfOk r P → ((a : A) → P a → IfOk (f a) Q) → IfOk (r >>= f) Q
+step Q P (Ok a) f is on = on a is
+step Q P (Err fault) f is on = tt
+
+weaken : {A F : Type 0} (Q P : A → Type 0) (r : Result A F) → IfOk r P → ((a : A) → P a → Q a) → IfOk r Q
+weaken Q P (Ok a) is on = on a is
+weaken Q P (Err fault) is on = tt
+
+-- fields
+
+judged_in : {A : Type 0} (P : A → Type 0) (path : List ℕ) (r : Result A Misfit) → IfOk r P → IfOk (judged path r) P
+judged_in P path (Ok a) is = is
+judged_in P path (Err misfit) is = tt
+
+needed_in : {A : Type 0} (P : A → Type 0) (type : FieldType A) → ((value : Data) → IfOk (type value) P)
+    → (names : List (List ℕ)) (place : Place) → IfOk (needed type names place) P
+unfolding needed
+needed_in P type each names place =
+    skip P (needed_value names place) _ (λ value. judged_in P (path_at names place) (type value) (each value))
+
+abbrev If : {A : Type 0} → (A → Type 0) → Option A → Type 0
+If P value = IfSome value P
+
+given_in : {A : Type 0} (P : A → Type 0) (type : FieldType A) → ((value : Data) → IfOk (type value) P)
+    → (value : Option Data) → IfOk (if_given type value) (If P)
+given_in P type each None = tt
+given_in P type each (Some value) = step (If P) P (type value) (λ a. Ok (Some a)) (each value) (λ a is. is)
+
+optional_in : {A : Type 0} (P : A → Type 0) (type : FieldType A) → ((value : Data) → IfOk (type value) P)
+    → (names : List (List ℕ)) (place : Place) → IfOk (optional type names place) (If P)
+unfolding optional
+optional_in P type each names place =
+    skip (If P) (optional_value names place) _
+    (λ value. judged_in (If P) (path_at names place) (if_given type value) (given_in P type each value))
+
+-- what stands for an absent field has the property too
+or_else : {A : Type 0} (P : A → Type 0) (value : Option A) (other : A) → IfSome value P → P other → P (unwrap_or value other)
+or_else P (Some a) other is stands = is
+or_else P None other is stands = stands
+
+text_by : (least most : ℕ) (text : List ℕ) (fits : Bool) → is_in_range least most (length text) ≡ fits
+    → IfOk (need fits misfit.Range >>= (λ _. Ok text)) (λ t. IsInRange least most (length t))
+text_by least most text true is = in_range least most (length text) is
+text_by least most text false is = tt
+
+text_in : (least most : ℕ) (value : Data) → IfOk (text_of least most value) (λ text. IsInRange least most (length text))
+unfolding text_of
+text_in least most value = skip (λ t. IsInRange least most (length t)) (any_text value) _ (λ text. text_by least most text _ refl)
+
+name_is : (value : Data) → IfOk (name_text value) IsName
+name_is value = text_in 1 NAME_BYTES value
+
+description_is : (value : Data) → IfOk (description_text value) IsDescription
+description_is value =
+    weaken IsDescription (λ text. IsInRange 0 DESCRIPTION_BYTES (length text)) (description_text value) (text_in 0 DESCRIPTION_BYTES value) (λ text is. is.1)
+
+whole_by : (least most number : ℕ) (fits : Bool) → is_in_range least most number ≡ fits
+    → IfOk (need fits misfit.Range >>= (λ _. Ok number)) (IsInRange least most)
+whole_by least most number true is = in_range least most number is
+whole_by least most number false is = tt
+
+whole_is : (least most : ℕ) (value : Data) → IfOk (whole least most value) (IsInRange least most)
+unfolding whole
+whole_is least most value =
+    skip (IsInRange least most) (found (option_and_then as_u64 (as_number value)) misfit.Kind) _ (λ number. whole_by least most number _ refl)
+
+-- settings
+
+default_in : IsSettings default_settings
+default_in = record {
+  life_least = omega arith;
+  life_most = omega arith;
+  rounds = (omega arith, omega arith);
+  keys_least = omega arith;
+  keys_most = omega arith;
+}
+
+settings_in_range : (place : Place) → IfOk (settings_at place) IsSettings
+unfolding settings_at
+settings_in_range place =
+    skip IsSettings (optional any_text (names (codes "url")) place) _ (λ url.
+    step IsSettings (If (IsInRange 60 604800)) (optional (whole 60 604800) (names (codes "life")) place) _
+    (optional_in (IsInRange 60 604800) (whole 60 604800) (whole_is 60 604800) (names (codes "life")) place) (λ life is_life.
+    step IsSettings (If (IsInRange 1 100000)) (optional (whole 1 100000) (names (codes "rounds")) place) _
+    (optional_in (IsInRange 1 100000) (whole 1 100000) (whole_is 1 100000) (names (codes "rounds")) place) (λ rounds are_rounds.
+    step IsSettings (If (IsInRange 2 32)) (optional (whole 2 32) (names (codes "max_active_keys")) place) _
+    (optional_in (IsInRange 2 32) (whole 2 32) (whole_is 2 32) (names (codes "max_active_keys")) place) (λ most are_most.
+    let long = or_else (IsInRange 60 604800) life 3600 is_life (omega arith, omega arith) in
+    let many = or_else (IsInRange 1 100000) rounds 10000 are_rounds (omega arith, omega arith) in
+    let few = or_else (IsInRange 2 32) most 3 are_most (omega arith, omega arith) in
+    record { life_least = long.0; life_most = long.1; rounds = many; keys_least = few.0; keys_most = few.1 }))))
+
+given_settings : (value : Option Data) → IfOk (settings_in value) IsSettings
+given_settings None = default_in
+given_settings (Some value) = settings_in_range (record { path = codes "settings"; value = Some value })
+
+settings_are : (file : Place) → IfOk (settings_of file) IsSettings
+unfolding settings_of
+settings_are file = skip IsSettings (optional_value (names (codes "settings")) file) _ (λ value. given_settings value)
+
+-- rows
+
+domain_is : (entry : Place) → IfOk (domain_in entry) IsDomainInRange
+unfolding domain_in
+domain_is entry =
+    skip IsDomainInRange (needed id_text (names (codes "id")) entry) _ (λ id.
+    step IsDomainInRange IsName (needed name_text (names (codes "name")) entry) _ (needed_in IsName name_text name_is _ entry) (λ name is_name.
+    step IsDomainInRange (If IsDescription) (optional description_text (names (codes "description")) entry) _ (optional_in IsDescription description_text description_is _ entry) (λ description is.
+    skip IsDomainInRange (optional truth (names (codes "enabled")) entry) _ (λ enabled.
+    (is_name, or_else IsDescription description [] is (omega arith))))))
+
+project_is : (entry : Place) → IfOk (project_in entry) IsProjectInRange
+unfolding project_in
+project_is entry =
+    skip IsProjectInRange (needed id_text (names (codes "id")) entry) _ (λ id.
+    skip IsProjectInRange (needed id_text (names (codes "domain_id")) entry) _ (λ domain.
+    skip IsProjectInRange (optional id_text (names (codes "parent_id")) entry) _ (λ parent.
+    step IsProjectInRange IsName (needed name_text (names (codes "name")) entry) _ (needed_in IsName name_text name_is _ entry) (λ name is_name.
+    step IsProjectInRange (If IsDescription) (optional description_text (names (codes "description")) entry) _ (optional_in IsDescription description_text description_is _ entry) (λ description is.
+    skip IsProjectInRange (optional truth (names (codes "enabled")) entry) _ (λ enabled.
+    (is_name, or_else IsDescription description [] is (omega arith))))))))
+
+abbrev HasName : WrittenUser → Type 0
+HasName user = IsName user.name
+
+user_is : (entry : Place) → IfOk (user_in entry) HasName
+unfolding user_in
+user_is entry =
+    skip HasName (needed id_text (names (codes "id")) entry) _ (λ id.
+    skip HasName (needed id_text (names (codes "domain_id")) entry) _ (λ domain.
+    step HasName IsName (needed name_text (names (codes "name")) entry) _ (needed_in IsName name_text name_is _ entry) (λ name is_name.
+    skip HasName (optional truth (names (codes "enabled")) entry) _ (λ enabled.
+    skip HasName (optional password_text (names (codes "password")) entry) _ (λ password. is_name)))))
+
+group_is : (entry : Place) → IfOk (group_in entry) IsGroupInRange
+unfolding group_in
+group_is entry =
+    skip IsGroupInRange (needed id_text (names (codes "id")) entry) _ (λ id.
+    skip IsGroupInRange (needed id_text (names (codes "domain_id")) entry) _ (λ domain.
+    step IsGroupInRange IsName (needed name_text (names (codes "name")) entry) _ (needed_in IsName name_text name_is _ entry) (λ name is_name.
+    step IsGroupInRange (If IsDescription) (optional description_text (names (codes "description")) entry) _ (optional_in IsDescription description_text description_is _ entry) (λ description is.
+    (is_name, or_else IsDescription description [] is (omega arith))))))
+
+role_is : (entry : Place) → IfOk (role_in entry) IsRoleInRange
+unfolding role_in
+role_is entry =
+    skip IsRoleInRange (needed id_text (names (codes "id")) entry) _ (λ id.
+    step IsRoleInRange IsName (needed name_text (names (codes "name")) entry) _ (needed_in IsName name_text name_is _ entry) (λ name is_name.
+    step IsRoleInRange (If IsDescription) (optional description_text (names (codes "description")) entry) _ (optional_in IsDescription description_text description_is _ entry) (λ description is.
+    (is_name, or_else IsDescription description [] is (omega arith)))))
+
+-- lists
+
+abbrev Are : {A : Type 0} → (A → Type 0) → List A → Type 0
+Are P rows = AllByRecursion P rows
+
+from_in : {A : Type 0} (P : A → Type 0) (entry : Entry A) → ((place : Place) → IfOk (entry place) P)
+    → (names : List (List ℕ)) (file : Place) (number : ℕ) (items : Items) → IfOk (entries_from entry names file number items) (Are P)
+unfolding entries_from
+from_in P entry each names file number no_items = tt
+from_in P entry each names file number (item value items) =
+    step (Are P) P (entry (entry_at names number value file)) _ (each _) (λ first is.
+    step (Are P) (Are P) (entries_from entry names file (suc number) items) _ (from_in P entry each names file (suc number) items) (λ others are.
+    (is, are)))
+
+if_in : {A : Type 0} (P : A → Type 0) (entry : Entry A) → ((place : Place) → IfOk (entry place) P)
+    → (names : List (List ℕ)) (file : Place) (items : Option Items) → IfOk (if_listed entry names file items) (If (Are P))
+if_in P entry each names file None = tt
+if_in P entry each names file (Some items) =
+    step (If (Are P)) (Are P) (entries_from entry names file 0 items) (λ rows. Ok (Some rows)) (from_in P entry each names file 0 items) (λ rows are. are)
+
+listed_in : {A : Type 0} (P : A → Type 0) (entry : Entry A) → ((place : Place) → IfOk (entry place) P)
+    → (names : List (List ℕ)) (file : Place) → IfOk (listed entry names file) (If (Are P))
+unfolding listed
+listed_in P entry each names file =
+    skip (If (Are P)) (optional (list_of most_bytes) names file) _ (λ items. if_in P entry each names file items)
+
+entries_in : {A : Type 0} (P : A → Type 0) (entry : Entry A) → ((place : Place) → IfOk (entry place) P)
+    → (names : List (List ℕ)) (file : Place) → IfOk (entries entry names file) (Are P)
+unfolding entries
+entries_in P entry each names file =
+    step (Are P) (If (Are P)) (listed entry names file) (λ rows. Ok (unwrap_or rows [])) (listed_in P entry each names file)
+    (λ rows are. or_else (Are P) rows [] are tt)
+
+-- the file
+
+record AreInRange (written : Written) : Type 0 where
+  settings : IsSettings written.settings
+  domains : Are IsDomainInRange written.domains
+  projects : Are IsProjectInRange written.projects
+  users : Are HasName written.users
+  groups : Are IsGroupInRange written.groups
+  roles : Are IsRoleInRange written.roles
+
+with_folder : (settings : Settings) (folder : Bool) → IsSettings settings → IsSettings (record settings { folder = folder })
+with_folder settings folder is = record {
+  life_least = is.life_least;
+  life_most = is.life_most;
+  rounds = is.rounds;
+  keys_least = is.keys_least;
+  keys_most = is.keys_most;
+}
+
+default_domain_is : Are IsDomainInRange (default_domain ∷ [])
+default_domain_is = (((omega arith, omega arith), omega arith), tt)
+
+written_are : (file : Place) → IfOk (written_in file) AreInRange
+unfolding written_in
+written_are file =
+    step AreInRange IsSettings (settings_of file) _ (settings_are file) (λ settings are_settings.
+    skip AreInRange (keys_of file) _ (λ keys.
+    step AreInRange (If (Are IsDomainInRange)) (listed domain_in (names (codes "domains")) file) _ (listed_in IsDomainInRange domain_in domain_is _ file) (λ domains are_domains.
+    step AreInRange (Are IsProjectInRange) (entries project_in (names (codes "projects")) file) _ (entries_in IsProjectInRange project_in project_is _ file) (λ projects are_projects.
+    step AreInRange (Are HasName) (entries user_in (names (codes "users")) file) _ (entries_in HasName user_in user_is _ file) (λ users are_users.
+    step AreInRange (Are IsGroupInRange) (entries group_in (names (codes "groups")) file) _ (entries_in IsGroupInRange group_in group_is _ file) (λ groups are_groups.
+    skip AreInRange (entries member_in (names (codes "members")) file) _ (λ members.
+    step AreInRange (Are IsRoleInRange) (entries role_in (names (codes "roles")) file) _ (entries_in IsRoleInRange role_in role_is _ file) (λ roles are_roles.
+    skip AreInRange (entries implication_in (names (codes "implications")) file) _ (λ implications.
+    skip AreInRange (entries grant_in (names (codes "assignments")) file) _ (λ assignments.
+    record {
+      settings = with_folder settings (is_folder keys) are_settings;
+      domains = or_else (Are IsDomainInRange) domains (default_domain ∷ []) are_domains default_domain_is;
+      projects = are_projects;
+      users = are_users;
+      groups = are_groups;
+      roles = are_roles;
+    }))))))))))
+
+file_are : (text : List ℕ) → IfOk (file_of text) AreInRange
+unfolding file_of
+file_are text = skip AreInRange (document_of text) _ (λ value. written_are (whole_document value))
+
+-- the opening
+
+password_is : (rounds : ℕ) (password : Option (List ℕ)) (salt : List ℕ) → AreRounds rounds → IfSome (password_row rounds password salt) (λ row. AreRounds row.rounds)
+password_is rounds None salt are = tt
+password_is rounds (Some password) salt are = are
+
+users_are : (rounds : ℕ) (users : List WrittenUser) (drawn : List ℕ) → AreRounds rounds → Are HasName users → Are IsUserInRange (users_from rounds users drawn)
+unfolding users_from
+users_are rounds [] drawn many are = tt
+users_are rounds (user ∷ users) drawn many are =
+    ((are.0, password_is rounds user.password (take 16 drawn) many), users_are rounds users _ many are.1)
+
+pub opens_in_range : OpensInRange
+opens_in_range text held drawn opening opens =
+    let written = opens.written in
+    let said : AreInRange written = subst (λ (r : Result Written ShapeFault). IfOk r AreInRange) opens.form (file_are text) in
+    record {
+      settings = subst IsSettings (sym opens.settings) said.settings;
+      domains = subst (Are IsDomainInRange) (sym opens.domains) said.domains;
+      projects = subst (Are IsProjectInRange) (sym opens.projects) said.projects;
+      users = subst (Are IsUserInRange) (sym opens.users) (users_are written.settings.rounds written.users drawn said.settings.rounds said.users);
+      groups = subst (Are IsGroupInRange) (sym opens.groups) said.groups;
+      roles = subst (Are IsRoleInRange) (sym opens.roles) said.roles;
+    }
