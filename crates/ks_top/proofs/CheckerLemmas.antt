@@ -22,6 +22,8 @@ held_ends fault.Memory bytes old new h = (h, tt)
 held_ends fault.Usage bytes old new h = absurd h
 held_ends fault.Folder bytes old new h = absurd h
 held_ends (fault.Keys reason) bytes old new h = absurd h
+held_ends (fault.Opening reason) bytes old new h = absurd h
+held_ends (fault.State reason) bytes old new h = absurd h
 held_ends fault.Desk bytes old new h = absurd h
 held_ends fault.Read bytes old new h = absurd h
 held_ends fault.Write bytes old new h = absurd h
@@ -78,6 +80,8 @@ stands_line (Err fault.Memory) whole last rest old new written before h inside e
 stands_line (Err fault.Usage) whole last rest old new written before h inside ends = absurd ends.0
 stands_line (Err fault.Folder) whole last rest old new written before h inside ends = absurd ends.0
 stands_line (Err (fault.Keys reason)) whole last rest old new written before h inside ends = absurd ends.0
+stands_line (Err (fault.Opening reason)) whole last rest old new written before h inside ends = absurd ends.0
+stands_line (Err (fault.State reason)) whole last rest old new written before h inside ends = absurd ends.0
 stands_line (Err fault.Desk) whole last rest old new written before h inside ends = absurd ends.0
 stands_line (Err fault.Read) whole last rest old new written before h inside ends = absurd ends.0
 stands_line (Err fault.Write) whole last rest old new written before h inside ends = absurd ends.0
@@ -105,6 +109,8 @@ stands_hold (Err fault.Memory) whole bytes old new written before h inside held 
 stands_hold (Err fault.Usage) whole bytes old new written before h inside held = absurd held
 stands_hold (Err fault.Folder) whole bytes old new written before h inside held = absurd held
 stands_hold (Err (fault.Keys reason)) whole bytes old new written before h inside held = absurd held
+stands_hold (Err (fault.Opening reason)) whole bytes old new written before h inside held = absurd held
+stands_hold (Err (fault.State reason)) whole bytes old new written before h inside held = absurd held
 stands_hold (Err fault.Desk) whole bytes old new written before h inside held = absurd held
 stands_hold (Err fault.Read) whole bytes old new written before h inside held = absurd held
 stands_hold (Err fault.Write) whole bytes old new written before h inside held = absurd held
@@ -191,6 +197,8 @@ finish_line (Err fault.Memory) whole old new written before h inside long ends f
 finish_line (Err fault.Usage) whole old new written before h inside long ends forward = absurd ends.0
 finish_line (Err fault.Folder) whole old new written before h inside long ends forward = absurd ends.0
 finish_line (Err (fault.Keys reason)) whole old new written before h inside long ends forward = absurd ends.0
+finish_line (Err (fault.Opening reason)) whole old new written before h inside long ends forward = absurd ends.0
+finish_line (Err (fault.State reason)) whole old new written before h inside long ends forward = absurd ends.0
 finish_line (Err fault.Desk) whole old new written before h inside long ends forward = absurd ends.0
 finish_line (Err fault.Read) whole old new written before h inside long ends forward = absurd ends.0
 finish_line (Err fault.Write) whole old new written before h inside long ends forward = absurd ends.0
@@ -203,6 +211,8 @@ moves_err fault.Memory whole rest rest' checker written before h = h
 moves_err fault.Usage whole rest rest' checker written before h = absurd h
 moves_err fault.Folder whole rest rest' checker written before h = absurd h
 moves_err (fault.Keys reason) whole rest rest' checker written before h = absurd h
+moves_err (fault.Opening reason) whole rest rest' checker written before h = absurd h
+moves_err (fault.State reason) whole rest rest' checker written before h = absurd h
 moves_err fault.Desk whole rest rest' checker written before h = absurd h
 moves_err fault.Read whole rest rest' checker written before h = absurd h
 moves_err fault.Write whole rest rest' checker written before h = h
@@ -318,6 +328,8 @@ stops_at fault.Memory n piece text left left' old new written written' before r 
 stops_at fault.Usage n piece text left left' old new written written' before r taken moves = absurd moves
 stops_at fault.Folder n piece text left left' old new written written' before r taken moves = absurd moves
 stops_at (fault.Keys reason) n piece text left left' old new written written' before r taken moves = absurd moves
+stops_at (fault.Opening reason) n piece text left left' old new written written' before r taken moves = absurd moves
+stops_at (fault.State reason) n piece text left left' old new written written' before r taken moves = absurd moves
 stops_at fault.Desk n piece text left left' old new written written' before r taken moves = absurd moves
 stops_at fault.Read n piece text left left' old new written written' before r taken moves = absurd moves
 
@@ -355,6 +367,8 @@ finishes (Err fault.Memory) piece text left left' old new written before r taken
 finishes (Err fault.Usage) piece text left left' old new written before r taken ends = absurd ends
 finishes (Err fault.Folder) piece text left left' old new written before r taken ends = absurd ends
 finishes (Err (fault.Keys reason)) piece text left left' old new written before r taken ends = absurd ends
+finishes (Err (fault.Opening reason)) piece text left left' old new written before r taken ends = absurd ends
+finishes (Err (fault.State reason)) piece text left left' old new written before r taken ends = absurd ends
 finishes (Err fault.Desk) piece text left left' old new written before r taken ends = absurd ends
 finishes (Err fault.Read) piece text left left' old new written before r taken ends = absurd ends
 finishes (Err fault.Write) piece text left left' old new written before r taken ends = absurd ends
@@ -395,6 +409,8 @@ closes (Err fault.Write) text before left written written' old new h wrote other
 closes (Err fault.Usage) text before left written written' old new h wrote others = absurd h
 closes (Err fault.Folder) text before left written written' old new h wrote others = absurd h
 closes (Err (fault.Keys reason)) text before left written written' old new h wrote others = absurd h
+closes (Err (fault.Opening reason)) text before left written written' old new h wrote others = absurd h
+closes (Err (fault.State reason)) text before left written written' old new h wrote others = absurd h
 closes (Err fault.Desk) text before left written written' old new h wrote others = absurd h
 
 -- the last answers could not be written
@@ -446,6 +462,8 @@ closes_short (Err fault.Write) failed text before left written written' old new 
 closes_short (Err fault.Usage) failed text before left written written' old new h wrote others = absurd h
 closes_short (Err fault.Folder) failed text before left written written' old new h wrote others = absurd h
 closes_short (Err (fault.Keys reason)) failed text before left written written' old new h wrote others = absurd h
+closes_short (Err (fault.Opening reason)) failed text before left written written' old new h wrote others = absurd h
+closes_short (Err (fault.State reason)) failed text before left written written' old new h wrote others = absurd h
 closes_short (Err fault.Desk) failed text before left written written' old new h wrote others = absurd h
 
 -- nothing was read and nothing written

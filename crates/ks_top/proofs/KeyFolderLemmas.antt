@@ -78,6 +78,8 @@ setup_said random files before now (Err fault.Read) drawn made says = absurd say
 setup_said random files before now (Err (fault.BadLine n)) drawn made says = absurd says
 setup_said random files before now (Err fault.Folder) drawn made says = absurd says
 setup_said random files before now (Err (fault.Keys reason)) drawn made says = absurd says
+setup_said random files before now (Err (fault.Opening reason)) drawn made says = absurd says
+setup_said random files before now (Err (fault.State reason)) drawn made says = absurd says
 setup_said random files before now (Err fault.Desk) drawn made says = absurd says
 
 pub setup_refused : (random : List ℕ) (files : List KeyFile) (before : List ℕ) (now : Outside) (fault : KeysFault) → HasDrawn 64 random now.random
@@ -123,6 +125,8 @@ rotation_said max random files before now indices (Err fault.Read) drawn made sa
 rotation_said max random files before now indices (Err (fault.BadLine n)) drawn made says = absurd says
 rotation_said max random files before now indices (Err fault.Folder) drawn made says = absurd says
 rotation_said max random files before now indices (Err (fault.Keys reason)) drawn made says = absurd says
+rotation_said max random files before now indices (Err (fault.Opening reason)) drawn made says = absurd says
+rotation_said max random files before now indices (Err (fault.State reason)) drawn made says = absurd says
 rotation_said max random files before now indices (Err fault.Desk) drawn made says = absurd says
 
 pub rotation_refused : (max : ℕ) (random : List ℕ) (files : List KeyFile) (before : List ℕ) (now : Outside) (fault : KeysFault) → HasDrawn 32 random now.random

@@ -2,4 +2,6 @@ pub mod LineLemmas
 pub mod CheckLemmas
 pub mod CheckerLemmas
 pub mod KeyFolderLemmas
-mod TalkLemmas
+pub mod OpeningLemmas
+pub mod TalkLemmas
+pub mod RunLemmas

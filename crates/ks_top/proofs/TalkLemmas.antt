@@ -1,232 +1,183 @@
--- How a talk moves on from request to request, and how it ends.
-use Rattle.std.proofs.Common.{◌≡◌, ◌⊎◌, inl, inr, ℕ, ◌+◌, ◌<◌, ◌==◌, Bool, true, false, ◌||◌, List, [], ◌∷◌, ◌++◌, length, Option, Some, Result, Ok, Err, refl, sym, ap, subst, ◌∙◌, arith, length-append, append_assoc, append-nil}
+-- A talk, from an opening to the end of its connection.
+use Rattle.std.proofs.Common.{◌≡◌, ℕ, ◌+◌, ◌⊎◌, inl, inr, List, length, Option, Some, refl, sym, ap, ◌∙◌, subst, arith}
+use Rattle.std.specs.declared.convert.Infallible.{Infallible}
 use Rattle.std.proofs.lemmas.Bool.Decides.{nat_tests}
-use Rattle.ks_http.proofs.RequestLemmas.{first_more, first_then, first_read}
-use Rattle.ks_outside.specs.Streams.{Begins}
-use Rattle.ks_http.specs.declared.cause.HttpCause.{HttpCause}
-use Rattle.ks_http.specs.declared.cause.HttpCause.TheVariants.{Malformed}
-use Rattle.ks_http.specs.declared.ending.Ending.TheVariants as ending
-use Rattle.ks_http.specs.declared.request.Request.{Request}
-use Rattle.ks_http.specs.Next.{IsFirst, IsRefused, IsCut, IsBegun, Ends, Requests, Close, asked, last, ended, bad, none, refused, cut, closes, fills}
-use Rattle.ks_http.specs.Requests.{AreFirst}
-use Rattle.ks_http.specs.Responses.{memory_response}
-use Rattle.ks_render.specs.Answers.{wire_bad}
+use Rattle.ks_machine.specs.declared.settings.OpenFault.{OpenFault}
+use Rattle.ks_machine.specs.declared.settings.OpenFault.TheVariants as state
+use Rattle.ks_machine.specs.Fronts.{Front}
+use Rattle.ks_machine.specs.Opened.{open_fault}
+use Rattle.ks_machine.specs.Openings.{PlainOpening}
+use Rattle.ks_outside.specs.Counts.{Counts}
+use Rattle.ks_outside.specs.Desks.{DeskState}
+use Rattle.ks_outside.specs.Files.{DirState, OnlyLooks}
+use Rattle.ks_outside.specs.Streams.{OnlyReads, StreamState}
+use Rattle.ks_server.specs.declared.closed.Closed.{Closed}
+use Rattle.ks_server.specs.declared.closed.Closed.TheVariants as closed
+use Rattle.ks_server.specs.Exchanges.{Exchange, made}
+use Rattle.ks_server.specs.Sessions.{EndsSession}
+use Rattle.ks_server.specs.Ties.{KeepsLinks}
+use Rattle.ks_server.specs.Work.{Moves}
+use Rattle.ks_server.specs.Work as work
+use Rattle.ks_state.specs.Opening.{first_front}
+use Rattle.ks_state.specs.Shown.{Shown}
+use Rattle.ks_state.specs.Standing.{Stands, StandsWithAllKept}
 use Rattle.ks_top.specs.declared.fault.Fault.{Fault}
 use Rattle.ks_top.specs.declared.fault.Fault.TheVariants as fault
-use Rattle.ks_top.specs.Talk.{answer_to, answers_to, ends_with, last_word, Talked, ReadShort, IsNextWord, refusal, cut as cut_word, memory, WroteShort, EndsTalk}
-use Rattle.ks_top.specs.steps.Talking.{Writes, GivesUp, StandsBehind}
+use Rattle.ks_top.specs.Opened.{IsOpening, StopsOpening}
+use Rattle.ks_top.specs.Talk.{Served, Stopped, Talked, ending}
+use Rattle.ks_top.specs.World.{World}
+use Rattle.ks_top.specs.steps.Openings.{of_state}
+use Rattle.ks_turn.specs.Passes.{Ends, Passed, first_pass}
+use Rattle.ks_turn.specs.Sums.{below, times}
 
-pub answers_more : (count : ℕ) (requests : List Request) (request : Request) →
-    answers_to count (requests ++ request ∷ []) ≡ answers_to count requests ++ answer_to (count + length requests) request
-unfolding answers_to
-answers_more count [] request =
-    let same : count ≡ count + length {A = Request} [] = omega arith in
-    append-nil _ ∙ ap (λ n. answer_to n request) same
-answers_more count (r ∷ requests) request =
-    let same : (count + 1) + length requests ≡ count + length (r ∷ requests) = omega arith in
-    ap (λ l. answer_to count r ++ l) (answers_more (count + 1) requests request ∙ ap (λ n. answers_to (count + 1) requests ++ answer_to n request) same)
-    ∙ sym (append_assoc (answer_to count r) (answers_to (count + 1) requests) (answer_to (count + length (r ∷ requests)) request))
+-- counts
 
-pub starts : (text before : List ℕ) (left written : Option (List ℕ)) → left ≡ Some text → written ≡ Some before →
-    StandsBehind text before 0 [] left written
-unfolding answers_to
-starts text before left written left_is written_is = record {
-  requests = [];
-  rest = text;
-  left_is = left_is;
-  first = refl;
-  count_is = refl;
-  written_is = written_is ∙ ap Some (sym (append-nil before));
+pub counts_for : (P Q : Type 0) (before after : ℕ) → (Q → P) → Counts P before after → Counts Q before after
+counts_for P Q before after from counts = record { kept = counts.kept; rose = λ q. counts.rose (from q) }
+
+pub reads_for : (P Q : Type 0) (old new : StreamState) → (Q → P) → OnlyReads P old new → OnlyReads Q old new
+reads_for P Q old new from reads = record {
+  reads = counts_for P Q old.read_faults new.read_faults from reads.reads;
+  written = reads.written;
+  writes = reads.writes;
+  names = reads.names;
 }
 
-pub gives_up : (f : Fault) (input before : List ℕ) (count : ℕ) (held : List ℕ) (left left' written written' : Option (List ℕ)) →
-    (h : StandsBehind input before count held left written) → GivesUp (before ++ answers_to 0 h.requests) written' f →
-    EndsTalk input before left' written' (Err f)
-gives_up fault.Memory input before count held left left' written written' h wrote = record {
-  requests = h.requests;
-  behind = held ++ h.rest;
-  first = h.first;
-  written_is = wrote ∙ ap Some (append_assoc before (answers_to 0 h.requests) memory_response);
-}
-gives_up fault.Write input before count held left left' written written' h wrote = record {
-  requests = h.requests;
-  behind = held ++ h.rest;
-  first = h.first;
-  word = memory_response;
-  is_next = memory;
-  part = wrote.0;
-  begins = wrote.1;
-  written_is = wrote.2 ∙ ap Some (append_assoc before (answers_to 0 h.requests) wrote.0);
-}
-gives_up fault.Read input before count held left left' written written' h wrote = absurd wrote
-gives_up fault.Usage input before count held left left' written written' h wrote = absurd wrote
-gives_up fault.Folder input before count held left left' written written' h wrote = absurd wrote
-gives_up (fault.Keys reason) input before count held left left' written written' h wrote = absurd wrote
-gives_up fault.Desk input before count held left left' written written' h wrote = absurd wrote
-gives_up (fault.BadLine n) input before count held left left' written written' h wrote = absurd wrote
+pub looks_for : (P Q : Type 0) (old new : DirState) → (Q → P) → OnlyLooks P old new → OnlyLooks Q old new
+looks_for P Q old new from looks = record { files = looks.files; faults = counts_for P Q old.faults new.faults from looks.faults }
 
-wrote_short : (input before : List ℕ) (count : ℕ) (held : List ℕ) (left written written' : Option (List ℕ)) →
-    (h : StandsBehind input before count held left written) → (word : List ℕ) → IsNextWord count (held ++ h.rest) word →
-    (part : List ℕ) → Begins part word → written' ≡ Some ((before ++ answers_to 0 h.requests) ++ part) → WroteShort input before written'
-wrote_short input before count held left written written' h word next part begins wrote = record {
-  requests = h.requests;
-  behind = held ++ h.rest;
-  first = h.first;
-  word = word;
-  is_next = subst (λ n. IsNextWord n (held ++ h.rest) word) (sym h.count_is) next;
-  part = part;
-  begins = begins;
-  written_is = wrote ∙ ap Some (append_assoc before (answers_to 0 h.requests) part);
-}
+-- the changes that were made
 
-pub stops : (f : Fault) (input before : List ℕ) (count : ℕ) (held : List ℕ) (left left' written written' : Option (List ℕ)) →
-    (h : StandsBehind input before count held left written) → (word : List ℕ) → IsNextWord count (held ++ h.rest) word →
-    Writes word (before ++ answers_to 0 h.requests) written' (Err f) → EndsTalk input before left' written' (Err f)
-stops fault.Memory input before count held left left' written written' h word next wrote = record {
-  requests = h.requests;
-  behind = held ++ h.rest;
-  first = h.first;
-  written_is = wrote ∙ ap Some (append_assoc before (answers_to 0 h.requests) memory_response);
-}
-stops fault.Write input before count held left left' written written' h word next wrote = elim wrote.1 [
-  | inl begins ↦ wrote_short input before count held left written written' h word next wrote.0 begins wrote.2
-  | inr begins ↦ wrote_short input before count held left written written' h memory_response memory wrote.0 begins wrote.2
-]
-stops fault.Read input before count held left left' written written' h word next wrote = absurd wrote
-stops fault.Usage input before count held left left' written written' h word next wrote = absurd wrote
-stops fault.Folder input before count held left left' written written' h word next wrote = absurd wrote
-stops (fault.Keys reason) input before count held left left' written written' h word next wrote = absurd wrote
-stops fault.Desk input before count held left left' written written' h word next wrote = absurd wrote
-stops (fault.BadLine n) input before count held left left' written written' h word next wrote = absurd wrote
+below_none : (n : ℕ) → below n 0 ≡ 0
+below_none n = grind (arith, nat_tests)
 
--- the answers so far and one more
-written_more : (before : List ℕ) (count : ℕ) (requests : List Request) (request : Request) → length requests ≡ count →
-    (before ++ answers_to 0 requests) ++ answer_to count request ≡ before ++ answers_to 0 (requests ++ request ∷ [])
-written_more before count requests request count_is =
-    let same : count ≡ 0 + length requests = omega (arith, count_is) in
-    append_assoc before (answers_to 0 requests) (answer_to count request)
-    ∙ ap (λ l. before ++ l) (ap (λ n. answers_to 0 requests ++ answer_to n request) same ∙ sym (answers_more 0 requests request))
+made_once : (opening : PlainOpening) (pass after : Passed) (xs : List Exchange) → Moves (first_pass pass.turn (first_front opening)) after xs → Ends (first_front opening) after
+    → (n : ℕ) → times n (made after.seen xs) ≡ below n (length after.seen.changes)
+made_once opening pass after xs moves ends n =
+    let own : times n after.own ≡ times n (made after.seen xs) = ap (times n) moves.own in
+    let whole : times n after.own + below n 0 ≡ below n (length after.seen.changes) = ends.own n in
+    let none = below_none n in
+    omega (arith, own, whole, none)
 
-not_full : (count : ℕ) → count < 1000000 → (count + 1 == 1000000) ≡ false → count + 1 < 1000000
-not_full count few e = grind (arith, nat_tests)
+-- the first pass of a turn, by the turn that it is of
+pub first_is : (turn : _) (pass : Passed) (named front : Front) → pass ≡ first_pass turn named → named ≡ front → pass ≡ first_pass pass.turn front
+first_is turn pass named front is same =
+    let of : pass.turn ≡ turn = ap (λ (p : Passed). p.turn) is in
+    is ∙ ap (first_pass turn) same ∙ ap (λ t. first_pass t front) (sym of)
 
-full : (count : ℕ) → (count + 1 == 1000000) ≡ true → count + 1 ≡ 1000000
-full count e = grind (arith, nat_tests)
+-- the connection
 
-or_false : (a b : Bool) → (a || b) ≡ false → (a ≡ false) × (b ≡ false)
-or_false true b h = cc h
-or_false false b h = (refl, h)
+-- the link is over these ends
+pub record IsLink (link input output : StreamState) : Type 0 where
+  pub left : link.left ≡ input.left
+  pub written : link.written ≡ output.written
+  pub reads : link.read_faults ≡ input.read_faults
+  pub writes : link.write_faults ≡ output.write_faults
 
-pub fewer : (count : ℕ) (request : Request) → count < 1000000 → ends_with count request ≡ false → count + 1 < 1000000
-fewer count request few goes = not_full count few (or_false request.close (count + 1 == 1000000) goes).1
+told_by : {Link : Type 0} (old new : World Link) (link link_after : StreamState) (journal : Front) (xs : List Exchange) (why : Closed Infallible)
+    → IsLink link old.input old.output → IsLink link_after new.input new.output
+    → ((text before : List ℕ) → link.left ≡ Some text → link.written ≡ Some before → EndsSession journal text before link_after.left link_after.written xs why)
+    → (text before : List ℕ) → old.input.left ≡ Some text → old.output.written ≡ Some before → EndsSession journal text before new.input.left new.output.written xs why
+told_by old new link link_after journal xs why is is_after told text before left written =
+    subst (λ r. EndsSession journal text before new.input.left r xs why) is_after.written
+    (subst (λ r. EndsSession journal text before r link_after.written xs why) is_after.left
+    (told text before (is.left ∙ left) (is.written ∙ written)))
 
-pub moves_on : (input before : List ℕ) (count : ℕ) (held held' : List ℕ) (left left' written written' : Option (List ℕ)) (request : Request) →
-    (h : StandsBehind input before count held left written) → (rest : List ℕ) → left' ≡ Some rest → IsFirst (held ++ h.rest) request (held' ++ rest) →
-    ends_with count request ≡ false → count < 1000000 → written' ≡ Some ((before ++ answers_to 0 h.requests) ++ answer_to count request) →
-    StandsBehind input before (count + 1) held' left' written'
-moves_on input before count held held' left left' written written' request h rest left_is first goes few wrote =
-    let fewer_is = fewer count request few goes in
-    let count_is = h.count_is in
+counts_at : (P : Type 0) (a b c d : ℕ) → a ≡ c → b ≡ d → Counts P a b → Counts P c d
+counts_at P a b c d first second counts = subst (λ n. Counts P n d) first (subst (Counts P a) second counts)
+
+pub talked : {Link : Type 0} (old new : World Link) (opening : PlainOpening) (opened : DeskState Link) (pass after : Passed) (why : Closed Infallible) (link link_after : StreamState)
+    → pass ≡ first_pass pass.turn (first_front opening)
+    → (serves : work.Serves pass after opened new.desk old.place new.place 0 link link_after why)
+    → KeepsLinks opened new.desk → Ends (first_front opening) after
+    → IsLink link old.input old.output → IsLink link_after new.input new.output
+    → Talked old new opening opened after.seen serves.exchanges why
+talked old new opening opened pass after why link link_after first serves links ends is is_after =
+    let moves : Moves (first_pass pass.turn (first_front opening)) after serves.exchanges = subst (λ p. Moves p after serves.exchanges) first serves.works.moves in
     record {
-      requests = h.requests ++ request ∷ [];
-      rest = rest;
-      left_is = left_is;
-      first = first_more 0 input h.requests (held ++ h.rest) request (held' ++ rest) h.first first (or_false request.close (count + 1 == 1000000) goes).0 (omega (arith, count_is, fewer_is));
-      count_is = length-append h.requests (request ∷ []) ∙ omega (arith, count_is);
-      written_is = wrote ∙ ap Some (written_more before count h.requests request h.count_is);
+      numbered = serves.numbered;
+      in_order = moves.in_order;
+      alone = moves.alone refl;
+      made = made_once opening pass after serves.exchanges moves ends;
+      tied = serves.works.tied;
+      links = links;
+      told = told_by old new link link_after after.seen serves.exchanges why is is_after serves.told;
+      reads = counts_at (why ≡ closed.ReadFault) link.read_faults link_after.read_faults old.input.read_faults new.input.read_faults is.reads is_after.reads serves.reads;
+      writes = counts_at (why ≡ closed.WriteFault) link.write_faults link_after.write_faults old.output.write_faults new.output.write_faults is.writes is_after.writes serves.writes;
     }
 
-talked : (input before : List ℕ) (count : ℕ) (held : List ℕ) (left left' written written' : Option (List ℕ)) →
-    (h : StandsBehind input before count held left written) → (others : List Request) (close : Close) → Requests count (held ++ h.rest) others close →
-    (word : List ℕ) → answers_to 0 (h.requests ++ others) ++ last_word close ≡ answers_to 0 h.requests ++ word → written' ≡ Some ((before ++ answers_to 0 h.requests) ++ word) →
-    (close ≡ ended → left' ≡ Some []) → Talked input before left' written'
-talked input before count held left left' written written' h others close then word same wrote whole =
-    let count_is = h.count_is in
-    let counted : count ≡ 0 + length h.requests = omega (arith, count_is) in record {
-      requests = h.requests ++ others;
-      close = close;
-      are = first_then 0 input h.requests (held ++ h.rest) others close h.first (subst (λ n. Requests n (held ++ h.rest) others close) counted then);
-      written_is = wrote ∙ ap Some (append_assoc before (answers_to 0 h.requests) word ∙ ap (λ l. before ++ l) (sym same));
-      whole = whole;
-    }
+pub served : {Link : Type 0} {link link_after : StreamState} (old new : World Link) (opening : PlainOpening) (opened : DeskState Link) (pass after : Passed) (why : Closed Infallible) (f : Option Fault) (state : Shown)
+    → pass ≡ first_pass pass.turn (first_front opening)
+    → (serves : work.Serves pass after opened new.desk old.place new.place 0 link link_after why)
+    → KeepsLinks opened new.desk → Ends (first_front opening) after
+    → IsLink link old.input old.output → IsLink link_after new.input new.output
+    → StandsWithAllKept state after.seen → ending why f → Served old new opening opened f state
+served {link} {link_after} old new opening opened pass after why f state first serves links ends is is_after stands ended = inl (record {
+  journal = after.seen;
+  exchanges = serves.exchanges;
+  why = why;
+  stands = stands;
+  talked = talked old new opening opened pass after why link link_after first serves links ends is is_after;
+  ends = ended;
+})
 
-or_true : (a b : Bool) → (a || b) ≡ true → (a ≡ true) ⊎ ((a ≡ false) × (b ≡ true))
-or_true true b h = inl refl
-or_true false b h = inr (refl, h)
+-- an identity that is opened stands for the first front, in which nothing is to be kept
+pub all_kept : (shown : Shown) (opening : PlainOpening) → Stands shown (first_front opening) → StandsWithAllKept shown (first_front opening)
+all_kept shown opening stands = record { stands = stands; kept = refl }
 
-asked_goes_on : asked ≡ ended → ⊥
-asked_goes_on e = cc e
+-- what the file says is refused, or there was no memory
 
-last_goes_on : last ≡ ended → ⊥
-last_goes_on e = cc e
+told_fault : (refusal : Option OpenFault) (why : OpenFault) → (why ≡ state.Memory → ⊥) → (why ≡ state.Memory) ⊎ (refusal ≡ Some why) → refusal ≡ Some why
+told_fault refusal why other (inl memory) = absurd (other memory)
+told_fault refusal why other (inr is) = is
 
-bad_goes_on : (cause : HttpCause) → bad cause ≡ ended → ⊥
-bad_goes_on cause e = cc e
+refuses : {Link : Type 0} (file : StreamState) (dir : DirState) (old new : DeskState Link) (opening : PlainOpening) (why : OpenFault) → (why ≡ state.Memory → ⊥)
+    → IsOpening file dir old new opening → (why ≡ state.Memory) ⊎ (open_fault opening ≡ Some why) → StopsOpening file dir old new (fault.State why)
+refuses file dir old new opening why other opened told = (other, record { opening = opening; opened = opened; refused = told_fault (open_fault opening) why other told })
 
-one_more : (count : ℕ) (requests : List Request) (request : Request) → length requests ≡ count →
-    answers_to 0 (requests ++ request ∷ []) ++ [] ≡ answers_to 0 requests ++ answer_to count request
-one_more count requests request count_is =
-    let same : 0 + length requests ≡ count = omega (arith, count_is) in
-    append-nil _ ∙ answers_more 0 requests request ∙ ap (λ n. answers_to 0 requests ++ answer_to n request) same
+state_stops : {Link : Type 0} (file : StreamState) (dir : DirState) (old new : DeskState Link) (opening : PlainOpening) (why : OpenFault)
+    → IsOpening file dir old new opening → (why ≡ state.Memory) ⊎ (open_fault opening ≡ Some why) → StopsOpening file dir old new (of_state why)
+state_stops file dir old new opening state.Memory opened told = (opened.drawn, opened.drew)
+state_stops file dir old new opening (state.IdRepeated kind id) opened told = refuses file dir old new opening (state.IdRepeated kind id) (λ e. cc e) opened told
+state_stops file dir old new opening (state.Name kind id) opened told = refuses file dir old new opening (state.Name kind id) (λ e. cc e) opened told
+state_stops file dir old new opening (state.Absent kind id) opened told = refuses file dir old new opening (state.Absent kind id) (λ e. cc e) opened told
+state_stops file dir old new opening (state.TooDeep id) opened told = refuses file dir old new opening (state.TooDeep id) (λ e. cc e) opened told
+state_stops file dir old new opening (state.DisabledAbove id) opened told = refuses file dir old new opening (state.DisabledAbove id) (λ e. cc e) opened told
+state_stops file dir old new opening (state.Prohibited id) opened told = refuses file dir old new opening (state.Prohibited id) (λ e. cc e) opened told
+state_stops file dir old new opening (state.Full kind) opened told = refuses file dir old new opening (state.Full kind) (λ e. cc e) opened told
+state_stops file dir old new opening (state.Ring reason) opened told = refuses file dir old new opening (state.Ring reason) (λ e. cc e) opened told
 
-pub ends_last : (input before : List ℕ) (count : ℕ) (held rest : List ℕ) (left left' written written' : Option (List ℕ)) (request : Request) →
-    (h : StandsBehind input before count held left written) → IsFirst (held ++ h.rest) request rest →
-    ends_with count request ≡ true → written' ≡ Some ((before ++ answers_to 0 h.requests) ++ answer_to count request) → Talked input before left' written'
-ends_last input before count held rest left left' written written' request h first ends wrote = elim (or_true request.close (count + 1 == 1000000) ends) [
-  | inl asks ↦ talked input before count held left left' written written' h (request ∷ []) asked
-      (closes count (held ++ h.rest) rest request first asks) (answer_to count request) (one_more count h.requests request h.count_is) wrote (λ e. absurd (asked_goes_on e))
-  | inr fills_up ↦ talked input before count held left left' written written' h (request ∷ []) last
-      (fills count (held ++ h.rest) rest request first fills_up.0 (full count fills_up.1)) (answer_to count request) (one_more count h.requests request h.count_is) wrote (λ e. absurd (last_goes_on e))
-]
+-- no read failed, and the folder did not fail
 
-none_more : (requests : List Request) (word : List ℕ) → answers_to 0 (requests ++ []) ++ word ≡ answers_to 0 requests ++ word
-none_more requests word = ap (λ l. answers_to 0 l ++ word) (append-nil requests)
+unread : (why : OpenFault) → of_state why ≡ fault.Read → ⊥
+unread state.Memory e = cc e
+unread (state.IdRepeated kind id) e = cc e
+unread (state.Name kind id) e = cc e
+unread (state.Absent kind id) e = cc e
+unread (state.TooDeep id) e = cc e
+unread (state.DisabledAbove id) e = cc e
+unread (state.Prohibited id) e = cc e
+unread (state.Full kind) e = cc e
+unread (state.Ring reason) e = cc e
 
-pub ends_input : (input before : List ℕ) (count : ℕ) (held : List ℕ) (left left' written : Option (List ℕ)) →
-    (h : StandsBehind input before count held left written) → held ++ h.rest ≡ [] → left' ≡ Some [] → Talked input before left' written
-ends_input input before count held left left' written h nothing whole =
-    talked input before count held left left' written written h [] ended (subst (λ b. Requests count b [] ended) (sym nothing) (none count)) []
-    (none_more h.requests []) (h.written_is ∙ ap Some (sym (append-nil _))) (λ e. whole)
+unlisted : (why : OpenFault) → of_state why ≡ fault.Folder → ⊥
+unlisted state.Memory e = cc e
+unlisted (state.IdRepeated kind id) e = cc e
+unlisted (state.Name kind id) e = cc e
+unlisted (state.Absent kind id) e = cc e
+unlisted (state.TooDeep id) e = cc e
+unlisted (state.DisabledAbove id) e = cc e
+unlisted (state.Prohibited id) e = cc e
+unlisted (state.Full kind) e = cc e
+unlisted (state.Ring reason) e = cc e
 
-pub refused_ends : (result : Result (Unit {0}) Fault) (input before : List ℕ) (count : ℕ) (held : List ℕ) (left left' written written' : Option (List ℕ)) (cause : HttpCause) →
-    (h : StandsBehind input before count held left written) → IsRefused (held ++ h.rest) cause →
-    Writes (wire_bad cause) (before ++ answers_to 0 h.requests) written' result → EndsTalk input before left' written' result
-refused_ends (Ok done) input before count held left left' written written' cause h is wrote =
-    talked input before count held left left' written written' h [] (bad cause) (refused count (held ++ h.rest) cause is) (wire_bad cause)
-    (none_more h.requests (wire_bad cause)) wrote (λ e. absurd (bad_goes_on cause e))
-refused_ends (Err f) input before count held left left' written written' cause h is wrote =
-    stops f input before count held left left' written written' h (wire_bad cause) (refusal cause is) wrote
-
-pub cut_ends : (result : Result (Unit {0}) Fault) (input before : List ℕ) (count : ℕ) (held : List ℕ) (left left' written written' : Option (List ℕ)) →
-    (h : StandsBehind input before count held left written) → IsCut (held ++ h.rest) →
-    Writes (wire_bad Malformed) (before ++ answers_to 0 h.requests) written' result → EndsTalk input before left' written' result
-cut_ends (Ok done) input before count held left left' written written' h is wrote =
-    talked input before count held left left' written written' h [] (bad Malformed) (cut count (held ++ h.rest) is) (wire_bad Malformed)
-    (none_more h.requests (wire_bad Malformed)) wrote (λ e. absurd (bad_goes_on Malformed e))
-cut_ends (Err f) input before count held left left' written written' h is wrote =
-    stops f input before count held left left' written written' h (wire_bad Malformed) (cut_word is) wrote
-
-pub bad_ends : (result : Result (Unit {0}) Fault) (input before : List ℕ) (count : ℕ) (held : List ℕ) (left left' written written' : Option (List ℕ)) (cause : HttpCause) →
-    (h : StandsBehind input before count held left written) → Ends (held ++ h.rest) left' (ending.Bad cause) →
-    Writes (wire_bad cause) (before ++ answers_to 0 h.requests) written' result → EndsTalk input before left' written' result
-bad_ends result input before count held left left' written written' cause h ends wrote = elim ends [
-  | inl is ↦ refused_ends result input before count held left left' written written' cause h is wrote
-  | inr is ↦ cut_ends result input before count held left left' written written' h is.0
-      (subst (λ c. Writes (wire_bad c) (before ++ answers_to 0 h.requests) written' result) is.1 wrote)
-]
-
-pub reads_short : (input before : List ℕ) (count : ℕ) (held : List ℕ) (left left' written : Option (List ℕ)) →
-    (h : StandsBehind input before count held left written) → IsBegun (held ++ h.rest) left' → ReadShort input before left' written
-reads_short input before count held left left' written h begun =
-    let front = first_read 0 input h.requests begun.read begun.rest (subst (λ b. AreFirst 0 input h.requests b) begun.bytes_is h.first) in
-    record {
-      read = front.0;
-      rest = begun.rest;
-      input_is = front.1;
-      left_is = begun.left_is;
-      requests = h.requests;
-      behind = begun.read;
-      first = front.2;
-      begun = begun.begun;
-      written_is = h.written_is;
-    }
+pub state_stopped : {Link : Type 0} (old new : World Link) (opening : PlainOpening) (why : OpenFault)
+    → IsOpening old.file old.dir old.desk new.desk opening → (why ≡ state.Memory) ⊎ (open_fault opening ≡ Some why)
+    → OnlyReads ⊥ old.file new.file → OnlyLooks ⊥ old.dir new.dir → new ≡ record old { file = new.file; dir = new.dir; desk = new.desk }
+    → Stopped old new (of_state why)
+state_stopped old new opening why opened told reads looks others = record {
+  stops = state_stops old.file old.dir old.desk new.desk opening why opened told;
+  file = reads_for ⊥ (of_state why ≡ fault.Read) old.file new.file (unread why) reads;
+  folder = looks_for ⊥ (of_state why ≡ fault.Folder) old.dir new.dir (unlisted why) looks;
+  others = others;
+}

@@ -30,10 +30,8 @@ EndsCheck input before left written (Err fault.Usage) = ⊥
 EndsCheck input before left written (Err fault.Folder) = ⊥
 EndsCheck input before left written (Err (fault.Keys reason)) = ⊥
 EndsCheck input before left written (Err fault.Desk) = ⊥
-
--- there was no memory to read the words of the command line: nothing was read, and nothing written
-abbrev pub HasNotBegun : List ℕ → List ℕ → Option (List ℕ) → Option (List ℕ) → Result (Unit {0}) Fault → Type 0
-HasNotBegun input before left written ended = (ended ≡ Err fault.Memory) × (left ≡ Some input) × (written ≡ Some before)
+EndsCheck input before left written (Err (fault.Opening reason)) = ⊥
+EndsCheck input before left written (Err (fault.State reason)) = ⊥
 
 -- the faults of a command that only reads and writes
 abbrev pub IsStreamFault : Fault → Type 0
@@ -45,6 +43,8 @@ IsStreamFault fault.Usage = ⊥
 IsStreamFault fault.Folder = ⊥
 IsStreamFault (fault.Keys reason) = ⊥
 IsStreamFault fault.Desk = ⊥
+IsStreamFault (fault.Opening reason) = ⊥
+IsStreamFault (fault.State reason) = ⊥
 
 -- each fault has its status
 abbrev pub status_of : Option Fault → ℕ
@@ -54,6 +54,8 @@ status_of (Some fault.Read) = 3
 status_of (Some fault.Write) = 4
 status_of (Some fault.Memory) = 5
 status_of (Some (fault.BadLine n)) = 6
+status_of (Some (fault.Opening reason)) = 7
+status_of (Some (fault.State reason)) = 7
 status_of (Some fault.Folder) = 8
 status_of (Some (fault.Keys Failed)) = 8
 status_of (Some (fault.Keys NoKeys)) = 9

@@ -7,8 +7,6 @@ use Rattle.ks_outside.specs.Files.{KeyFile, indices_of}
 use Rattle.ks_outside.specs.Streams.{Begins}
 use Rattle.ks_keyfiles.specs.Setups.{IsSettingUp, set_up, setup_fault}
 use Rattle.ks_keyfiles.specs.Rotations.{IsRotating, rotated, rotation_fault}
-use Rattle.ks_setup.specs.declared.words.Words.{Words}
-use Rattle.ks_setup.specs.declared.words.Words.TheVariants as asked
 use Rattle.ks_top.specs.declared.fault.Fault.{Fault}
 use Rattle.ks_top.specs.declared.fault.Fault.TheVariants as fault
 
@@ -77,6 +75,8 @@ EndsSetup random files before now (Err (fault.Keys Memory)) = ⊥
 EndsSetup random files before now (Err fault.Usage) = ⊥
 EndsSetup random files before now (Err fault.Read) = ⊥
 EndsSetup random files before now (Err (fault.BadLine n)) = ⊥
+EndsSetup random files before now (Err (fault.Opening reason)) = ⊥
+EndsSetup random files before now (Err (fault.State reason)) = ⊥
 
 -- how a rotation ends that is to leave at most `max` keys
 abbrev pub EndsRotation : ℕ → List ℕ → List KeyFile → List ℕ → Outside → Result (Unit {0}) Fault → Type 0
@@ -103,6 +103,8 @@ EndsRotation max random files before now (Err (fault.Keys Memory)) = ⊥
 EndsRotation max random files before now (Err fault.Usage) = ⊥
 EndsRotation max random files before now (Err fault.Read) = ⊥
 EndsRotation max random files before now (Err (fault.BadLine n)) = ⊥
+EndsRotation max random files before now (Err (fault.Opening reason)) = ⊥
+EndsRotation max random files before now (Err (fault.State reason)) = ⊥
 
 -- the faults of both, told or not
 abbrev pub IsFolderFault : Fault → Type 0
@@ -120,11 +122,5 @@ IsFolderFault (fault.Keys Memory) = ⊥
 IsFolderFault fault.Usage = ⊥
 IsFolderFault fault.Read = ⊥
 IsFolderFault (fault.BadLine n) = ⊥
-
--- a command that changes the folder
-abbrev pub IsOnKeys : Words → Type 0
-IsOnKeys asked.Check = ⊥
-IsOnKeys (asked.Talk places) = ⊥
-IsOnKeys (asked.Setup places) = Unit {0}
-IsOnKeys (asked.Rotate places max) = Unit {0}
-IsOnKeys asked.Usage = ⊥
+IsFolderFault (fault.Opening reason) = ⊥
+IsFolderFault (fault.State reason) = ⊥

@@ -1,128 +1,97 @@
--- What `talk` writes for the requests of its input, and how it ends.
-use Rattle.std.specs.Prelude.{◌≡◌, ◌⊎◌, ℕ, ◌+◌, ◌==◌, Bool, true, false, ◌||◌, List, [], ◌∷◌, ◌++◌, length, Option, Some, Result, Ok, Err, codes}
-use Rattle.ks_base.specs.declared.method.Method.{Method}
-use Rattle.ks_base.specs.declared.method.Method.TheVariants as method
-use Rattle.ks_outside.specs.Streams.{Begins}
-use Rattle.ks_http.specs.declared.cause.HttpCause.{HttpCause}
-use Rattle.ks_http.specs.declared.cause.HttpCause.TheVariants.{Malformed}
-use Rattle.ks_http.specs.declared.request.Request.{Request}
-use Rattle.ks_http.specs.Next.{IsFirst, IsRefused, IsCut, Requests, Close, asked, last, ended, bad}
-use Rattle.ks_http.specs.Requests.{AreFirst}
-use Rattle.ks_http.specs.Responses.{memory_response}
-use Rattle.ks_machine.specs.declared.command.Command.{Command}
-use Rattle.ks_machine.specs.declared.command.Command.TheVariants as command
-use Rattle.ks_machine.specs.declared.body_out.BodyOut.TheVariants as body
-use Rattle.ks_machine.specs.declared.cause.Cause.TheVariants as cause
-use Rattle.ks_machine.specs.declared.reply.Reply.{Reply}
-use Rattle.ks_machine.specs.declared.reply.Reply.TheVariants as reply
-use Rattle.ks_render.specs.Answers.{wire, wire_bad}
-use Rattle.ks_routes.specs.declared.routed.Routed.{Routed}
-use Rattle.ks_routes.specs.declared.routed.Routed.TheVariants as routed
-use Rattle.ks_routes.specs.Routes.{command_of}
+-- What `talk` does: it opens an identity, serves one connection, and ends with the identity.
+use Rattle.std.specs.Prelude.{◌≡◌, ◌⊎◌, ℕ, List, Option, Some, None, length}
+use Rattle.std.specs.declared.convert.Infallible.{Infallible}
+use Rattle.ks_machine.specs.Fronts.{Front}
+use Rattle.ks_machine.specs.Opened.{open_fault}
+use Rattle.ks_machine.specs.Openings.{PlainOpening}
+use Rattle.ks_outside.specs.Counts.{Counts}
+use Rattle.ks_outside.specs.Desks.{DeskState}
+use Rattle.ks_outside.specs.Files.{OnlyLooks}
+use Rattle.ks_outside.specs.Streams.{OnlyReads}
+use Rattle.ks_server.specs.declared.closed.Closed.{Closed}
+use Rattle.ks_server.specs.declared.closed.Closed.TheVariants as closed
+use Rattle.ks_server.specs.Exchanges.{Exchange, bare, made}
+use Rattle.ks_server.specs.Orders.{Goes, GoesAlone}
+use Rattle.ks_server.specs.Sessions.{EndsSession}
+use Rattle.ks_server.specs.Ties.{AreNumbered, KeepsLinks, Tied}
+use Rattle.ks_state.specs.Opening.{first_front}
+use Rattle.ks_state.specs.Shown.{Shown}
+use Rattle.ks_state.specs.Standing.{StandsWithAllKept}
 use Rattle.ks_top.specs.declared.fault.Fault.{Fault}
 use Rattle.ks_top.specs.declared.fault.Fault.TheVariants as fault
+use Rattle.ks_top.specs.Opened.{IsOpening, StopsOpening}
+use Rattle.ks_top.specs.World.{World}
+use Rattle.ks_turn.specs.Sums.{below, times}
 
--- the public URL of the server, where nothing else is set
-abbrev pub default_url : List ℕ
-default_url = codes "http://127.0.0.1:5000"
+-- the fault that an end of a connection is
+abbrev pub ending : Closed Infallible → Option Fault → Type 0
+ending closed.End f = f ≡ None
+ending closed.Asked f = f ≡ None
+ending closed.Last f = f ≡ None
+ending (closed.BadHttp why) f = f ≡ None
+ending closed.ReadFault f = f ≡ Some fault.Read
+ending closed.WriteFault f = f ≡ Some fault.Write
+ending closed.Memory f = f ≡ Some fault.Memory
+ending (closed.KeeperFault never) f = ⊥
 
--- the machine behind the routes has the version document alone so far: all other commands have no route yet
-abbrev pub reply_to : Command → Reply
-reply_to command.Version = reply.Ok body.Version
-reply_to other = reply.Refused cause.NoRoute
+-- a talk of these exchanges over the identity of this opening, behind whose fills the desk was this, ended for this
+pub record Talked {Link : Type 0} (old new : World Link) (opening : PlainOpening) (opened : DeskState Link) (journal : Front) (xs : List Exchange) (why : Closed Infallible) : Type 0 where
+  -- the exchanges are numbered on the one connection, and go from the opening to the end of the journal
+  pub numbered : AreNumbered 0 0 xs
+  pub in_order : Goes journal (first_front opening) xs (bare journal)
+  -- each names the next event, at the greatest reading so far
+  pub alone : GoesAlone journal (first_front opening) xs
+  -- each change of the journal is the change of exactly one of them
+  pub made : (n : ℕ) → times n (made journal xs) ≡ below n (length journal.changes)
+  -- they are what the desk and its folder gave and took
+  pub tied : Tied opened new.desk old.place new.place xs
+  pub links : KeepsLinks opened new.desk
+  -- the bytes of their session were written
+  pub told : (text before : List ℕ) → old.input.left ≡ Some text → old.output.written ≡ Some before
+      → EndsSession journal text before new.input.left new.output.written xs why
+  -- a fault was counted
+  pub reads : Counts (why ≡ closed.ReadFault) old.input.read_faults new.input.read_faults
+  pub writes : Counts (why ≡ closed.WriteFault) old.output.write_faults new.output.write_faults
 
--- the machine's reply to a request by where its route leads
-abbrev pub reply_of : Routed → Reply
-reply_of (routed.Command command) = reply_to command
-reply_of (routed.Refused fault) = reply.Refused cause.NoRoute
-reply_of routed.NoRoute = reply.Refused cause.NoRoute
-reply_of (routed.NoMethod methods) = reply.Refused (cause.NoMethod methods)
-reply_of routed.Memory = reply.Refused cause.Memory
+-- the connection was served, and the identity stands for the end of its journal
+pub record Serves {Link : Type 0} (old new : World Link) (opening : PlainOpening) (opened : DeskState Link) (f : Option Fault) (state : Shown) : Type 0 where
+  pub journal : Front
+  pub exchanges : List Exchange
+  pub why : Closed Infallible
+  pub stands : StandsWithAllKept state journal
+  pub talked : Talked old new opening opened journal exchanges why
+  pub ends : ending why f
 
-abbrev pub is_head : Method → Bool
-is_head method.Head = true
-is_head _ = false
+-- there was no memory for a turn: the identity is as it was opened, and nothing was read or written
+pub record HadNoTurn {Link : Type 0} (old new : World Link) (opening : PlainOpening) (opened : DeskState Link) (f : Option Fault) (state : Shown) : Type 0 where
+  pub memory : f ≡ Some fault.Memory
+  pub stands : StandsWithAllKept state (first_front opening)
+  pub desk : new.desk ≡ opened
+  pub others : new ≡ record old { file = new.file; dir = new.dir; desk = new.desk }
 
--- the connection ends with a request that asks for it, and with the 1,000,000th
-abbrev pub ends_with : ℕ → Request → Bool
-ends_with count request = request.close || (count + 1 == 1000000)
+-- it was served, unless there was no memory for that
+abbrev pub Served : {Link : Type 0} → World Link → World Link → PlainOpening → DeskState Link → Option Fault → Shown → Type 0
+Served old new opening opened f state = Serves old new opening opened f state ⊎ HadNoTurn old new opening opened f state
 
--- the response to a request
-abbrev pub response_to : Request → Bool → List ℕ
-response_to request close = wire (reply_of (command_of request)) default_url (is_head request.method) close
+-- an identity was opened
+pub record Opened {Link : Type 0} (old new : World Link) (f : Option Fault) (state : Shown) : Type 0 where
+  pub opening : PlainOpening
+  pub desk : DeskState Link
+  pub opened : IsOpening old.file old.dir old.desk desk opening
+  pub lawful : open_fault opening ≡ None
+  pub file : OnlyReads ⊥ old.file new.file
+  pub folder : OnlyLooks ⊥ old.dir new.dir
+  pub served : Served old new opening desk f state
 
--- the response to the request behind `count` others
-abbrev pub answer_to : ℕ → Request → List ℕ
-answer_to count request = response_to request (ends_with count request)
+-- no identity was opened, for this fault; nothing was read of the input, and nothing written
+pub record Stopped {Link : Type 0} (old new : World Link) (f : Fault) : Type 0 where
+  pub stops : StopsOpening old.file old.dir old.desk new.desk f
+  pub file : OnlyReads (f ≡ fault.Read) old.file new.file
+  pub folder : OnlyLooks (f ≡ fault.Folder) old.dir new.dir
+  pub others : new ≡ record old { file = new.file; dir = new.dir; desk = new.desk }
 
-unfoldable pub answers_to : ℕ → List Request → List ℕ
-answers_to count [] = []
-answers_to count (request ∷ requests) = answer_to count request ++ answers_to (count + 1) requests
-
--- what follows the answers
-abbrev pub last_word : Close → List ℕ
-last_word asked = []
-last_word last = []
-last_word ended = []
-last_word (bad cause) = wire_bad cause
-
--- the answers to the requests of a connection in their order, and what follows them
-abbrev pub session : List Request → Close → List ℕ
-session requests close = answers_to 0 requests ++ last_word close
-
--- the whole session was written behind what was there before; where no request ended it, the input has ended
-pub record Talked (input before : List ℕ) (left written : Option (List ℕ)) : Type 0 where
-  pub requests : List Request
-  pub close : Close
-  pub are : Requests 0 input requests close
-  pub written_is : written ≡ Some (before ++ session requests close)
-  pub whole : close ≡ ended → left ≡ Some []
-
--- the input could not be read further: the answers to the requests that were read whole were written
-pub record ReadShort (input before : List ℕ) (left written : Option (List ℕ)) : Type 0 where
-  pub read : List ℕ
-  pub rest : List ℕ
-  pub input_is : input ≡ read ++ rest
-  pub left_is : left ≡ Some rest
-  pub requests : List Request
-  pub behind : List ℕ
-  pub first : AreFirst 0 read requests behind
-  pub begun : (behind ≡ []) ⊎ IsCut behind
-  pub written_is : written ≡ Some (before ++ answers_to 0 requests)
-
--- what comes next behind `count` answers, where these bytes are next
-pub data IsNextWord (count : ℕ) (bytes : List ℕ) : List ℕ → Type 0 where
-  answer : (request : Request) (rest : List ℕ) → IsFirst bytes request rest → IsNextWord count bytes (answer_to count request)
-  refusal : (cause : HttpCause) → IsRefused bytes cause → IsNextWord count bytes (wire_bad cause)
-  cut : IsCut bytes → IsNextWord count bytes (wire_bad Malformed)
-  memory : IsNextWord count bytes memory_response
-
--- the output took no more: what was written are the first answers, and the front of what came next
-pub record WroteShort (input before : List ℕ) (written : Option (List ℕ)) : Type 0 where
-  pub requests : List Request
-  pub behind : List ℕ
-  pub first : AreFirst 0 input requests behind
-  pub word : List ℕ
-  pub is_next : IsNextWord (length requests) behind word
-  pub part : List ℕ
-  pub begins : Begins part word
-  pub written_is : written ≡ Some (before ++ (answers_to 0 requests ++ part))
-
--- there was no more memory: what was written are the first answers and the response that says so
-pub record RanOut (input before : List ℕ) (written : Option (List ℕ)) : Type 0 where
-  pub requests : List Request
-  pub behind : List ℕ
-  pub first : AreFirst 0 input requests behind
-  pub written_is : written ≡ Some (before ++ (answers_to 0 requests ++ memory_response))
-
--- how a talk over an input ends, and what it then has written behind what was there before
-abbrev pub EndsTalk : List ℕ → List ℕ → Option (List ℕ) → Option (List ℕ) → Result (Unit {0}) Fault → Type 0
-EndsTalk input before left written (Ok done) = Talked input before left written
-EndsTalk input before left written (Err fault.Read) = ReadShort input before left written
-EndsTalk input before left written (Err fault.Write) = WroteShort input before written
-EndsTalk input before left written (Err fault.Memory) = RanOut input before written
-EndsTalk input before left written (Err fault.Usage) = ⊥
-EndsTalk input before left written (Err (fault.BadLine n)) = ⊥
-EndsTalk input before left written (Err fault.Folder) = ⊥
-EndsTalk input before left written (Err (fault.Keys reason)) = ⊥
-EndsTalk input before left written (Err fault.Desk) = ⊥
+-- what a talk does
+abbrev pub Talks : {Link : Type 0} → World Link → World Link → Option Fault → Option Shown → Type 0
+Talks old new (Some f) None = Stopped old new f
+Talks old new None None = ⊥
+Talks old new f (Some state) = Opened old new f state

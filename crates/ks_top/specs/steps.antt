@@ -1,3 +1,3 @@
 pub mod KeyCalls
+pub mod Openings
 pub mod Progress
-pub mod Talking

@@ -1,14 +1,18 @@
-use crate::checker::MOST_LINES;
+ghost use Rattle.std.specs.Prelude.{◌≡◌, Some};
+ghost use Rattle.ks_top.specs.Ending.{status_of};
+ghost use Rattle.ks_top.specs.steps.KeyCalls.{named};
+ghost use Rattle.ks_top.specs.steps.Openings.{of_opening, of_state};
+
 use ks_base::KeysFault;
-use std::error::Error;
-use std::fmt;
+use ks_machine::OpenFault;
+use ks_setup::OpeningFault;
 
 /// Why a command did not end whole.
-#[derive(Clone, Copy, Debug, PartialEq, Eq)]
+#[derive(Drop)]
 pub enum Fault {
     /// The words are not a command's.
     Usage,
-    /// The input could not be read.
+    /// The input or the opening file could not be read.
     Read,
     /// The output could not be written.
     Write,
@@ -16,6 +20,10 @@ pub enum Fault {
     Memory,
     /// The line of this number, counted from 1, is not in the grammar of `check`.
     BadLine(u64),
+    /// The opening file is refused. It is never `Random` or `Memory`: these are faults of their own.
+    Opening(OpeningFault),
+    /// What the opening file says is refused. It is never `Memory`.
+    State(OpenFault),
     /// The folder of the keys failed.
     Folder,
     /// The folder of the keys is refused. It is never `Failed` or `Memory`: these are faults of their own.
@@ -24,42 +32,65 @@ pub enum Fault {
     Desk,
 }
 
-const USAGE: &str =
-    "usage: ks check | ks talk FILE FOLDER | ks setup FOLDER | ks rotate FOLDER [--max N]";
-
-/// Why a folder of keys is refused.
-fn write_refusal<W: fmt::Write>(f: &mut fmt::Formatter<W>, fault: &KeysFault) -> fmt::Result {
-    match fault {
-        KeysFault::Failed => write!(f, "the key folder failed"),
-        KeysFault::NoKeys => write!(f, "the key folder has no key"),
-        KeysFault::BadKey(index) => write!(f, "file {index} of the key folder is no Fernet key"),
-        KeysFault::TooMany => write!(f, "the key folder has more than 32 keys"),
-        KeysFault::AlreadySet => write!(f, "the key folder has keys already"),
-        KeysFault::IndexEnd => write!(
-            f,
-            "the key folder has a file 999999999, and none can follow it"
-        ),
-        KeysFault::Memory => write!(f, "out of memory"),
-    }
-}
-
-impl fmt::Display for Fault {
-    fn fmt<W: fmt::Write>(&self, f: &mut fmt::Formatter<W>) -> fmt::Result {
+impl Fault {
+    /// The status of the process.
+    pub fn status(&self) -> u8
+        ensures { result ≡ status_of (Some self.now) }
+    {
         match self {
-            Fault::Usage => write!(f, "{USAGE}"),
-            Fault::Read => write!(f, "standard input could not be read"),
-            Fault::Write => write!(f, "standard output could not be written"),
-            Fault::Memory => write!(f, "out of memory"),
-            Fault::BadLine(1) => write!(f, "line 1 is not a Fernet key"),
-            Fault::BadLine(n) if *n > MOST_LINES => {
-                write!(f, "line {n} is behind the last that is read")
-            }
-            Fault::BadLine(n) => write!(f, "line {n} is not a moment, one space and a token"),
-            Fault::Folder => write!(f, "the key folder failed"),
-            Fault::Keys(fault) => write_refusal(f, fault),
-            Fault::Desk => write!(f, "there were no random bytes"),
+            Fault::Usage => 2,
+            Fault::Read => 3,
+            Fault::Write => 4,
+            Fault::Memory => 5,
+            Fault::BadLine(_) => 6,
+            Fault::Opening(_) | Fault::State(_) => 7,
+            Fault::Folder => 8,
+            Fault::Keys(fault) => keys_status(fault),
+            Fault::Desk => 10,
+        }
+    }
+
+    /// A fault of the keys, as one of the program.
+    pub(crate) fn of_keys(fault: KeysFault) -> Fault
+        ensures { result ≡ named fault }
+    {
+        match fault {
+            KeysFault::Failed => Fault::Folder,
+            KeysFault::Memory => Fault::Memory,
+            refusal => Fault::Keys(refusal),
+        }
+    }
+
+    /// A fault of the opening, as one of the program.
+    pub(crate) fn of_opening(fault: OpeningFault) -> Fault
+        ensures { result ≡ of_opening fault }
+    {
+        match fault {
+            OpeningFault::Random => Fault::Desk,
+            OpeningFault::Memory => Fault::Memory,
+            refusal => Fault::Opening(refusal),
+        }
+    }
+    /// A fault of what the file says, as one of the program.
+    pub(crate) fn of_state(fault: OpenFault) -> Fault
+        ensures { result ≡ of_state fault }
+    {
+        match fault {
+            OpenFault::Memory => Fault::Memory,
+            refusal => Fault::State(refusal),
         }
     }
 }
 
-impl Error for Fault {}
+/// The status of a process that a folder of keys ends.
+fn keys_status(fault: &KeysFault) -> u8
+    ensures { result ≡ status_of (Some (Fault.Keys fault.now)) }
+{
+    match fault {
+        KeysFault::Memory => 5,
+        KeysFault::Failed => 8,
+        KeysFault::NoKeys | KeysFault::BadKey(_) | KeysFault::TooMany => 9,
+        KeysFault::AlreadySet => 11,
+        KeysFault::IndexEnd => 12,
+    }
+}

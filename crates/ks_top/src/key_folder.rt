@@ -6,11 +6,11 @@ ghost use Rattle.ks_outside.specs.Desks.{Fills};
 ghost use Rattle.ks_outside.specs.Files.{KeyFile};
 ghost use Rattle.ks_outside.specs.Streams.{OnlyWrites};
 ghost use Rattle.ks_top.specs.KeyFolders.{EndsRotation, EndsSetup, IsFolderFault, OnlyDraws, key_from, keys_line};
-ghost use Rattle.ks_top.specs.steps.KeyCalls.{IsSayingFault, Says, named};
+ghost use Rattle.ks_top.specs.steps.KeyCalls.{IsSayingFault, Says};
 
 use crate::fault::Fault;
 use itoa::Buffer;
-use ks_base::{Key, KeysFault, Memory};
+use ks_base::{Key, Memory};
 use ks_keyfiles::{rotate_dir, setup};
 use ks_outside::{Desk, KeyDir, Sink, write_all};
 use std::alloc::Global;
@@ -36,7 +36,7 @@ pub fn set_up<D: KeyDir, P: Desk, K: Sink>(
     let (staged, primary) = bytes.split_at(32);
     match setup(dir, key_from(staged), key_from(primary)) {
         Ok(()) => say(output, b"keys 0 1\n"),
-        Err(fault) => Err(named(fault)),
+        Err(fault) => Err(Fault::of_keys(fault)),
     }
 }
 
@@ -63,7 +63,7 @@ pub fn rotate<D: KeyDir, P: Desk, K: Sink>(
     draw(desk, &mut bytes)?;
     match rotate_dir(dir, key_from(&bytes), max) {
         Ok(indices) => say_indices(alloc, output, indices.as_slice()),
-        Err(fault) => Err(named(fault)),
+        Err(fault) => Err(Fault::of_keys(fault)),
     }
 }
 
@@ -93,17 +93,6 @@ fn key_from(bytes: &[u8]) -> Key
     Key {
         signing,
         encryption,
-    }
-}
-
-/// A fault of the keys, as one of the program.
-fn named(fault: KeysFault) -> Fault
-    ensures { result ≡ named fault }
-{
-    match fault {
-        KeysFault::Failed => Fault::Folder,
-        KeysFault::Memory => Fault::Memory,
-        refusal => Fault::Keys(refusal),
     }
 }
 

@@ -5,8 +5,11 @@ mod answer;
 mod check;
 mod checker;
 mod fault;
+mod fault_lines;
 mod key_folder;
 mod lines;
+mod opening;
+mod outcome;
 mod program;
 mod talk;
 

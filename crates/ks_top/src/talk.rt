@@ -1,184 +1,125 @@
-ghost use Rattle.std.specs.Prelude.{◌≡◌, ◌≤◌, ◌<◌, ℕ, List, Some, IsErr, IsErrOf, IfOk, IfErr, ◌↔◌, ◌⊎◌};
-ghost use Rattle.ks_outside.specs.Streams.{OnlyReads, OnlyWrites};
-ghost use Rattle.ks_machine.specs.declared.reply.Reply.TheVariants as reply;
-ghost use Rattle.ks_machine.specs.Told.{IsTellable};
-ghost use Rattle.ks_render.specs.Answers.{response_of, wire_bad};
-ghost use Rattle.ks_routes.specs.Routes.{command_of};
-ghost use Rattle.ks_top.specs.Ending.{IsStreamFault};
-ghost use Rattle.ks_top.specs.Talk.{EndsTalk, default_url, ends_with, is_head, reply_of, reply_to, response_to};
-ghost use Rattle.ks_top.specs.steps.Talking.{GivesUp, Writes};
+//! One connection, served by an identity that an opening file gives.
+ghost use Rattle.std.specs.Prelude.{◌≡◌, ◌⊎◌, Some};
+ghost use Rattle.ks_outside.specs.Desks.{DeskState};
+ghost use Rattle.ks_outside.specs.Files.{DirState};
+ghost use Rattle.ks_outside.specs.Streams.{StreamState};
+ghost use Rattle.ks_policy.specs.Openings.{plain};
+ghost use Rattle.ks_state.specs.Opening.{first_front};
+ghost use Rattle.ks_state.specs.Standing.{StandsWithAllKept};
+ghost use Rattle.ks_top.specs.Talk.{Served, Talks, ending};
 
 use crate::fault::Fault;
-use ks_base::{Memory, Method, Text};
-use ks_http::{HttpCause, Next, Reader, Request, Response, write_memory, write_response};
-use ks_machine::{BodyOut, Cause, Command, Reply};
-use ks_outside::{Sink, Source};
-use ks_render::{render, render_bad};
-use ks_routes::{Routed, Routes};
-use std::alloc::Global;
+use crate::opening;
+use crate::outcome::Outcome;
+use ks_base::Text;
+use ks_outside::{Desk, KeyDir, Open, Pair, Sink, Source};
+use ks_policy::Opening;
+use ks_routes::Routes;
+use ks_server::{Closed, serve_connection};
+use ks_setup::openings_are_in_range;
+use ks_state::Identity;
+use ks_turn::{First, NoRoom, Turn};
+use std::convert::Infallible;
+use std::marker::Brand;
+use std::snapshot::Snapshot;
+use std::sync::Wait;
 
-/// How many requests a connection may have.
-const MOST_REQUESTS: u32 = 1_000_000;
-
-/// Answers the requests of an input on the output, each before the next one is read. The connection ends
-/// with the input, with a request that asks for it or is the 1,000,000th, or with bytes that are no
-/// request, which are answered too.
-pub fn talk<S: Source, K: Sink>(alloc: Global, input: &mut S, output: &mut K) -> Result<(), Fault>
-    ensures told { (text before : List ℕ) → (S.stream input.old).left ≡ Some text → (K.stream output.old).written ≡ Some before → EndsTalk text before (S.stream input.new).left (K.stream output.new).written result }
-    ensures causes { IfErr result IsStreamFault }
-    ensures reads { OnlyReads (IsErrOf result Fault.Read) (S.stream input.old) (S.stream input.new) }
-    ensures writes { OnlyWrites (IsErrOf result Fault.Write) (K.stream output.old) (K.stream output.new) }
+/// Opens an identity from the file, and from the folder `dir` where the file takes its keys from there, and serves one
+/// connection over the input and the output. The folder `place` is the one from which calls load keys.
+pub fn talk<R: AllocGlobal + Wait, S: Source, F: Source, K: Sink, D: KeyDir, P: Desk>(
+    rt: &R,
+    input: &mut S,
+    file: &mut F,
+    output: &mut K,
+    dir: &mut D,
+    desk: &mut P,
+    place: &mut D,
+) -> Outcome
+    ensures { Talks
+        (record { input = S.stream input.old; file = F.stream file.old; output = K.stream output.old; dir = D.dir dir.old; desk = P.desk desk.old; place = D.dir place.old })
+        (record { input = S.stream input.new; file = F.stream file.new; output = K.stream output.new; dir = D.dir dir.new; desk = P.desk desk.new; place = D.dir place.new })
+        result.fault result.state }
 {
-    let Ok(mut reader) = Reader::new(alloc) else {
-        return Err(give_up(output));
+    let alloc = rt.alloc();
+    let Ok(routes) = Routes::new(alloc) else {
+        return Outcome::stopped(Fault::Memory);
     };
-    let Ok(server) = Server::new(alloc) else {
-        return Err(give_up(output));
+    let opening = match opening::read(alloc, file, dir, desk) {
+        Ok(opening) => opening,
+        Err(fault) => return Outcome::stopped(fault),
     };
-    let mut count = 0;
-    'requests: loop {
-        match reader.next_request(alloc, input) {
-            Next::Request(request) => {
-                let last = is_last(&request, count);
-                server.answer(alloc, &request, last, output)?;
-                if last {
-                    return Ok(());
-                }
-                count += 1;
+    let Ok(url) = opening.settings.url.copy() else {
+        return Outcome::stopped(Fault::Memory);
+    };
+    let named = Snapshot::of(&opening);
+    openings_are_in_range();
+    match Identity::open(alloc, opening) {
+        Ok(identity) => {
+            let (fault, state) = serve::<Brand, R, S, K, D, P>(
+                rt, named, identity, &routes, &url, input, output, desk, place,
+            );
+            Outcome {
+                fault,
+                state: Some(state),
             }
-            Next::End => return Ok(()),
-            Next::Bad(cause) => return refuse(alloc, cause, output),
-            Next::ReadFault => return Err(Fault::Read),
-            Next::Memory => return Err(give_up(output)),
         }
+        Err(why) => Outcome::stopped(Fault::of_state(why)),
     }
 }
 
-/// What answers requests.
-#[derive(Drop)]
-struct Server {
-    routes: Routes,
-    /// The public URL.
-    url: Text,
-}
-
-impl Server {
-    /// A server with the default URL.
-    fn new(alloc: Global) -> Result<Server, Memory>
-        ensures { IfOk result (λ made. made.url ≡ default_url) }
-    {
-        Ok(Server {
-            routes: Routes::new(alloc)?,
-            url: default_url(alloc)?,
-        })
-    }
-
-    /// The response to a request by where its route leads.
-    fn response(
-        &self,
-        alloc: Global,
-        routed: Routed,
-        head: bool,
-        last: bool,
-    ) -> Result<Response, Memory>
-        ensures { IfOk result (λ made. made ≡ response_of (reply_of routed) self.now.url head last) }
-    {
-        let reply = reply(routed);
-        let made = render(alloc, &reply, &self.url, head, last);
-        drop(reply);
-        made
-    }
-
-    /// Writes the response to a request, which ends the connection where it is the last.
-    fn answer<K: Sink>(
-        &self,
-        alloc: Global,
-        request: &Request,
-        last: bool,
-        output: &mut K,
-    ) -> Result<(), Fault>
-        requires { self.now.url ≡ default_url }
-        ensures told { (before : List ℕ) → (K.stream output.old).written ≡ Some before → Writes (response_to request.now last) before (K.stream output.new).written result }
-        ensures others { IsErr result → IsErrOf result Fault.Write ⊎ IsErrOf result Fault.Memory }
-        ensures writes { OnlyWrites (IsErrOf result Fault.Write) (K.stream output.old) (K.stream output.new) }
-    {
-        let routed = self.routes.command(alloc, request);
-        if let Routed::Memory = routed {
-            return Err(give_up(output));
-        }
-        let head = matches!(request.method, Method::Head);
-        let Ok(response) = self.response(alloc, routed, head, last) else {
-            return Err(give_up(output));
-        };
-        let Ok(()) = write_response(output, &response) else {
-            return Err(Fault::Write);
-        };
-        Ok(())
-    }
-}
-
-/// The public URL of a server, where nothing else is set.
-fn default_url(alloc: Global) -> Result<Text, Memory>
-    ensures { IfOk result (λ made. made ≡ default_url) }
+/// Serves one connection by an identity that was opened with this.
+fn serve<N: First, R: AllocGlobal + Wait, S: Source, K: Sink, D: KeyDir, P: Desk>(
+    rt: &R,
+    opening: Snapshot<Opening>,
+    identity: Identity,
+    routes: &Routes,
+    url: &Text,
+    input: &mut S,
+    output: &mut K,
+    desk: &mut P,
+    place: &mut D,
+) -> (Option<Fault>, Identity)
+    requires front { N.front ≡ first_front (plain opening.value) }
+    requires stands { StandsWithAllKept identity N.front }
+    requires url { url.now ≡ opening.value.settings.url }
+    ensures { (before : DeskState P.Link) (file file_after : StreamState) (dir dir_after : DirState) → Served
+        (record { input = S.stream input.old; file = file; output = K.stream output.old; dir = dir; desk = before; place = D.dir place.old })
+        (record { input = S.stream input.new; file = file_after; output = K.stream output.new; dir = dir_after; desk = P.desk desk.new; place = D.dir place.new })
+        (plain opening.value) (P.desk desk.old) result.0 result.1 }
 {
-    Text::of(alloc, "http://127.0.0.1:5000")
-}
-
-/// Whether the connection ends with the request behind `count` others.
-fn is_last(request: &Request, count: u32) -> bool
-    requires { count < 1000000 }
-    ensures { result ≡ ends_with count request.now }
-{
-    request.close || count + 1 == MOST_REQUESTS
-}
-
-/// The machine's reply to a command.
-fn reply_to_command(command: Command) -> Reply
-    ensures reply { result ≡ reply_to command }
-    ensures told { IsTellable result }
-{
-    match command {
-        Command::Version => Reply::Ok(BodyOut::Version),
-        _ => Reply::Refused(Cause::NoRoute),
-    }
-}
-
-/// The machine's reply to a request by where its route leads.
-fn reply(routed: Routed) -> Reply
-    ensures reply { result ≡ reply_of routed }
-    ensures told { IsTellable result }
-{
-    match routed {
-        Routed::Command(command) => reply_to_command(command),
-        Routed::Refused(_) | Routed::NoRoute => Reply::Refused(Cause::NoRoute),
-        Routed::NoMethod(methods) => Reply::Refused(Cause::NoMethod(methods)),
-        Routed::Memory => Reply::Refused(Cause::Memory),
-    }
-}
-
-/// Writes the response to bytes that are no request.
-fn refuse<K: Sink>(alloc: Global, cause: HttpCause, output: &mut K) -> Result<(), Fault>
-    ensures told { (before : List ℕ) → (K.stream output.old).written ≡ Some before → Writes (wire_bad cause) before (K.stream output.new).written result }
-    ensures others { IsErr result → IsErrOf result Fault.Write ⊎ IsErrOf result Fault.Memory }
-    ensures writes { OnlyWrites (IsErrOf result Fault.Write) (K.stream output.old) (K.stream output.new) }
-{
-    let Ok(response) = render_bad(alloc, &cause) else {
-        return Err(give_up(output));
+    let (turn, pass) = match Turn::<Identity, N>::new(rt.alloc(), identity) {
+        Ok(made) => made,
+        Err(NoRoom { state }) => return (Some(Fault::Memory), state),
     };
-    let Ok(()) = write_response(output, &response) else {
-        return Err(Fault::Write);
+    let mut link = Pair {
+        source: input,
+        sink: output,
     };
-    Ok(())
+    let (pass, closed) = serve_connection(
+        rt.alloc(),
+        &turn,
+        rt,
+        pass,
+        desk,
+        place,
+        0,
+        &mut link,
+        &Open,
+        routes,
+        url,
+    );
+    (ending(closed), turn.close(pass))
 }
 
-/// Writes the response that says that there is no memory, which takes none.
-fn give_up<K: Sink>(output: &mut K) -> Fault
-    ensures told { (before : List ℕ) → (K.stream output.old).written ≡ Some before → GivesUp before (K.stream output.new).written result }
-    ensures others { (result ≡ Fault.Write) ⊎ (result ≡ Fault.Memory) }
-    ensures writes { OnlyWrites (result ≡ Fault.Write) (K.stream output.old) (K.stream output.new) }
+/// The fault that an end of the connection is, if it is one.
+fn ending(closed: Closed<Infallible>) -> Option<Fault>
+    ensures { ending closed result }
 {
-    let Ok(()) = write_memory(output) else {
-        return Fault::Write;
-    };
-    Fault::Memory
+    match closed {
+        Closed::End | Closed::Asked | Closed::Last | Closed::BadHttp(_) => None,
+        Closed::ReadFault => Some(Fault::Read),
+        Closed::WriteFault => Some(Fault::Write),
+        Closed::Memory => Some(Fault::Memory),
+        Closed::KeeperFault(never) => match never {},
+    }
 }

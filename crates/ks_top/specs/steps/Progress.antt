@@ -124,3 +124,5 @@ ReadsAll input left (Err fault.Usage) checker written before = ⊥
 ReadsAll input left (Err fault.Folder) checker written before = ⊥
 ReadsAll input left (Err (fault.Keys reason)) checker written before = ⊥
 ReadsAll input left (Err fault.Desk) checker written before = ⊥
+ReadsAll input left (Err (fault.Opening reason)) checker written before = ⊥
+ReadsAll input left (Err (fault.State reason)) checker written before = ⊥

@@ -18,5 +18,5 @@ returns-in-Err-clause-told g c = λ random before files drawn told written.
     let bytes : Drawn 64 random c.draw.new.into = record { long = search rules; enough = fills.0; are = fills.1 } in
     let staged : c.key_from.result ≡ staged_from random = c.key_from.ensures ∙ first_are random _ _ bytes c.split_at.ensures.front in
     let primary : c.key_from-2.result ≡ primary_from random = c.key_from-2.ensures ∙ others_are random _ _ bytes c.split_at.ensures.back in
-    rw c.named.ensures (setup_refused random files before _ c.in-Err.fault (has_drawn 64 random _ _ bytes fills.2)
+    rw c.of_keys.ensures (setup_refused random files before _ c.in-Err.fault (has_drawn 64 random _ _ bytes fills.2)
     (keys_are random files _ (Err c.in-Err.fault) c.key_from.result c.key_from-2.result staged primary (c.in-Err.ensures.told files told)) written)

@@ -1,82 +1,25 @@
-use Rattle.std.proofs.Common.{◌≡◌, [], ◌++◌, ap, sym, subst, ◌∙◌, arith, rules, Some, Err}
-use Rattle.std.proofs.lemmas.Result.{err_from_is_err_and}
-use Rattle.ks_top.specs.Talk.{answer_to, answers_to, response_to, answer}
-use Rattle.ks_top.specs.steps.Talking.{StandsBehind, Writes}
-use Rattle.ks_top.proofs.TalkLemmas.{starts, gives_up, stops, fewer, moves_on, ends_last, ends_input, bad_ends, reads_short}
+use Rattle.std.proofs.Common.{refl}
+use Rattle.ks_policy.specs.Openings.{plain}
+use Rattle.ks_top.proofs.TalkLemmas.{looks_for, reads_for, state_stopped}
 use Rattle.ks_top.proofs.talk.talk.Goals as goal
 
-pub returns-in_default-clause-told : goal.returns-in_default-clause-told
-returns-in_default-clause-told g c text before left_is written_is =
-    let h = starts text before _ _ left_is written_is in
-    gives_up c.give_up.result text before 0 [] _ _ _ _ h (c.give_up.ensures.told _ h.written_is)
+pub open-requires : goal.open-requires
+open-requires g c =
+    let o = c.in-Ok-read.ensures.opens in
+    record { range = c.openings_are_in_range.ensures o.text o.held o.drawn (plain c.in-Ok-read.opening) o.opens }
 
-pub returns-in_default-new-clause-told : goal.returns-in_default-new-clause-told
-returns-in_default-new-clause-told g c text before left_is written_is =
-    let h = starts text before _ _ left_is written_is in
-    gives_up c.give_up-in_default-new.result text before 0 [] _ _ _ _ h (c.give_up-in_default-new.ensures.told _ h.written_is)
-
-pub requests-init : goal.requests-init
-requests-init g c = record {
-  told = λ text before left_is written_is.
-      subst (λ held. StandsBehind text before 0 held (g.S.Stream.stream c.args.input.now).left (g.K.Stream.stream c.args.output.now).written)
-      (sym (ap (λ r. r.held) c.in-Ok.ensures)) (starts text before _ _ left_is written_is);
-  going_on = ap (λ r. r.over) c.in-Ok.ensures;
-  few = omega arith;
-  reads = search rules;
-  writes = search rules;
+pub returns-in-Ok-open : goal.returns-in-Ok-open
+returns-in-Ok-open g c = record {
+  opening = plain c.in-Ok-read.opening;
+  desk = g.P.Desk.desk c.read.new.desk;
+  opened = c.in-Ok-read.ensures.opens;
+  lawful = c.in-Ok-open.ensures.fault;
+  file = reads_for _ ⊥ _ _ (λ x. absurd x) c.in-Ok-read.ensures.reads;
+  folder = looks_for _ ⊥ _ _ (λ x. absurd x) c.in-Ok-read.ensures.looks;
+  served = rw c.of-named.ensures at (c.serve-fault.ensures (g.P.Desk.desk c.args.desk.now) (g.F.Stream.stream c.args.file.now) (g.F.Stream.stream c.read.new.file) (g.D.KeyDir.dir c.args.dir.now) (g.D.KeyDir.dir c.read.new.dir));
 }
 
-pub returns-in_err-answer-in-Request-clause-told : goal.returns-in_err-answer-in-Request-clause-told
-returns-in_err-answer-in-Request-clause-told g c text before left_is written_is =
-    let p = err_from_is_err_and c.from_residual.result c.from_residual.ensures.1 in
-    let h = c.requests.invariant.told text before left_is written_is in
-    let came = c.in-Request.ensures.told h.rest h.left_is c.requests.invariant.going_on in
-    let wrote = c.in_err-answer-in-Request.ensures.told _ h.written_is in
-    rw (p.1, p.2) (stops c.in_err-answer-in-Request.field-0.0 text before c.requests.count c.requests.reader.held _ _ _ _ h
-    (answer_to c.requests.count c.in-Request.request) (answer c.in-Request.request _ came.2) (subst (λ last. Writes (response_to c.in-Request.request last) (before ++ answers_to 0 h.requests) (g.K.Stream.stream c.answer.new.output).written (Err c.in_err-answer-in-Request.field-0.0)) c.is_last-last.ensures wrote))
-
-pub returns-then-last-clause-told : goal.returns-then-last-clause-told
-returns-then-last-clause-told g c text before left_is written_is =
-    let h = c.requests.invariant.told text before left_is written_is in
-    let came = c.in-Request.ensures.told h.rest h.left_is c.requests.invariant.going_on in
-    let wrote = c.in_ok-answer-in-Request.ensures.told _ h.written_is in
-    ends_last text before c.requests.count c.requests.reader.held _ _ _ _ _ c.in-Request.request h came.2
-    (sym c.is_last-last.ensures ∙ c.if-last.true) (subst (λ last. (g.K.Stream.stream c.answer.new.output).written ≡ Some ((before ++ answers_to 0 h.requests) ++ response_to c.in-Request.request last)) c.is_last-last.ensures wrote)
-
-pub requests-preserved : goal.requests-preserved
-requests-preserved g c =
-    let few = c.requests.invariant.few in
-    record {
-      told = λ text before left_is written_is.
-          let h = c.requests.invariant.told text before left_is written_is in
-          let came = c.in-Request.ensures.told h.rest h.left_is c.requests.invariant.going_on in
-          let wrote = c.in_ok-answer-in-Request.ensures.told _ h.written_is in
-          (moves_on text before c.requests.count c.requests.reader.held c.next_request.new.self.held _ _ _ _ c.in-Request.request h
-          came.0 came.1 came.2 (sym c.is_last-last.ensures ∙ c.if-last.false) few (subst (λ last. (g.K.Stream.stream c.answer.new.output).written ≡ Some ((before ++ answers_to 0 h.requests) ++ response_to c.in-Request.request last)) c.is_last-last.ensures wrote));
-      going_on = c.in-Request.ensures.ending c.requests.invariant.going_on;
-      few = fewer c.requests.count c.in-Request.request few (sym c.is_last-last.ensures ∙ c.if-last.false);
-      reads = search rules;
-      writes = search rules;
-    }
-
-pub returns-in-End-clause-told : goal.returns-in-End-clause-told
-returns-in-End-clause-told g c text before left_is written_is =
-    let h = c.requests.invariant.told text before left_is written_is in
-    let ended = c.in-End.ensures.told h.rest h.left_is c.requests.invariant.going_on in
-    ends_input text before c.requests.count c.requests.reader.held _ _ _ h ended.0 ended.1
-
-pub returns-in-Bad-clause-told : goal.returns-in-Bad-clause-told
-returns-in-Bad-clause-told g c text before left_is written_is =
-    let h = c.requests.invariant.told text before left_is written_is in
-    bad_ends c.refuse.result text before c.requests.count c.requests.reader.held _ _ _ _ c.in-Bad.cause h
-    (c.in-Bad.ensures.told h.rest h.left_is c.requests.invariant.going_on) (c.refuse.ensures.told _ h.written_is)
-
-pub returns-in-Memory-clause-told : goal.returns-in-Memory-clause-told
-returns-in-Memory-clause-told g c text before left_is written_is =
-    let h = c.requests.invariant.told text before left_is written_is in
-    gives_up c.give_up-in-Memory.result text before c.requests.count c.requests.reader.held _ _ _ _ h (c.give_up-in-Memory.ensures.told _ h.written_is)
-
-pub returns-in-ReadFault-clause-told : goal.returns-in-ReadFault-clause-told
-returns-in-ReadFault-clause-told g c text before left_is written_is =
-    let h = c.requests.invariant.told text before left_is written_is in
-    reads_short text before c.requests.count c.requests.reader.held _ _ _ h (c.in-ReadFault.ensures.told h.rest h.left_is c.requests.invariant.going_on)
+pub returns : goal.returns
+returns g c =
+    rw (c.stopped-in-Err-open.ensures.fault, c.stopped-in-Err-open.ensures.state, c.of_state.ensures) (state_stopped _ _ (plain c.in-Ok-read.opening) c.in-Err-open.why c.in-Ok-read.ensures.opens c.in-Err-open.ensures.fault
+    (reads_for _ ⊥ _ _ (λ x. absurd x) c.in-Ok-read.ensures.reads) (looks_for _ ⊥ _ _ (λ x. absurd x) c.in-Ok-read.ensures.looks) refl)

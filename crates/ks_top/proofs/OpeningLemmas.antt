@@ -1,0 +1,190 @@
+-- How an opening is read: the text of the file, the keys of the folder, and what is refused.
+use Rattle.std.proofs.Common.{◌≡◌, ℕ, ◌<◌, ◌+◌, Bool, true, false, List, [], ◌++◌, length, take, drop, Option, Some, None, Ok, Err, refl, sym, ap, ◌∙◌, arith, inl, inr, ⊎_elim, append_assoc, append-nil, length-append}
+use Rattle.std.proofs.lemmas.List.{take-append-drop}
+use Rattle.std.specs.Prelude.{Result, nat_le}
+use Rattle.std.proofs.lemmas.Bool.Decides.{nat_tests}
+use Rattle.ks_base.specs.declared.faults.KeysFault.{KeysFault}
+use Rattle.ks_base.specs.declared.faults.KeysFault.TheVariants as keys
+use Rattle.ks_base.specs.declared.key.Key.{Key}
+use Rattle.ks_base.specs.declared.shapes.ShapeFault.{ShapeFault}
+use Rattle.ks_base.specs.declared.shapes.ShapeFault.TheVariants as shape
+use Rattle.ks_outside.specs.Desks.{DeskState}
+use Rattle.ks_outside.specs.Files.{DirState}
+use Rattle.ks_outside.specs.Streams.{StreamState, Takes}
+use Rattle.ks_policy.specs.declared.opening.Opening.{Opening}
+use Rattle.ks_policy.specs.Openings.{plain}
+use Rattle.ks_setup.specs.declared.opening.OpeningFault.{OpeningFault}
+use Rattle.ks_setup.specs.declared.opening.OpeningFault.TheVariants as refusal
+use Rattle.ks_setup.specs.declared.written.Written.{Written}
+use Rattle.ks_setup.specs.Entries.{most_bytes}
+use Rattle.ks_setup.specs.Openings.{AnswersOpening, Drew}
+use Rattle.ks_setup.specs.Written.{document_of, file_of, folder_wanted}
+use Rattle.ks_top.specs.declared.fault.Fault.{Fault}
+use Rattle.ks_top.specs.declared.fault.Fault.TheVariants as fault
+use Rattle.ks_top.specs.Opened.{AreHeld, IsOpening, IsText, RefusesFolder, RefusesForm, StopsOpening}
+use Rattle.ks_top.specs.steps.Openings.{HasRead, IsRead, IsReadFault, IsWhole, RefusesKeys, StopsHeld, of_opening}
+
+-- a desk from which nothing was drawn
+pub drew_none : {Link : Type 0} (desk : DeskState Link) → Drew desk desk []
+drew_none desk = record { told = λ bytes is. (bytes, refl, is); kept = refl; count = omega arith }
+
+-- reading the file
+
+pub read_none : (told : List ℕ) (left : Option (List ℕ)) → left ≡ Some told → HasRead told [] left
+read_none told left is = (told, refl, is)
+
+pub read_more : (told text piece rest : List ℕ) (n : ℕ) (left : Option (List ℕ)) → told ≡ text ++ rest → Takes rest left piece n → HasRead told (text ++ take n piece) left
+read_more told text piece rest n left is takes =
+    (drop n rest, is ∙ ap (λ xs. text ++ xs) (sym (take-append-drop n rest)) ∙ sym (append_assoc text (take n rest) (drop n rest)) ∙ ap (λ xs. (text ++ xs) ++ drop n rest) (sym takes.given), takes.rest)
+
+pub read_whole : (told text piece rest : List ℕ) (left : Option (List ℕ)) → told ≡ text ++ rest → Takes rest left piece 0 → IsWhole told text
+read_whole told text piece rest left is takes = inl (is ∙ ap (λ xs. text ++ xs) (takes.ended refl) ∙ append-nil text)
+
+pub read_long : (told text : List ℕ) (left : Option (List ℕ)) → HasRead told text left → most_bytes < length text → IsWhole told text
+read_long told text left read long = inr (long, (read.0, read.1))
+
+-- a file that is longer than an opening file may be is refused as such
+
+long_test : (n : ℕ) → most_bytes < n → nat_le n most_bytes ≡ false
+long_test n long = grind (arith, nat_tests)
+
+document_long : (text : List ℕ) → most_bytes < length text → document_of text ≡ Err (shape.Range [])
+unfolding document_of
+document_long text long = rw (long_test (length text) long) refl
+
+file_long : (text : List ℕ) → most_bytes < length text → file_of text ≡ Err (shape.Range [])
+unfolding file_of
+file_long text long = rw (document_long text long) refl
+
+formed_short : (text : List ℕ) (written : Written) → file_of text ≡ Ok written → (most_bytes < length text) → ⊥
+formed_short text written formed long = absurd (cc (sym formed ∙ file_long text long))
+
+longer : (told text rest : List ℕ) → told ≡ text ++ rest → most_bytes < length text → most_bytes < length told
+longer told text rest is long =
+    let count : length told ≡ length text + length rest = ap length is ∙ length-append text rest in
+    omega (arith, count, long)
+
+-- a text of the right form was read whole
+pub formed_text : (file : StreamState) (text : List ℕ) (written : Written) → IsRead file text → file_of text ≡ Ok written → IsText text file
+formed_text file text written read formed told left =
+    ⊎_elim (λ same. same) (λ more. absurd (formed_short text written formed more.0)) (read told left)
+
+-- and where a form is refused, the whole text is refused for the same
+
+same_reason : (a b : ShapeFault) (text other : List ℕ) → file_of text ≡ Err a → file_of text ≡ Err b → file_of other ≡ Err b → file_of other ≡ Err a
+same_reason a b text other one two three = three ∙ (sym two ∙ one)
+
+some_same : (a b : List ℕ) → Some a ≡ Some b → a ≡ b
+some_same a b h = cc h
+
+refused_whole : (file : StreamState) (text told : List ℕ) (reason : ShapeFault) → file.left ≡ Some told → IsWhole told text → file_of text ≡ Err reason → RefusesForm file reason
+refused_whole file text told reason left (inl same) refused = record {
+  text = text;
+  is_text = λ other is. some_same other told (sym is ∙ left) ∙ same;
+  refused = refused;
+}
+refused_whole file text told reason left (inr (long, (rest, is))) refused = record {
+  text = told;
+  is_text = λ other is. some_same other told (sym is ∙ left);
+  refused = same_reason reason (shape.Range []) text told refused (file_long text long) (file_long told (longer told text rest is long));
+}
+
+refused_by : (file : StreamState) (left : Option (List ℕ)) → file.left ≡ left → (text : List ℕ) (reason : ShapeFault) → IsRead file text → file_of text ≡ Err reason → RefusesForm file reason
+refused_by file None left text reason read refused = record { text = text; is_text = λ told is. absurd (cc (sym left ∙ is)); refused = refused }
+refused_by file (Some told) left text reason read refused = refused_whole file text told reason left (read told left) refused
+
+pub refuses_form : (file : StreamState) (text : List ℕ) (reason : ShapeFault) → IsRead file text → file_of text ≡ Err reason → RefusesForm file reason
+refuses_form file text reason read refused = refused_by file file.left refl text reason read refused
+
+-- whether the folder is wanted
+
+formed_by : (text : List ℕ) (wanted : Bool) (r : Result Written ShapeFault) → file_of text ≡ r → folder_wanted text ≡ Ok wanted → (written : Written) × (file_of text ≡ Ok written)
+unfolding folder_wanted
+formed_by text wanted (Ok written) is h = (written, is)
+formed_by text wanted (Err reason) is h = absurd (cc (rw is at h))
+
+pub formed : (text : List ℕ) (wanted : Bool) → folder_wanted text ≡ Ok wanted → (written : Written) × (file_of text ≡ Ok written)
+formed text wanted h = formed_by text wanted (file_of text) refl h
+
+unformed_by : (text : List ℕ) (reason : ShapeFault) (r : Result Written ShapeFault) → file_of text ≡ r → folder_wanted text ≡ Err reason → file_of text ≡ Err reason
+unfolding folder_wanted
+unformed_by text reason (Ok written) is h = absurd (cc (rw is at h))
+unformed_by text reason (Err other) is h = let same : other ≡ reason = cc (rw is at h) in is ∙ ap Err same
+
+pub unformed : (text : List ℕ) (reason : ShapeFault) → folder_wanted text ≡ Err reason → file_of text ≡ Err reason
+unformed text reason h = unformed_by text reason (file_of text) refl h
+
+-- what is held beside a text that was read: the text is the whole
+text_held : (file : StreamState) (dir : DirState) (text : List ℕ) (held : List (ℕ × Key)) (wanted : Result Bool ShapeFault) → folder_wanted text ≡ wanted
+    → IsRead file text → AreHeld wanted dir held → IsText text file
+text_held file dir text held (Ok true) is read are = let f = formed text true is in formed_text file text f.0 read f.1
+text_held file dir text held (Ok false) is read are = let f = formed text false is in formed_text file text f.0 read f.1
+text_held file dir text held (Err reason) is read are = absurd are
+
+pub whole_text : (file : StreamState) (dir : DirState) (text : List ℕ) (held : List (ℕ × Key)) → IsRead file text → AreHeld (folder_wanted text) dir held → IsText text file
+whole_text file dir text held read are = text_held file dir text held (folder_wanted text) refl read are
+
+-- what stops an opening
+
+refuses_keys : (file : StreamState) (dir : DirState) (text : List ℕ) (reason : KeysFault) → IsRead file text → RefusesKeys text dir reason → RefusesFolder file dir reason
+refuses_keys file dir text reason read refuses =
+    let f = formed text true refuses.0 in record { text = text; is_text = formed_text file text f.0 read f.1; wanted = refuses.0; told = refuses.1 }
+
+pub held_stops : {Link : Type 0} (file : StreamState) (dir : DirState) (desk : DeskState Link) (text : List ℕ) (f : Fault) → IsRead file text → StopsHeld text dir f → StopsOpening file dir desk desk f
+held_stops file dir desk text fault.Memory read stops = ([], drew_none desk)
+held_stops file dir desk text (fault.Opening (refusal.Shape reason)) read stops = (refuses_form file text reason read (unformed text reason stops), refl)
+held_stops file dir desk text (fault.Opening (refusal.Policy reason)) read stops = absurd stops
+held_stops file dir desk text (fault.Opening (refusal.BadKey path)) read stops = absurd stops
+held_stops file dir desk text (fault.Opening refusal.Random) read stops = absurd stops
+held_stops file dir desk text (fault.Opening refusal.Memory) read stops = absurd stops
+held_stops file dir desk text fault.Folder read stops =
+    let f = formed text true stops in (record { text = text; is_text = formed_text file text f.0 read f.1; wanted = stops }, refl)
+held_stops file dir desk text (fault.Keys keys.NoKeys) read stops = (refuses_keys file dir text keys.NoKeys read stops, refl)
+held_stops file dir desk text (fault.Keys (keys.BadKey index)) read stops = (refuses_keys file dir text (keys.BadKey index) read stops, refl)
+held_stops file dir desk text (fault.Keys keys.TooMany) read stops = (refuses_keys file dir text keys.TooMany read stops, refl)
+held_stops file dir desk text (fault.Keys keys.Failed) read stops = absurd stops
+held_stops file dir desk text (fault.Keys keys.AlreadySet) read stops = absurd stops
+held_stops file dir desk text (fault.Keys keys.IndexEnd) read stops = absurd stops
+held_stops file dir desk text (fault.Keys keys.Memory) read stops = absurd stops
+held_stops file dir desk text fault.Usage read stops = absurd stops
+held_stops file dir desk text fault.Read read stops = absurd stops
+held_stops file dir desk text fault.Write read stops = absurd stops
+held_stops file dir desk text (fault.BadLine n) read stops = absurd stops
+held_stops file dir desk text (fault.State reason) read stops = absurd stops
+held_stops file dir desk text fault.Desk read stops = absurd stops
+
+pub reading_stops : {Link : Type 0} (file : StreamState) (dir : DirState) (desk : DeskState Link) (f : Fault) → IsReadFault f → StopsOpening file dir desk desk f
+reading_stops file dir desk fault.Read is = refl
+reading_stops file dir desk fault.Memory is = ([], drew_none desk)
+reading_stops file dir desk fault.Usage is = absurd is
+reading_stops file dir desk fault.Write is = absurd is
+reading_stops file dir desk (fault.BadLine n) is = absurd is
+reading_stops file dir desk (fault.Opening reason) is = absurd is
+reading_stops file dir desk (fault.State reason) is = absurd is
+reading_stops file dir desk fault.Folder is = absurd is
+reading_stops file dir desk (fault.Keys reason) is = absurd is
+reading_stops file dir desk fault.Desk is = absurd is
+
+-- the file, read before, is refused
+pub opening_stops : {Link : Type 0} (file : StreamState) (dir : DirState) (old new : DeskState Link) (text : List ℕ) (held : List (ℕ × Key)) (f : OpeningFault) → IsRead file text
+    → AreHeld (folder_wanted text) dir held → AnswersOpening text held old new (Err f) → StopsOpening file dir old new (of_opening f)
+opening_stops file dir old new text held (refusal.Shape reason) read are answers = (refuses_form file text reason read answers.0, answers.1)
+opening_stops file dir old new text held (refusal.Policy reason) read are answers =
+    record { text = text; held = held; is_text = whole_text file dir text held read are; are_held = are; refused = answers }
+opening_stops file dir old new text held (refusal.BadKey path) read are answers =
+    record { text = text; held = held; is_text = whole_text file dir text held read are; are_held = are; refused = answers }
+opening_stops file dir old new text held refusal.Random read are answers =
+    record { text = text; held = held; is_text = whole_text file dir text held read are; are_held = are; refused = answers }
+opening_stops file dir old new text held refusal.Memory read are answers = answers
+
+pub opens : {Link : Type 0} (file : StreamState) (dir : DirState) (old new : DeskState Link) (text : List ℕ) (held : List (ℕ × Key)) (opening : Opening) → IsRead file text
+    → AreHeld (folder_wanted text) dir held → AnswersOpening text held old new (Ok opening) → IsOpening file dir old new (plain opening)
+opens file dir old new text held opening read are answers = record {
+  text = text;
+  held = held;
+  drawn = answers.0;
+  is_text = whole_text file dir text held read are;
+  are_held = are;
+  opens = answers.1;
+  drew = answers.2;
+}

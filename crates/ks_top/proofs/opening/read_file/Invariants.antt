@@ -1,0 +1,15 @@
+use Rattle.std.proofs.Common.{◌≡◌, ℕ, ◌-◌, ◌<◌, List, Some, length}
+use Rattle.ks_outside.specs.Streams.{OnlyReads}
+use Rattle.ks_top.specs.steps.Openings.{HasRead}
+use Rattle.ks_top.proofs.opening.read_file.Given as goal
+
+abbrev pub invariant-pieces : goal.invariant-pieces
+invariant-pieces g l = record {
+  told : (told : List ℕ) → (g.F.Stream.stream l.fn.file).left ≡ Some told → HasRead told l.text.items (g.F.Stream.stream l.file).left;
+  room : 0 < length l.piece.items;
+  reads : OnlyReads ⊥ (g.F.Stream.stream l.fn.file) (g.F.Stream.stream l.file);
+}
+
+-- each piece brings a byte at least
+abbrev pub decreases-pieces : goal.decreases-pieces
+decreases-pieces g l = 16777217 - length l.text.items

@@ -1,0 +1,63 @@
+-- What the program does by its words.
+use Rattle.std.specs.Prelude.{◌≡◌, ◌⊎◌, ℕ, List, Option, Some, None, IfSome}
+use Rattle.ks_outside.specs.Counts.{Counts}
+use Rattle.ks_outside.specs.Files.{KeyFile}
+use Rattle.ks_outside.specs.Streams.{OnlyReads, OnlyWrites}
+use Rattle.ks_setup.specs.declared.words.Words.{Words}
+use Rattle.ks_setup.specs.declared.words.Words.TheVariants as asked
+use Rattle.ks_setup.specs.Words.{words_of}
+use Rattle.ks_state.specs.Shown.{Shown}
+use Rattle.ks_top.specs.declared.fault.Fault.{Fault}
+use Rattle.ks_top.specs.declared.fault.Fault.TheVariants as fault
+use Rattle.ks_top.specs.Ending.{EndsCheck, IsStreamFault, result_of}
+use Rattle.ks_top.specs.KeyFolders.{EndsRotation, EndsSetup, IsFolderFault, OnlyDraws, Outside}
+use Rattle.ks_top.specs.Talk.{Talks}
+use Rattle.ks_top.specs.World.{World}
+
+-- a check reads its input and writes its output, and touches nothing else
+pub record Checks {Link : Type 0} (old new : World Link) (f : Option Fault) : Type 0 where
+  pub told : (text before : List ℕ) → old.input.left ≡ Some text → old.output.written ≡ Some before
+      → EndsCheck text before new.input.left new.output.written (result_of f)
+  pub causes : IfSome f IsStreamFault
+  pub reads : OnlyReads (f ≡ Some fault.Read) old.input new.input
+  pub writes : OnlyWrites (f ≡ Some fault.Write) old.output new.output
+  pub others : new ≡ record old { input = new.input; output = new.output }
+
+-- what is told behind a command on keys
+abbrev pub outside : {Link : Type 0} → World Link → Outside
+outside world = record { random = world.desk.random; files = world.dir.files; written = world.output.written }
+
+-- a command on keys draws from the desk, changes the folder and writes its output, and touches nothing else
+pub record ChangesKeys {Link : Type 0} (old new : World Link) (f : Option Fault) : Type 0 where
+  pub causes : IfSome f IsFolderFault
+  pub folder : Counts (f ≡ Some fault.Folder) old.dir.faults new.dir.faults
+  pub draws : Counts (f ≡ Some fault.Desk) old.desk.fill_faults new.desk.fill_faults
+  pub writes : OnlyWrites (f ≡ Some fault.Write) old.output new.output
+  pub desk : OnlyDraws old.desk new.desk
+  pub others : new ≡ record old { output = new.output; dir = new.dir; desk = new.desk }
+
+pub record SetsUp {Link : Type 0} (old new : World Link) (f : Option Fault) : Type 0 where
+  pub told : (random before : List ℕ) (files : List KeyFile) → old.desk.random ≡ Some random → old.dir.files ≡ Some files → old.output.written ≡ Some before
+      → EndsSetup random files before (outside new) (result_of f)
+  pub changes : ChangesKeys old new f
+
+pub record Rotates {Link : Type 0} (max : ℕ) (old new : World Link) (f : Option Fault) : Type 0 where
+  pub told : (random before : List ℕ) (files : List KeyFile) → old.desk.random ≡ Some random → old.dir.files ≡ Some files → old.output.written ≡ Some before
+      → EndsRotation max random files before (outside new) (result_of f)
+  pub changes : ChangesKeys old new f
+
+-- a command does this, and `talk` alone has an identity at its end
+abbrev pub Does : {Link : Type 0} → Words → World Link → World Link → Option Fault → Option Shown → Type 0
+Does asked.Check old new f state = Checks old new f × (state ≡ None)
+Does (asked.Talk places) old new f state = Talks old new f state
+Does (asked.Setup places) old new f state = SetsUp old new f × (state ≡ None)
+Does (asked.Rotate places max) old new f state = Rotates max old new f × (state ≡ None)
+Does asked.Usage old new f state = (f ≡ Some fault.Usage) × (new ≡ old) × (state ≡ None)
+
+-- there was no memory to read the words: nothing happened
+abbrev pub HasNotBegun : {Link : Type 0} → World Link → World Link → Option Fault → Option Shown → Type 0
+HasNotBegun old new f state = (f ≡ Some fault.Memory) × (new ≡ old) × (state ≡ None)
+
+-- the program does what its words say, or there was no memory to read them
+abbrev pub Runs : {Link : Type 0} → List (List ℕ) → World Link → World Link → Option Fault → Option Shown → Type 0
+Runs words old new f state = Does (words_of words) old new f state ⊎ HasNotBegun old new f state
