@@ -4,6 +4,7 @@ use crate::bodies::{body_read, form_named};
 use crate::commands::command;
 use crate::lists::{entry_refused, needed_list, optional_list};
 use crate::openings::{keys_place, opened};
+use crate::told::{form_told, row_told};
 use anyhow::{Result, bail};
 use std::alloc::Global;
 
@@ -18,7 +19,11 @@ pub fn answer(alloc: Global, call: &str, body: &[u8]) -> Result<String> {
     if let Some(fill) = call.strip_prefix("opening, failing fill ") {
         return Ok(opened(alloc, &[fill.parse::<u64>()?], body)?);
     }
+    if let Some(fault) = call.strip_prefix("line of the rows, ") {
+        return row_told(alloc, fault, body);
+    }
     match call {
+        "line of the form" => form_told(alloc, body),
         "opening" => Ok(opened(alloc, &[], body)?),
         "place of the keys" => Ok(keys_place(alloc, body)?),
         "needed list" => Ok(needed_list(alloc, body)?),

@@ -11,13 +11,14 @@ mod made;
 mod opened;
 mod openings;
 mod table;
+mod told;
 mod trusts;
 mod values;
 
 use anyhow::Result;
 use table::try_table;
 
-const TABLES: [&str; 13] = [
+const TABLES: [&str; 14] = [
     "documents",
     "logins",
     "scopes",
@@ -31,6 +32,7 @@ const TABLES: [&str; 13] = [
     "lists",
     "words",
     "openings",
+    "lines",
 ];
 
 fn main(rt: HostRuntime) -> Result<()> {
