@@ -9,39 +9,17 @@ environment's KS names another. The exit status is 1 where a connection is answe
 """
 
 import os
-import re
 import subprocess
 import sys
+
+sys.dont_write_bytecode = True
+from tables import rows
 
 TOP = os.path.dirname(os.path.dirname(os.path.abspath(__file__)))
 KS = os.environ.get("KS") or os.path.join(TOP, "bin", "ks")
 DATA = os.path.join(TOP, "crates", "ks_wire_cases", "data")
 
-ESCAPE = re.compile(r"\\(?:r|n|(\d*)(x?)\{([^}]*)\})")
-
-
-def cell(text):
-    """The bytes that a cell of a table stands for."""
-
-    def escaped(match):
-        if match[0] in ("\\r", "\\n"):
-            return {"\\r": "\r", "\\n": "\n"}[match[0]]
-        times, is_hex, body = match.groups()
-        if is_hex:
-            body = bytes.fromhex(body).decode("utf-8", "surrogateescape")
-        return body * int(times or 1)
-
-    return ESCAPE.sub(escaped, text.strip(" ")).encode("utf-8", "surrogateescape")
-
-
-def rows(name):
-    """The rows of a table behind its heading."""
-    with open(os.path.join(DATA, name + ".txt"), encoding="utf-8") as file:
-        lines = [line.rstrip("\n") for line in file]
-    return [[cell(part) for part in line.split("|")] for line in lines if line and not line.startswith("#")][1:]
-
-
-RESPONSES = {status.decode(): (head, body) for status, head, body in rows("talk_responses")}
+RESPONSES = {status.decode(): (head, body) for status, head, body in rows(os.path.join(DATA, "talk_responses.txt"))}
 
 
 def response(name):
@@ -68,7 +46,7 @@ def talk(pieces):
 
 def main():
     wrong = 0
-    talks = rows("talks")
+    talks = rows(os.path.join(DATA, "talks.txt"))
     for given, names in talks:
         expected = b"".join(response(name) for name in names.decode().split(", ")) if names else b""
         # Single bytes of a long input only take long.
