@@ -45,11 +45,12 @@ class State:
 
     def __init__(self, opening, salts=(), folder=None):
         self.opening = opening
-        file, texts = self.read_file(opening)
+        file, policy = self.read_file(opening)
         self.settings = file["settings"]
         self.folder_mode = file["keys"] is None
-        self.policy = Policy(texts)
-        keys = self.keys_of(file["keys"], folder)
+        keys = self.keys_held(folder) if self.folder_mode else None
+        self.policy = Policy(rule_texts(policy))
+        keys = keys or self.keys_listed(file["keys"])
         self.rows = {"domain": file["domains"], "project": file["projects"], "user": file["users"], "group": file["groups"],
                      "role": file["roles"], "trust": []}
         self.members, self.implications, self.grants = file["members"], file["implications"], file["assignments"]
@@ -62,23 +63,27 @@ class State:
     # The opening.
 
     def read_file(self, opening):
-        """The file and the texts of its rules, or the first fault of its form."""
+        """The file and its policy, which is not read yet; or the first fault of its form."""
         data = opening.encode() if isinstance(opening, str) else opening
         try:
             if len(data) > 16777216:
                 raise Refusal("Range", "")
             root = ("", an_object("", document(data)))
-            return written(root), rule_texts(root[1].get("policy", MISSING))
+            return written(root), root[1].get("policy", MISSING)
         except Refusal as refusal:
             raise OpeningRefused("Shape", refusal.cause, *refusal.told) from None
 
-    def keys_of(self, texts, folder):
-        """The keys with their indices, of the file or of the folder."""
-        if texts is None:
-            keys = folder_keys(folder)
-            if isinstance(keys, str):
-                raise OpeningRefused("Keys", keys)
-            return keys
+    def keys_held(self, folder):
+        """The keys that the folder holds, with their indices."""
+        if folder is None:
+            raise OpeningRefused("Folder")
+        keys = folder_keys(folder)
+        if isinstance(keys, str):
+            raise OpeningRefused("Keys", keys)
+        return keys
+
+    def keys_listed(self, texts):
+        """The keys that the file lists, with their places."""
         for number, text in enumerate(texts):
             if key_of(text) is None:
                 raise OpeningRefused("BadKey", f"keys[{number}]")
