@@ -13,7 +13,8 @@ KINDS = ("domain", "project", "user", "group", "role")
 METHODS = ("GET", "HEAD", "POST", "PATCH", "PUT", "DELETE")
 
 REASONS = {200: "OK", 201: "Created", 204: "No Content", 400: "Bad Request", 401: "Unauthorized", 403: "Forbidden",
-           404: "Not Found", 405: "Method Not Allowed", 409: "Conflict", 503: "Service Unavailable"}
+           404: "Not Found", 405: "Method Not Allowed", 409: "Conflict", 411: "Length Required", 413: "Request Entity Too Large",
+           431: "Request Header Fields Too Large", 503: "Service Unavailable", 505: "HTTP Version Not Supported"}
 UNAUTHORIZED = "The request you have made requires authentication."
 CAUSES = {
     "NotJson": (400, "The body is not JSON."),
@@ -37,6 +38,13 @@ CAUSES = {
     "IdTaken": (503, "The drawn id is taken."),
     "Random": (503, "No random bytes."),
     "KeyDir": (503, "The key folder failed."),
+}
+CAUSES_OF_BYTES = {
+    400: "The request is malformed.",
+    411: "Chunked bodies are not taken.",
+    413: "The body is too large.",
+    431: "The head is too large.",
+    505: "The version is not supported.",
 }
 
 
