@@ -1,0 +1,48 @@
+//! Which calls of the outside fail.
+
+use anyhow::{Context, Result, bail};
+
+/// The numbers of the calls that fail, from 1: of reading the opening file, of the folder, of drawing, of reading the input
+/// and of writing. 0 stands for none.
+#[derive(Clone, Copy)]
+pub struct Fails {
+    pub file: u64,
+    pub folder: u64,
+    pub fill: u64,
+    pub read: u64,
+    pub write: u64,
+}
+
+impl Fails {
+    pub const NONE: Fails = Fails {
+        file: 0,
+        folder: 0,
+        fill: 0,
+        read: 0,
+        write: 0,
+    };
+
+    /// What a cell says, as `fill 3`; an empty one says that nothing fails.
+    pub fn read(cell: &str) -> Result<Fails> {
+        let mut fails = Fails::NONE;
+        if cell.is_empty() {
+            return Ok(fails);
+        }
+        let (what, number) = cell.split_once(' ').context("no number of a call")?;
+        let number = number.parse::<u64>()?;
+        match what {
+            "file" => fails.file = number,
+            "folder" => fails.folder = number,
+            "fill" => fails.fill = number,
+            "read" => fails.read = number,
+            "write" => fails.write = number,
+            _ => bail!("nothing that fails"),
+        }
+        Ok(fails)
+    }
+
+    /// Whether the connection itself fails.
+    pub fn is_of_connection(&self) -> bool {
+        self.read != 0 || self.write != 0
+    }
+}

@@ -1,0 +1,117 @@
+//! Runs of `talk` over objects in memory.
+
+use crate::fails::Fails;
+use crate::world::Opening;
+use anyhow::{Context, Result, bail, ensure};
+use ks_base::Text;
+use ks_outside::{KeyDir, MemoryDesk, MemoryDir, MemorySink, MemorySource};
+use ks_top::run;
+use std::alloc::Global;
+use std::sync::Wait;
+
+/// No piece is longer.
+pub const WHOLE: usize = 20_000_000;
+
+/// No output is longer.
+const ROOM: usize = 1_000_000;
+
+/// The greatest index of a key's file.
+const LAST_INDEX: u32 = 999_999_999;
+
+/// What a connection reads: the requests, the clock's readings, the random bytes and the folder; the longest piece of one
+/// read or write; and what fails.
+#[derive(Clone, Copy)]
+pub struct Outside<'a> {
+    pub input: &'a [u8],
+    pub readings: &'a [u64],
+    pub random: &'a [u8],
+    pub folder: &'a str,
+    pub longest: usize,
+    pub fails: Fails,
+}
+
+/// The end of a run: its status and what it wrote.
+#[derive(Drop)]
+pub struct End {
+    pub status: u8,
+    pub written: Vec<u8>,
+}
+
+/// Runs `talk` over an opening.
+pub fn talk<R: AllocGlobal + Wait>(
+    rt: &R,
+    opening: &Opening,
+    outside: &Outside<'_>,
+) -> Result<End> {
+    let alloc = rt.alloc();
+    let mut words = Vec::new(alloc);
+    for word in ["talk", "opening.json", "keys"] {
+        words.push(Text::read(alloc, word.as_bytes())?.context("no text")?)?;
+    }
+    let fails = outside.fails;
+    let longest = outside.longest.max(1);
+    let mut input = MemorySource::new(alloc, outside.input, &[fails.read], longest)?;
+    let file = opening.file.as_str().as_bytes();
+    let mut file = MemorySource::new(alloc, file, &[opening.fails.file], WHOLE)?;
+    let mut output = MemorySink::new(alloc, ROOM, &[fails.write], longest)?;
+    let mut dir = folder(alloc, opening.folder.as_str(), opening.fails.folder)?;
+    let place = folder(alloc, outside.folder, fails.folder)?;
+    let failing = [opening.fails.fill, fails.fill];
+    let links = Vec::new(alloc);
+    let desk = MemoryDesk::new(
+        alloc,
+        links,
+        outside.readings,
+        outside.random,
+        &[],
+        &failing,
+    )?;
+    let mut desks = Vec::new(alloc);
+    desks.push((desk, place))?;
+    let ended = run(
+        rt,
+        words.as_slice(),
+        &mut input,
+        &mut file,
+        &mut output,
+        &mut dir,
+        desks,
+    );
+    Ok(End {
+        status: ended.status,
+        written: Vec::from_slice(alloc, output.written())?,
+    })
+}
+
+/// A folder of these files, `INDEX=CONTENT` with a comma and a blank between them, of which this call fails, counted from
+/// 1 behind those that make it.
+fn folder(alloc: Global, text: &str, failing: u64) -> Result<MemoryDir> {
+    let mut made: u64 = 0;
+    for word in text.split(", ") {
+        if !word.is_empty() {
+            made = made.saturating_add(1);
+        }
+    }
+    let failing = if failing == 0 {
+        0
+    } else {
+        failing.saturating_add(made)
+    };
+    let mut dir = MemoryDir::new(alloc, &[], &[failing], None)?;
+    for word in text.split(", ") {
+        if !word.is_empty() {
+            add_file(&mut dir, word)?;
+        }
+    }
+    Ok(dir)
+}
+
+fn add_file(dir: &mut MemoryDir, word: &str) -> Result<()> {
+    let (index, content) = word.split_once('=').context("a file without an index")?;
+    let index = index.parse::<u32>()?;
+    ensure!(index <= LAST_INDEX && !dir.stands(index), "no index");
+    match dir.write_new(index, content.as_bytes()) {
+        Ok(()) => Ok(()),
+        Err(_) => bail!("no memory"),
+    }
+}

@@ -1,0 +1,134 @@
+//! What sessions stand on: names, openings, and how single sessions differ from the others.
+
+use crate::fails::Fails;
+use crate::names::{Names, expanded};
+use anyhow::{Context, Result};
+use ks_tables::{Case, Row, read_rows};
+use std::alloc::Global;
+use std::fs;
+use std::rt::Files;
+
+/// What a server opens with, and how `talk` ends over an empty input.
+#[derive(Drop)]
+pub struct Opening {
+    pub name: String,
+    pub file: String,
+    pub folder: String,
+    /// How many passwords are derived.
+    pub passwords: u8,
+    pub fails: Fails,
+    pub status: u8,
+}
+
+/// How a session opens and ends.
+#[derive(Drop)]
+pub struct Setting {
+    pub session: String,
+    pub opening: String,
+    /// The folder beside the connection, where it is another than the opening's.
+    pub folder: Option<String>,
+    pub fails: Fails,
+    pub status: u8,
+}
+
+/// What all sessions share.
+#[derive(Drop)]
+pub struct World {
+    pub names: Names,
+    pub openings: Vec<Opening>,
+    settings: Vec<Setting>,
+}
+
+impl World {
+    /// Reads the tables of names, of openings and of sessions.
+    pub fn read<R: Files + AllocGlobal>(rt: &R) -> Result<World> {
+        let alloc = rt.alloc();
+        let mut names = Names::new(alloc);
+        for row in read_rows(rt, "parts")? {
+            let case = Case::new(row.cells);
+            names.add(alloc, case.str(0)?, case.str(1)?)?;
+        }
+        for row in read_rows(rt, "sealed")? {
+            let case = Case::new(row.cells);
+            names.add(alloc, case.str(0)?, case.str(5)?)?;
+        }
+        let mut openings = Vec::new(alloc);
+        for row in read_rows(rt, "openings")? {
+            openings.push(read_opening(rt, &names, row)?)?;
+        }
+        let mut settings = Vec::new(alloc);
+        for row in read_rows(rt, "sessions")? {
+            settings.push(read_setting(alloc, &names, row)?)?;
+        }
+        Ok(World {
+            names,
+            openings,
+            settings,
+        })
+    }
+
+    /// The opening of this name.
+    pub fn opening(&self, name: &str) -> Result<&Opening> {
+        let mut found = None;
+        for opening in &self.openings {
+            if opening.name.as_str() == name {
+                found = Some(opening);
+            }
+        }
+        found.context("no such opening")
+    }
+
+    /// How a session opens and ends, where the table of sessions says so.
+    pub fn setting(&self, session: &str) -> Option<&Setting> {
+        let mut found = None;
+        for setting in &self.settings {
+            if setting.session.as_str() == session {
+                found = Some(setting);
+            }
+        }
+        found
+    }
+}
+
+fn read_opening<R: Files + AllocGlobal>(rt: &R, names: &Names, row: Row) -> Result<Opening> {
+    let alloc = rt.alloc();
+    let case = Case::new(row.cells);
+    let cell = case.str(1)?;
+    let none = Names::new(alloc);
+    let file = if cell.ends_with(".json") {
+        fs::read_to_string(rt, cell)?
+    } else {
+        expanded(alloc, cell, &none, names)?
+    };
+    Ok(Opening {
+        name: String::from_str(alloc, case.str(0)?)?,
+        file,
+        folder: expanded(alloc, case.str(2)?, &none, names)?,
+        passwords: case.str(3)?.parse::<u8>()?,
+        fails: Fails::read(case.str(4)?)?,
+        status: case.str(5)?.parse::<u8>()?,
+    })
+}
+
+fn read_setting(alloc: Global, names: &Names, row: Row) -> Result<Setting> {
+    let case = Case::new(row.cells);
+    let folder = case.str(2)?;
+    let opening = case.str(1)?;
+    let status = case.str(4)?;
+    let none = Names::new(alloc);
+    Ok(Setting {
+        session: String::from_str(alloc, case.str(0)?)?,
+        opening: String::from_str(alloc, if opening.is_empty() { "o1" } else { opening })?,
+        folder: match folder {
+            "" => None,
+            "none" => Some(String::new(alloc)),
+            _ => Some(expanded(alloc, folder, &none, names)?),
+        },
+        fails: Fails::read(case.str(3)?)?,
+        status: if status.is_empty() {
+            0
+        } else {
+            status.parse::<u8>()?
+        },
+    })
+}
