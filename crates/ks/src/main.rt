@@ -1,16 +1,24 @@
 // The program: reads the words of its command line, runs their command over the standard input and
-// output, the folder that they name, the clock and the random source, and says on the standard error why
-// it did not end whole.
+// output, the opening file and the folder that they name, the clock and the random source, and says on
+// the standard error why it did not end whole.
 #![tactic(auto)]
 
+mod named;
+mod opening_file;
+
 use ks_base::{Memory, Text};
-use ks_outside::{Folder, RealDesk, RealSink, RealSource};
+use ks_outside::{Folder, RealDesk, RealSink, RealSource, Sink, Source};
 use ks_setup::read_words;
-use ks_top::{Ended, Fault, run};
+use ks_top::{Fault, run};
+use named::{Named, path_of};
+use opening_file::OpeningFile;
 use std::env;
+use std::fs::File;
 use std::io::ErrorKind;
 use std::process::ExitCode;
-use std::rt::Env;
+use std::random::RandomSource;
+use std::rt::{Clock, Env, Files};
+use std::sync::Wait;
 
 /// The words behind the program's name.
 fn words<R: Env + AllocGlobal>(rt: &R) -> Result<Vec<Text>, Fault> {
@@ -36,35 +44,47 @@ fn words<R: Env + AllocGlobal>(rt: &R) -> Result<Vec<Text>, Fault> {
     Ok(words)
 }
 
-/// The folder that these words name, which is not opened yet. Where they name none it has no path.
-fn folder<'a, R: AllocGlobal>(rt: &'a R, words: &[Text]) -> Result<Folder<'a, R>, Memory> {
-    let command = read_words(rt.alloc(), words)?;
-    match command.folder() {
-        Some(path) => Folder::new(rt.alloc(), rt, path.as_str()),
-        None => Folder::new(rt.alloc(), rt, ""),
+/// Runs the command of these words, says why it did not end whole, and answers the status of the process.
+fn run_words<
+    R: AllocGlobal + Files + Clock + RandomSource + Eprint + Wait + Clone + Drop,
+    S: Source,
+    K: Sink,
+>(rt: &R, words: &[Text], input: &mut S, output: &mut K) -> Result<u8, Memory> {
+    let alloc = rt.alloc();
+    let command = read_words(alloc, words)?;
+    let file = path_of(command.file());
+    let folder = path_of(command.folder());
+    let mut dir = Folder::new(alloc, rt, folder)?;
+    let mut desks = Vec::new(alloc);
+    desks.push((RealDesk::new(rt, None), Folder::new(alloc, rt, folder)?))?;
+    let mut source = OpeningFile::new(File::open(rt, file).ok());
+    let ended = run(rt, words, input, &mut source, output, &mut dir, desks);
+    if let Some(fault) = &ended.fault {
+        let named = Named {
+            file,
+            folder,
+            has_failed: source.has_failed(),
+        };
+        named.tell(rt, fault)?;
     }
-}
-
-/// Runs the command of these words.
-fn run_words(rt: &HostRuntime, words: &[Text]) -> Ended {
-    let Ok(mut dir) = folder(rt, words) else {
-        return Fault::Memory.ended();
-    };
-    let mut input = RealSource::new(rt.stdin());
-    let mut output = RealSink::new(rt.stdout());
-    let mut desk = RealDesk::new(rt, None);
-    run(rt, words, &mut input, &mut output, &mut dir, &mut desk)
+    Ok(ended.status)
 }
 
 fn main(rt: HostRuntime) -> ExitCode {
-    let ended = match words(&rt) {
-        Ok(words) => run_words(&rt, words.as_slice()),
-        Err(fault) => fault.ended(),
+    let mut input = RealSource::new(rt.stdin());
+    let mut output = RealSink::new(rt.stdout());
+    let status = match words(&rt) {
+        Ok(words) => run_words(&rt, words.as_slice(), &mut input, &mut output),
+        Err(fault) => {
+            named::tell(&rt, &fault);
+            Ok(fault.status())
+        }
     };
-    let _ = match ended.fault {
-        Some(Fault::Usage) => eprintln!(rt; "{}", Fault::Usage),
-        Some(fault) => eprintln!(rt; "ks: {fault}"),
-        None => Ok(()),
-    };
-    ExitCode::from(ended.status)
+    match status {
+        Ok(status) => ExitCode::from(status),
+        Err(Memory) => {
+            named::tell(&rt, &Fault::Memory);
+            ExitCode::from(Fault::Memory.status())
+        }
+    }
 }

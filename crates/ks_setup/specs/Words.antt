@@ -118,6 +118,14 @@ HasMax (Talk places) = Unit {0}
 HasMax (Setup places) = Unit {0}
 HasMax Usage = Unit {0}
 
+-- the path of the opening file that a command names
+abbrev pub file_in : Words → Option (List ℕ)
+file_in Check = None
+file_in (Talk places) = places.file
+file_in (Setup places) = None
+file_in (Rotate places max) = None
+file_in Usage = None
+
 -- the path of the folder that a command names
 abbrev pub folder_in : Words → Option (List ℕ)
 folder_in Check = None

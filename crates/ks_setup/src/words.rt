@@ -1,5 +1,5 @@
 ghost use Rattle.std.specs.Prelude.{◌≡◌, IfOk, map, option_copied};
-ghost use Rattle.ks_setup.specs.Words.{HasMax, folder_in, words_of};
+ghost use Rattle.ks_setup.specs.Words.{HasMax, file_in, folder_in, words_of};
 
 use crate::commands::{read_check, read_rotate, read_setup, read_talk};
 use ks_base::{Memory, Text};
@@ -36,6 +36,19 @@ pub enum Words {
 }
 
 impl Words {
+    /// The path of the opening file, where the command names one.
+    pub fn file(&self) -> Option<&Text>
+        ensures { option_copied result ≡ file_in self.now }
+    {
+        match self {
+            Words::Talk(places) => places.file.as_ref(),
+            Words::Check => None,
+            Words::Setup(_) => None,
+            Words::Rotate(_, _) => None,
+            Words::Usage => None,
+        }
+    }
+
     /// The path of the folder of the keys, where the command names one.
     pub fn folder(&self) -> Option<&Text>
         ensures { option_copied result ≡ folder_in self.now }

@@ -1,0 +1,79 @@
+//! What is said on the standard error where a command did not end whole.
+
+use ks_base::{KeysFault, Memory, Text};
+use ks_machine::OpenFault;
+use ks_setup::{opening_line, state_line};
+use ks_top::Fault;
+use std::fs;
+use std::rt::Files;
+
+/// What the words name: a fault is told behind the path of what it is about.
+#[derive(Drop)]
+pub struct Named<'a> {
+    pub file: &'a str,
+    pub folder: &'a str,
+    /// Whether the file could not be read.
+    pub has_failed: bool,
+}
+
+/// The path, or none.
+pub fn path_of(named: Option<&Text>) -> &str {
+    match named {
+        Some(path) => path.as_str(),
+        None => "",
+    }
+}
+
+/// Says one line, which names no file and no folder.
+pub fn tell<R: Eprint>(rt: &R, fault: &Fault) {
+    let _ = match fault {
+        Fault::Usage => eprintln!(rt; "{fault}"),
+        _ => eprintln!(rt; "ks: {fault}"),
+    };
+}
+
+impl Named<'_> {
+    /// Says in one line why a command did not end whole.
+    pub fn tell<R: AllocGlobal + Files + Eprint>(
+        &self,
+        rt: &R,
+        fault: &Fault,
+    ) -> Result<(), Memory> {
+        match fault {
+            Fault::Opening(why) => {
+                let line = opening_line(rt.alloc(), why)?;
+                self.tell_of_file(rt, line.as_str());
+            }
+            Fault::State(why) => self.tell_of_rows(rt, why)?,
+            Fault::Read if self.has_failed => self.tell_of_file(rt, "it could not be read"),
+            Fault::Keys(KeysFault::BadKey(index)) => {
+                let _ = eprintln!(rt; "ks: {}/{index}: not a Fernet key", self.folder);
+            }
+            Fault::Keys(_) | Fault::Folder => {
+                let _ = eprintln!(rt; "ks: {}: {fault}", self.folder);
+            }
+            _ => tell(rt, fault),
+        }
+        Ok(())
+    }
+
+    /// Says what is wrong with the rows of the opening file, which is read again to find them.
+    fn tell_of_rows<R: AllocGlobal + Files + Eprint>(
+        &self,
+        rt: &R,
+        why: &OpenFault,
+    ) -> Result<(), Memory> {
+        match fs::read(rt, self.file) {
+            Ok(text) => {
+                let line = state_line(rt.alloc(), text.as_slice(), why)?;
+                self.tell_of_file(rt, line.as_str());
+            }
+            Err(_) => self.tell_of_file(rt, "it is refused, and could not be read again"),
+        }
+        Ok(())
+    }
+
+    fn tell_of_file<R: Eprint>(&self, rt: &R, line: &str) {
+        let _ = eprintln!(rt; "ks: {}: {line}", self.file);
+    }
+}
