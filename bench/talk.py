@@ -6,9 +6,12 @@
     talk.py in-turn REQUESTS KS             sends each request once the response before it has come
 """
 
+import os
 import subprocess
 import sys
 import time
+
+O1 = os.path.join(os.path.dirname(os.path.dirname(os.path.abspath(__file__))), "examples", "o1.json")
 
 REQUEST = b"GET /v3 HTTP/1.1\r\n\r\n"
 
@@ -39,7 +42,7 @@ def report(how, requests, seconds):
 def pipelined(path, requests, ks):
     with open(path, "rb") as file:
         began = time.monotonic()
-        run = subprocess.run([ks, "talk", "o1.json", "keys"], stdin=file, stdout=subprocess.PIPE)
+        run = subprocess.run([ks, "talk", O1, "keys"], stdin=file, stdout=subprocess.PIPE)
         seconds = time.monotonic() - began
     if run.returncode != 0 or run.stdout != RESPONSE * requests:
         fail("the responses to pipelined requests are not those that were expected")
@@ -47,7 +50,7 @@ def pipelined(path, requests, ks):
 
 
 def in_turn(requests, ks):
-    run = subprocess.Popen([ks, "talk", "o1.json", "keys"], stdin=subprocess.PIPE, stdout=subprocess.PIPE, bufsize=0)
+    run = subprocess.Popen([ks, "talk", O1, "keys"], stdin=subprocess.PIPE, stdout=subprocess.PIPE, bufsize=0)
     began = time.monotonic()
     for _ in range(requests):
         run.stdin.write(REQUEST)

@@ -18,7 +18,7 @@ if [ ! -x "$ks" ]; then
     exit 1
 fi
 # bin/ks may have to build the program first.
-"$ks" talk o1.json keys < /dev/null
+"$ks" talk "$top/examples/o1.json" keys < /dev/null
 
 # The program itself, since bin/ks is a script that becomes it.
 program=${KS:-$top/crates/ks/out/ks}
@@ -35,7 +35,7 @@ fi
 # What N requests take, beside none.
 instructions() {
     python3 "$top/bench/talk.py" make "$1" > "$work/input"
-    valgrind --tool=callgrind --callgrind-out-file="$work/counts.$1" "$program" talk o1.json keys \
+    valgrind --tool=callgrind --callgrind-out-file="$work/counts.$1" "$program" talk "$top/examples/o1.json" keys \
         < "$work/input" > /dev/null 2> "$work/log"
     sed -n 's/^.*Collected : //p' "$work/log"
 }

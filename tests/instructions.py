@@ -26,7 +26,7 @@ HEAD = """\
 """
 
 CHECK = ["check"]
-TALK = ["talk", "o1.json", "keys"]
+TALK = ["talk", os.path.join(TOP, "examples", "o1.json"), "keys"]
 VERSION = b"GET /v3/ HTTP/1.1\r\nHost: 127.0.0.1:5000\r\n\r\n"
 BODY = b"POST /v3 HTTP/1.1\r\nContent-Length: 4000\r\n\r\n" + b" " * 4000
 

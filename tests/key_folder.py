@@ -19,10 +19,10 @@ import tempfile
 TOP = os.path.dirname(os.path.dirname(os.path.abspath(__file__)))
 KS = os.environ.get("KS") or os.path.join(TOP, "bin", "ks")
 
-FAILED = "ks: the key folder failed"
-NO_KEYS = "ks: the key folder has no key"
-ALREADY_SET = "ks: the key folder has keys already"
-INDEX_END = "ks: the key folder has a file 999999999, and none can follow it"
+FAILED = "the key folder could not be read or written; if there is none yet, make it first"
+NO_KEYS = "the key folder has no key"
+ALREADY_SET = "the key folder has keys already"
+INDEX_END = "the key folder has a file 999999999, and none can follow it"
 NO_OUTPUT = "ks: standard output could not be written"
 USAGE = "usage: ks check | ks talk FILE FOLDER | ks setup FOLDER | ks rotate FOLDER [--max N]"
 
@@ -38,7 +38,7 @@ def expect(what, got, wanted):
 
 
 def run(words, status, output="", error="", **options):
-    """Runs the program, which is to end so."""
+    """Runs the program, which is to end so: a line about the folder has its path."""
     global runs
     runs += 1
     options.setdefault("stdout", subprocess.PIPE)
@@ -46,7 +46,7 @@ def run(words, status, output="", error="", **options):
     expect(
         f"run {runs}, ks {' '.join(words)}",
         (ended.returncode, (ended.stdout or b"").decode(), ended.stderr.decode().rstrip("\n")),
-        (status, output, error),
+        (status, output, f"ks: {words[1]}: {error}" if error.startswith("the key folder") else error),
     )
 
 

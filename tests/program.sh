@@ -40,7 +40,7 @@ run "$key" check
 is 0 '' ''
 run "$key\\n1 a\\n2 b" check
 is 0 'refused text\nrefused text\n' ''
-run '' talk o1.json keys
+run '' talk examples/o1.json keys
 is 0 '' ''
 
 # Words that are no command's, among them one that is not UTF-8 beside those of a command.
@@ -67,12 +67,31 @@ status=0
 tail -c 13 "$work/all" >"$work/out"
 is 6 'refused text\n' 'ks: line 1048577 is behind the last that is read'
 
+# Opening files and folders of keys that are refused: the line names the place.
+run '' talk "$work/none.json" keys
+is 3 '' "ks: $work/none.json: it could not be read"
+printf '{"users":[{"id":"u","name":"ann"}]}' >"$work/o.json"
+run '' talk "$work/o.json" keys
+is 7 '' "ks: $work/o.json: users[0].domain_id: missing; an id of 1 to 64 of the characters 0-9 A-Z a-z _ - is wanted"
+printf '{"keys":["%s"],"users":[{"id":"u","domain_id":"x","name":"ann"}]}' "$key" >"$work/o.json"
+run '' talk "$work/o.json" keys
+is 7 '' "ks: $work/o.json: users[0].domain_id: no domain has the id \"x\""
+printf '{"users":[{"id":"u","domain_id":"default","name":"ann"}]}' >"$work/o.json"
+run '' talk "$work/o.json" "$work/keys"
+is 8 '' "ks: $work/keys: the key folder could not be read or written; if there is none yet, make it first"
+mkdir "$work/keys"
+run '' talk "$work/o.json" "$work/keys"
+is 9 '' "ks: $work/keys: the key folder has no key"
+printf 'x' >"$work/keys/5"
+run '' talk "$work/o.json" "$work/keys"
+is 9 '' "ks: $work/keys/5: not a Fernet key"
+
 # An input that cannot be read, and an output that cannot be written.
 status=0
 "$ks" check </ >"$work/out" 2>"$work/err" || status=$?
 is 3 '' 'ks: standard input could not be read'
 status=0
-"$ks" talk o1.json keys </ >"$work/out" 2>"$work/err" || status=$?
+"$ks" talk examples/o1.json keys </ >"$work/out" 2>"$work/err" || status=$?
 is 3 '' 'ks: standard input could not be read'
 : >"$work/out"
 if [ -w /dev/full ]; then
@@ -80,7 +99,7 @@ if [ -w /dev/full ]; then
     printf '%s\n1 a\n' "$key" | "$ks" check >/dev/full 2>"$work/err" || status=$?
     is 4 '' 'ks: standard output could not be written'
     status=0
-    printf 'GET /v3 HTTP/1.1\r\n\r\n' | "$ks" talk o1.json keys >/dev/full 2>"$work/err" || status=$?
+    printf 'GET /v3 HTTP/1.1\r\n\r\n' | "$ks" talk examples/o1.json keys >/dev/full 2>"$work/err" || status=$?
     is 4 '' 'ks: standard output could not be written'
 fi
 
