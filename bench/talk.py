@@ -4,11 +4,16 @@
     talk.py make REQUESTS                   writes so many requests
     talk.py pipelined FILE REQUESTS KS      runs `KS talk` on the file
     talk.py in-turn REQUESTS KS             sends each request once the response before it has come
+    talk.py opening USERS FILE              writes an opening file with so many users
+    talk.py validate REQUESTS FILE KS       logs in over this opening file, and has the token validated so many times, pipelined
+    talk.py sealed REQUESTS FILE            writes so many validations of a token that is sealed here
 """
 
+import json
 import os
 import subprocess
 import sys
+import threading
 import time
 
 O1 = os.path.join(os.path.dirname(os.path.dirname(os.path.abspath(__file__))), "examples", "o1.json")
@@ -33,6 +38,54 @@ def fail(why):
 
 def make(requests):
     sys.stdout.buffer.write(REQUEST * requests)
+
+
+def opening(users):
+    """An opening like that of the examples, with more users."""
+    with open(O1, encoding="utf-8") as file:
+        told = json.load(file)
+    told["users"] += [{"id": f"{number:032x}", "domain_id": "default", "name": f"user{number}"} for number in range(users - 2)]
+    return told
+
+
+def validation(token):
+    """A request of the token's owner to validate it."""
+    return f"GET /v3/auth/tokens HTTP/1.1\r\nX-Auth-Token: {token}\r\nX-Subject-Token: {token}\r\n\r\n".encode()
+
+
+def sealed():
+    """A token of the first user on the project, sealed with the first key of the examples by the second reading."""
+    sys.path.insert(0, os.path.join(os.path.dirname(os.path.dirname(os.path.abspath(__file__))), "tests"))
+    from second_reading.ciphers import key_of, seal
+
+    with open(O1, encoding="utf-8") as file:
+        told = json.load(file)
+    now, user, project = int(time.time()) - 60, told["users"][0]["id"], told["projects"][0]["id"]
+    payload = bytes([2, 2, 1, 0]) + bytes.fromhex(user) + b"\0" + bytes.fromhex(project) + (now + 3600).to_bytes(8, "big")
+    return seal(key_of(told["keys"][0]), now, os.urandom(16), payload + b"\1" + os.urandom(16))
+
+
+def validate(requests, path, ks):
+    """Validations a second over one connection, behind a login."""
+    run = subprocess.Popen([ks, "talk", path, "keys"], stdin=subprocess.PIPE, stdout=subprocess.PIPE)
+    unit = validation(sealed())
+    began = time.monotonic()
+    run.stdin.write(unit)
+    run.stdin.flush()
+    first = run.stdout.read(len("HTTP/1.1 200 OK\r\nContent-Length: 497\r\n"))
+    opened = time.monotonic() - began
+    if not first.startswith(b"HTTP/1.1 200 OK"):
+        fail(f"a validation is answered otherwise: {first!r}")
+    writer = threading.Thread(target=lambda: (run.stdin.write(unit * requests), run.stdin.close()))
+    began = time.monotonic()
+    writer.start()
+    written = run.stdout.read()
+    seconds = time.monotonic() - began
+    writer.join()
+    if run.wait() != 0 or written.count(b"HTTP/1.1 200 OK") != requests:
+        fail("validations are answered otherwise")
+    print(f"{os.path.getsize(path):,} bytes of opening file: the first answer after {opened:.2f} s")
+    report("to validate", requests, seconds)
 
 
 def report(how, requests, seconds):
@@ -72,5 +125,13 @@ if __name__ == "__main__":
         pipelined(words[0], int(words[1]), words[2])
     elif command == "in-turn":
         in_turn(int(words[0]), words[1])
+    elif command == "opening":
+        with open(words[1], "w", encoding="utf-8") as file:
+            json.dump(opening(int(words[0])), file)
+    elif command == "validate":
+        validate(int(words[0]), words[1], words[2])
+    elif command == "sealed":
+        with open(words[1], "wb") as file:
+            file.write(validation(sealed()) * int(words[0]))
     else:
         fail(f"there is no {command}")

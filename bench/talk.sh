@@ -1,7 +1,8 @@
 #!/bin/sh
-# Prints how long `ks talk` takes for 100,000 pipelined requests for the version document, and for the same where
-# each request is sent once the response before it has come; and, where there is a valgrind, how many instructions
-# a request takes among 1,000 and among 100,000, and where they go. All responses are compared.
+# Prints how many tokens a second `ks talk` validates on one connection where 10, 1,000 and 60,000 users stand, and how soon it gives
+# its first answer there; how long it takes for 100,000 pipelined requests for the version document, and for the same where each
+# request is sent once the response before it has come; and, where there is a valgrind, how many instructions a validation takes, and a
+# request for the version among 1,000 and among 100,000, and where they go. All responses are compared.
 #
 #     bench/talk.sh [REQUESTS]
 #
@@ -27,6 +28,12 @@ python3 "$top/bench/talk.py" make "$requests" > "$work/input"
 python3 "$top/bench/talk.py" pipelined "$work/input" "$requests" "$program"
 python3 "$top/bench/talk.py" in-turn "$requests" "$program"
 
+for users in 10 1000 60000; do
+    python3 "$top/bench/talk.py" opening "$users" "$work/opening.$users.json"
+    echo "$users users"
+    python3 "$top/bench/talk.py" validate "$requests" "$work/opening.$users.json" "$program"
+done
+
 if ! command -v valgrind > /dev/null; then
     echo 'the instructions are not counted, since there is no valgrind'
     exit 0
@@ -40,6 +47,19 @@ instructions() {
     sed -n 's/^.*Collected : //p' "$work/log"
 }
 
+# What a validation takes where so many users stand.
+validation() {
+    for times in 100 1100; do
+        python3 "$top/bench/talk.py" sealed "$times" "$work/input"
+        valgrind --tool=callgrind --callgrind-out-file="$work/validations" "$program" talk "$work/opening.$1.json" keys \
+            < "$work/input" > /dev/null 2> "$work/log"
+        sed -n 's/^.*Collected : //p' "$work/log" > "$work/taken.$times"
+    done
+    echo "instructions a validation where $1 users stand: $((($(cat "$work/taken.1100") - $(cat "$work/taken.100")) / 1000))"
+}
+
+validation 10
+validation 1000
 none=$(instructions 0)
 few=$(instructions 1000)
 many=$(instructions 100000)
