@@ -18,9 +18,8 @@ use Rattle.ks_server.specs.Sessions.{EndsSession}
 use Rattle.ks_server.specs.Ties.{KeepsLinks}
 use Rattle.ks_server.specs.Work.{Moves}
 use Rattle.ks_server.specs.Work as work
-use Rattle.ks_state.specs.Opening.{first_front}
+use Rattle.ks_state.specs.Standing.{Stands, StandsWithAllKept, first_front}
 use Rattle.ks_state.specs.Shown.{Shown}
-use Rattle.ks_state.specs.Standing.{Stands, StandsWithAllKept}
 use Rattle.ks_top.specs.declared.fault.Fault.{Fault}
 use Rattle.ks_top.specs.declared.fault.Fault.TheVariants as fault
 use Rattle.ks_top.specs.Opened.{IsOpening, StopsOpening}

@@ -14,9 +14,8 @@ use Rattle.ks_server.specs.Exchanges.{Exchange, bare, made}
 use Rattle.ks_server.specs.Orders.{Goes, GoesAlone}
 use Rattle.ks_server.specs.Sessions.{EndsSession}
 use Rattle.ks_server.specs.Ties.{AreNumbered, KeepsLinks, Tied}
-use Rattle.ks_state.specs.Opening.{first_front}
+use Rattle.ks_state.specs.Standing.{StandsWithAllKept, first_front}
 use Rattle.ks_state.specs.Shown.{Shown}
-use Rattle.ks_state.specs.Standing.{StandsWithAllKept}
 use Rattle.ks_top.specs.declared.fault.Fault.{Fault}
 use Rattle.ks_top.specs.declared.fault.Fault.TheVariants as fault
 use Rattle.ks_top.specs.Opened.{IsOpening, StopsOpening}
