@@ -7,32 +7,31 @@ use ks_outside::{MemoryDesk, MemoryDir};
 use ks_tables::{Case, try_table};
 use std::alloc::Global;
 use std::rt::Files;
+use std::sync::Wait;
 
-pub fn try_tables<R: Files + Print + AllocGlobal>(rt: &R) -> Result<()> {
+pub fn try_tables<R: Files + Print + AllocGlobal + Wait>(rt: &R) -> Result<()> {
     try_table(rt, "folders", |_alloc, case| folders(rt, case))
 }
 
 /// Of commands with semicolons between them, which are run one after the other on a folder that is empty at first,
 /// the random bytes, the calls of the folder that fail and the write of each command that fails: the status of each
 /// and what it wrote, and the files that are left.
-fn folders<R: AllocGlobal>(rt: &R, case: &Case) -> Result<String> {
+fn folders<R: AllocGlobal + Wait>(rt: &R, case: &Case) -> Result<String> {
     let alloc = rt.alloc();
     let failing = numbers(alloc, case.str(2)?)?;
     let mut dir = MemoryDir::new(alloc, &[], failing.as_slice(), None)?;
     let mut desk = MemoryDesk::new(alloc, Vec::new(alloc), &[], case.bytes(1), &[], &[])?;
-    let outside = Outside {
-        longest: WHOLE,
-        read: 0,
-        write: case.number(3)?,
-    };
+    let mut outside = Outside::pieces(WHOLE);
+    outside.write = case.number(3)?;
     let mut said = String::new(alloc);
     for command in case.str(0)?.split(';') {
         let words = words(alloc, command)?;
-        let (ended, written) = run_over(rt, words.as_slice(), b"", &outside, &mut dir, &mut desk)?;
+        let end = run_over(rt, words.as_slice(), b"", &outside, &mut dir, desk)?;
+        desk = end.desk;
         if !said.is_empty() {
             said.push_str(", ")?;
         }
-        push_end(&mut said, ended.status, written.as_slice())?;
+        push_end(&mut said, end.status, end.written.as_slice())?;
     }
     said.push(';')?;
     push_files(&mut said, dir.files())?;

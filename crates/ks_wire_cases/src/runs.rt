@@ -1,31 +1,50 @@
-//! Runs of the program over an input, an output, a folder and a desk in memory.
+//! Runs of the program over an input, an opening file, an output, a folder and a desk in memory.
 
 use anyhow::{Context, Result};
 use ks_base::Text;
 use ks_outside::{MemoryDesk, MemoryDir, MemorySink, MemorySource};
-use ks_top::{Ended, run};
+use ks_top::{Ended, Fault, run};
 use std::alloc::Global;
+use std::sync::Wait;
 
 /// No piece is longer, and no output.
 pub const WHOLE: usize = 1_000_000;
 
-/// How a run reads and writes: the longest piece of one call, and the read and the write that fail, counted from 1.
+/// What the clock reads: 08:20:00 on 26 October 1985.
+const MOMENT: u64 = 499_162_800;
+
+/// The random bytes: the salts of two passwords, and one draw.
+const RANDOM: [u8; 96] = [1; 96];
+
+/// The opening file, and how a run reads and writes: the longest piece of one call, and the read of the input and the write
+/// that fail, counted from 1.
 #[derive(Clone, Copy)]
-pub struct Outside {
+pub struct Outside<'a> {
+    pub file: &'a [u8],
     pub longest: usize,
     pub read: u64,
     pub write: u64,
 }
 
-impl Outside {
-    /// Nothing fails, and pieces have at most so many bytes.
-    pub fn pieces(longest: usize) -> Outside {
+impl Outside<'_> {
+    /// No opening file, nothing fails, and pieces have at most so many bytes.
+    pub fn pieces(longest: usize) -> Outside<'static> {
         Outside {
+            file: &[],
             longest,
             read: 0,
             write: 0,
         }
     }
+}
+
+/// The end of a run: its status, its fault, what it wrote, and the desk behind it.
+#[derive(Drop)]
+pub struct End {
+    pub status: u8,
+    pub fault: Option<Fault>,
+    pub written: Vec<u8>,
+    pub desk: MemoryDesk,
 }
 
 /// The words of a command line.
@@ -37,33 +56,57 @@ fn texts(alloc: Global, words: &[&str]) -> Result<Vec<Text>> {
     Ok(made)
 }
 
-/// Runs the words of a command on an input, and gives its end and what it wrote.
-pub fn run_on<R: AllocGlobal>(
+/// Runs the words of a command on an input, over an empty folder.
+pub fn run_on<R: AllocGlobal + Wait>(
     rt: &R,
     command: &[&str],
     input: &[u8],
-    outside: &Outside,
-) -> Result<(Ended, Vec<u8>)> {
+    outside: &Outside<'_>,
+) -> Result<End> {
     let alloc = rt.alloc();
     let mut dir = MemoryDir::new(alloc, &[], &[], None)?;
-    let mut desk = MemoryDesk::new(alloc, Vec::new(alloc), &[], &[], &[], &[])?;
-    run_over(rt, command, input, outside, &mut dir, &mut desk)
+    let links = Vec::new(alloc);
+    let desk = MemoryDesk::new(alloc, links, &[MOMENT], RANDOM.as_slice(), &[], &[])?;
+    run_over(rt, command, input, outside, &mut dir, desk)
 }
 
 /// The same over a folder and a desk.
-pub fn run_over<R: AllocGlobal>(
+pub fn run_over<R: AllocGlobal + Wait>(
     rt: &R,
     command: &[&str],
     input: &[u8],
-    outside: &Outside,
+    outside: &Outside<'_>,
     dir: &mut MemoryDir,
-    desk: &mut MemoryDesk,
-) -> Result<(Ended, Vec<u8>)> {
+    desk: MemoryDesk,
+) -> Result<End> {
     let alloc = rt.alloc();
     let words = texts(alloc, command)?;
     let longest = outside.longest.max(1);
     let mut source = MemorySource::new(alloc, input, &[outside.read], longest)?;
+    let mut file = MemorySource::new(alloc, outside.file, &[], WHOLE)?;
     let mut sink = MemorySink::new(alloc, WHOLE, &[outside.write], longest)?;
-    let ended = run(rt, words.as_slice(), &mut source, &mut sink, dir, desk);
-    Ok((ended, Vec::from_slice(alloc, sink.written())?))
+    let place = MemoryDir::new(alloc, &[], &[], None)?;
+    let mut desks = Vec::new(alloc);
+    desks.push((desk, place))?;
+    let Ended {
+        status,
+        fault,
+        mut desks,
+        state: _state,
+    } = run(
+        rt,
+        words.as_slice(),
+        &mut source,
+        &mut file,
+        &mut sink,
+        dir,
+        desks,
+    );
+    let (desk, _place) = desks.pop().context("no desk")?;
+    Ok(End {
+        status,
+        fault,
+        written: Vec::from_slice(alloc, sink.written())?,
+        desk,
+    })
 }
