@@ -3,13 +3,15 @@
 // the standard error why it did not end whole.
 #![tactic(auto)]
 
+ghost use Rattle.std.specs.Prelude.{◌<◌, IfOk, length};
+
 mod named;
 mod opening_file;
 
 use ks_base::{Memory, Text};
-use ks_outside::{Folder, RealDesk, RealSink, RealSource, Sink, Source};
+use ks_outside::{Desk, Folder, KeyDir, RealDesk, RealSink, RealSource, Sink, Source};
 use ks_setup::read_words;
-use ks_top::{Fault, run};
+use ks_top::{Ended, Fault, run};
 use named::{Named, path_of};
 use opening_file::OpeningFile;
 use std::env;
@@ -44,22 +46,68 @@ fn words<R: Env + AllocGlobal>(rt: &R) -> Result<Vec<Text>, Fault> {
     Ok(words)
 }
 
+/// Does what the words say. Nothing in this program rests on what `run` promises of it, so none of that is said again.
+fn done<R: AllocGlobal + Wait, S: Source, F: Source, K: Sink, D: KeyDir + Drop, P: Desk + Drop>(
+    rt: &R,
+    words: &[Text],
+    input: &mut S,
+    file: &mut F,
+    output: &mut K,
+    dir: &mut D,
+    desks: Vec<(P, D)>,
+) -> (u8, Option<Fault>)
+    requires { 0 < length desks.items }
+{
+    let Ended { status, fault, .. } = run(rt, words, input, file, output, dir, desks);
+    (status, fault)
+}
+
+/// The one desk of the program, which listens at no address, with its folder.
+fn desks<'a, R: AllocGlobal>(
+    rt: &'a R,
+    folder: &str,
+) -> Result<Vec<(RealDesk<'a, R>, Folder<'a, R>)>, Memory>
+    ensures { IfOk result (λ desks. 0 < length desks.items) }
+{
+    let mut desks = Vec::new(rt.alloc());
+    desks.push((
+        RealDesk::new(rt, None),
+        Folder::new(rt.alloc(), rt, folder)?,
+    ))?;
+    Ok(desks)
+}
+
+/// Does what the words say over the folder of this path.
+fn done_over<
+    R: AllocGlobal + Files + Clock + RandomSource + Wait + Clone + Drop,
+    S: Source,
+    F: Source,
+    K: Sink,
+>(
+    rt: &R,
+    words: &[Text],
+    folder: &str,
+    input: &mut S,
+    file: &mut F,
+    output: &mut K,
+) -> Result<(u8, Option<Fault>), Memory> {
+    let mut dir = Folder::new(rt.alloc(), rt, folder)?;
+    let desks = desks(rt, folder)?;
+    Ok(done(rt, words, input, file, output, &mut dir, desks))
+}
+
 /// Runs the command of these words, says why it did not end whole, and answers the status of the process.
 fn run_words<
     R: AllocGlobal + Files + Clock + RandomSource + Eprint + Wait + Clone + Drop,
     S: Source,
     K: Sink,
 >(rt: &R, words: &[Text], input: &mut S, output: &mut K) -> Result<u8, Memory> {
-    let alloc = rt.alloc();
-    let command = read_words(alloc, words)?;
+    let command = read_words(rt.alloc(), words)?;
     let file = path_of(command.file());
     let folder = path_of(command.folder());
-    let mut dir = Folder::new(alloc, rt, folder)?;
-    let mut desks = Vec::new(alloc);
-    desks.push((RealDesk::new(rt, None), Folder::new(alloc, rt, folder)?))?;
     let mut source = OpeningFile::new(File::open(rt, file).ok());
-    let ended = run(rt, words, input, &mut source, output, &mut dir, desks);
-    if let Some(fault) = &ended.fault {
+    let (status, fault) = done_over(rt, words, folder, input, &mut source, output)?;
+    if let Some(fault) = &fault {
         let named = Named {
             file,
             folder,
@@ -67,7 +115,7 @@ fn run_words<
         };
         named.tell(rt, fault)?;
     }
-    Ok(ended.status)
+    Ok(status)
 }
 
 fn main(rt: HostRuntime) -> ExitCode {

@@ -1,11 +1,12 @@
 //! Runs of `talk` over objects in memory.
+ghost use Rattle.std.specs.Prelude.{◌<◌, length};
 
 use crate::fails::Fails;
 use crate::world::Opening;
 use anyhow::{Context, Result, bail, ensure};
 use ks_base::Text;
-use ks_outside::{KeyDir, MemoryDesk, MemoryDir, MemorySink, MemorySource};
-use ks_top::run;
+use ks_outside::{Desk, KeyDir, MemoryDesk, MemoryDir, MemorySink, MemorySource, Sink, Source};
+use ks_top::{Ended, run};
 use std::alloc::Global;
 use std::sync::Wait;
 
@@ -68,7 +69,7 @@ pub fn talk<R: AllocGlobal + Wait>(
     )?;
     let mut desks = Vec::new(alloc);
     desks.push((desk, place))?;
-    let ended = run(
+    let status = status_of(
         rt,
         words.as_slice(),
         &mut input,
@@ -78,9 +79,32 @@ pub fn talk<R: AllocGlobal + Wait>(
         desks,
     );
     Ok(End {
-        status: ended.status,
+        status,
         written: Vec::from_slice(alloc, output.written())?,
     })
+}
+
+/// The status with which the program ends. No case rests on what `run` promises, so none of that is said again.
+fn status_of<
+    R: AllocGlobal + Wait,
+    S: Source,
+    F: Source,
+    K: Sink,
+    D: KeyDir + Drop,
+    P: Desk + Drop,
+>(
+    rt: &R,
+    words: &[Text],
+    input: &mut S,
+    file: &mut F,
+    output: &mut K,
+    dir: &mut D,
+    desks: Vec<(P, D)>,
+) -> u8
+    requires { 0 < length desks.items }
+{
+    let Ended { status, .. } = run(rt, words, input, file, output, dir, desks);
+    status
 }
 
 /// A folder of these files, `INDEX=CONTENT` with a comma and a blank between them, of which this call fails, counted from

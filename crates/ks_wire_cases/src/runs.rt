@@ -1,8 +1,9 @@
 //! Runs of the program over an input, an opening file, an output, a folder and a desk in memory.
+ghost use Rattle.std.specs.Prelude.{◌<◌, length};
 
 use anyhow::{Context, Result};
 use ks_base::Text;
-use ks_outside::{MemoryDesk, MemoryDir, MemorySink, MemorySource};
+use ks_outside::{Desk, KeyDir, MemoryDesk, MemoryDir, MemorySink, MemorySource, Sink, Source};
 use ks_top::{Ended, Fault, run};
 use std::alloc::Global;
 use std::sync::Wait;
@@ -88,12 +89,7 @@ pub fn run_over<R: AllocGlobal + Wait>(
     let place = MemoryDir::new(alloc, &[], &[], None)?;
     let mut desks = Vec::new(alloc);
     desks.push((desk, place))?;
-    let Ended {
-        status,
-        fault,
-        mut desks,
-        state: _state,
-    } = run(
+    let (status, fault, mut desks) = done(
         rt,
         words.as_slice(),
         &mut source,
@@ -109,4 +105,25 @@ pub fn run_over<R: AllocGlobal + Wait>(
         written: Vec::from_slice(alloc, sink.written())?,
         desk,
     })
+}
+
+/// Does what the words say. No case rests on what `run` promises, so none of that is said again.
+fn done<R: AllocGlobal + Wait, S: Source, F: Source, K: Sink, D: KeyDir + Drop, P: Desk + Drop>(
+    rt: &R,
+    words: &[Text],
+    input: &mut S,
+    file: &mut F,
+    output: &mut K,
+    dir: &mut D,
+    desks: Vec<(P, D)>,
+) -> (u8, Option<Fault>, Vec<(P, D)>)
+    requires { 0 < length desks.items }
+{
+    let Ended {
+        status,
+        fault,
+        desks,
+        state: _state,
+    } = run(rt, words, input, file, output, dir, desks);
+    (status, fault, desks)
 }
