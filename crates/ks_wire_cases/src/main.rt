@@ -1,20 +1,15 @@
 //! Tries the calls of the wire on tables of cases, and prints for each table how many of its cases held, and each case
-//! that did not: requests out of bytes, routes, responses, and whole runs of the program's commands. The tables are the
-//! files of `data/`.
+//! that did not: requests out of bytes, routes and responses. The tables are the files of `data/`.
 #![tactic(auto)]
 
 mod causes;
-mod checks;
 mod commands;
 mod cut;
-mod folders;
 mod numbers;
 mod replies;
 mod requests;
 mod responses;
 mod routes;
-mod runs;
-mod talks;
 mod told;
 
 use anyhow::Result;
@@ -23,8 +18,5 @@ fn main(rt: HostRuntime) -> Result<()> {
     requests::try_tables(&rt)?;
     responses::try_tables(&rt)?;
     routes::try_tables(&rt)?;
-    replies::try_tables(&rt)?;
-    checks::try_tables(&rt)?;
-    talks::try_tables(&rt)?;
-    folders::try_tables(&rt)
+    replies::try_tables(&rt)
 }
