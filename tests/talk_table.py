@@ -3,9 +3,10 @@
 
     tests/talk_table.py
 
-The tables are `talks` and `talk_responses` in tests/connections. Each input is given to a process whole, and then in pieces of one
-byte. Each process opens with o1.json of that folder, which has its own keys, so that the folder of keys is empty. The program is
-bin/ks of this repository; the environment's KS names another. The exit status is 1 where a connection is answered otherwise.
+The tables are `talks` and `talk_responses` in crates/ks_run_cases/data, where the same connections are tried in memory. Here
+each input is given to a process whole, and then in pieces of one byte. Each process opens with o1.json of that folder, which
+has its own keys, so that the folder of keys is empty. The program is bin/ks of this repository; the environment's KS names
+another. The exit status is 1 where a connection is answered otherwise.
 """
 
 import os
@@ -18,7 +19,7 @@ from tables import rows
 
 TOP = os.path.dirname(os.path.dirname(os.path.abspath(__file__)))
 KS = os.environ.get("KS") or os.path.join(TOP, "bin", "ks")
-DATA = os.path.join(TOP, "tests", "connections")
+DATA = os.path.join(TOP, "crates", "ks_run_cases", "data")
 
 OPENING = os.path.join(DATA, "o1.json")
 
