@@ -2,8 +2,10 @@ ghost use Rattle.std.specs.Prelude.{◌≡◌, Some, is_ok, IsErr, IfOk, if◌th
 ghost use Rattle.ks_outside.specs.Counts.{Counts, next_count};
 ghost use Rattle.ks_outside.specs.Real.{untold_desk};
 
+use crate::tcp_link::prepare;
 use crate::{Desk, Failed, TcpLink};
 use ks_base::{Memory, Receipt};
+use std::io;
 use std::io::ErrorKind;
 use std::marker::Model;
 use std::net::{TcpListener, TcpStream};
@@ -53,8 +55,10 @@ impl<R: Clock + RandomSource> Desk for RealDesk<'_, R> {
 
     ghost desk = { untold_desk };
 
-    /// Waits for the next connection. One that ended before it was accepted is passed over; every other
-    /// error is a fault, and so is a want of a listener.
+    /// Waits for the next connection, which then sends each piece at once, and waits for 30 seconds until
+    /// its client takes one. A connection that ended or failed before it was accepted is passed over, and so
+    /// is one that does not take these settings; every other error is a fault, and so is a want of a
+    /// listener.
     fn accept(&mut self) -> Result<Option<TcpLink>, Failed>
         ensures faults { Counts (IsErr result) self.old.accept_faults self.new.accept_faults }
         // There is always a link or a fault, and the count rises at a fault alone.
@@ -117,22 +121,54 @@ impl<R: Clock + RandomSource> Desk for RealDesk<'_, R> {
     }
 }
 
-/// The next connection. An accept that a signal interrupted is tried again, and so is one whose connection
-/// has ended meanwhile.
+/// The next connection, with its settings. An error of one connection alone is passed over, so that no
+/// client ends a worker.
 fn next_stream(listener: Option<&TcpListener>) -> Result<TcpStream, Failed> {
     let Some(listener) = listener else {
         return Err(Failed);
     };
     'tries: for _ in 0..u64::MAX {
         match listener.accept() {
-            Ok((stream, _)) => return Ok(stream),
-            Err(error)
-                if error.kind() == ErrorKind::Interrupted
-                    || error.kind() == ErrorKind::ConnectionAborted => {}
+            Ok((stream, _)) => {
+                if prepare(&stream).is_ok() {
+                    return Ok(stream);
+                }
+            }
+            Err(error) if is_of_one_connection(&error) => {}
             Err(_) => return Err(Failed),
         }
     }
     Err(Failed)
+}
+
+// Errors of Linux, which std does not tell apart by their kind.
+const NOT_ON_THE_NETWORK: i32 = 64;
+
+const PROTOCOL: i32 = 71;
+
+const NO_SUCH_PROTOCOL_OPTION: i32 = 92;
+
+const NOT_SUPPORTED: i32 = 95;
+
+const HOST_DOWN: i32 = 112;
+
+/// Whether an accept failed by a signal, or by what befell the connection that it took: Linux answers that
+/// by the accept (accept(2), "Error handling"), and the next one takes another connection.
+fn is_of_one_connection(error: &io::Error) -> bool {
+    match error.kind() {
+        ErrorKind::Interrupted
+        | ErrorKind::ConnectionAborted
+        | ErrorKind::NetworkDown
+        | ErrorKind::NetworkUnreachable
+        | ErrorKind::HostUnreachable
+        | ErrorKind::TimedOut => true,
+        _ => matches!(
+            error.raw_os_error(),
+            Some(
+                NOT_ON_THE_NETWORK | PROTOCOL | NO_SUCH_PROTOCOL_OPTION | NOT_SUPPORTED | HOST_DOWN
+            )
+        ),
+    }
 }
 
 /// The clock in whole seconds, where it can be read and does not stand before 1970.
