@@ -42,6 +42,11 @@ pub fn command(alloc: Global, line: &[u8]) -> Result<String> {
             said.push_str("talk")?;
             push_places(&mut said, &places)?;
         }
+        Words::Serve(places, connections) => {
+            said.push_str("serve")?;
+            push_places(&mut said, &places)?;
+            write!(said, " connections={connections}")?;
+        }
         Words::Setup(places) => {
             said.push_str("setup")?;
             push_places(&mut said, &places)?;

@@ -1,33 +1,21 @@
 -- The words that give the commands on a folder of keys.
-use Rattle.std.proofs.Common.{◌≡◌, ℕ, ◌≤◌, nat_le, arith, if◌then◌else◌, Bool, true, false, not, ◌||◌, ◌&&◌, List, [], ◌∷◌, Option, Some, None, Result, Ok, Err, IfOk, refl, ap, ap₂, sym, subst, ◌∙◌, inl, inr, codes}
+use Rattle.std.proofs.Common.{◌≡◌, ℕ, ◌≤◌, arith, Bool, true, false, not, ◌||◌, List, [], ◌∷◌, Option, Some, None, Result, Ok, Err, IfOk, refl, ap, ap₂, sym, subst, ◌∙◌, inl, inr, codes}
 use Rattle.ks_base.specs.declared.memory.Memory.{Memory}
 use Rattle.std.specs.List.{list_all}
 use Rattle.std.specs.Option.{option_map_or}
-use Rattle.std.specs.Str.Parse.{digits_value, without_leading_plus}
-use Rattle.std.proofs.lemmas.Bool.{cases_Bool, leb-true}
+use Rattle.std.proofs.lemmas.Bool.{cases_Bool}
 use Rattle.clap.specs.Words.{Row, first_of, matches_of}
 use Rattle.ks_setup.specs.declared.words.Places.{Places}
 use Rattle.ks_setup.specs.declared.words.Words.{Words}
 use Rattle.ks_setup.specs.declared.words.Words.TheVariants.{Setup, Rotate, Usage}
-use Rattle.ks_setup.specs.Words.{Form, HasMax, check, check_app, folder_places, is_dashed, is_numeral, is_open, max_said, names_option, number_between, read_by, rotate, rotate_app, rotated_with, rows_read, setup, setup_app, talk, talk_app, words_of}
+use Rattle.ks_setup.specs.Words.{Form, IsInRange, check, check_app, folder_places, is_dashed, is_open, max_said, names_option, read_by, rotate, rotate_app, rotated_with, rows_read, serve_app, setup, setup_app, talk, talk_app, words_of}
 use Rattle.ks_setup.proofs.FolderWordLemmas.{folder_is_first, folder_is_rotated, folder_rotated, folder_taken, no_folder_fault, no_max_is_said, two_folders_fault}
 use Rattle.ks_setup.proofs.NameLemmas.{any_name, is_name, named_rotate, named_setup, not_named}
+use Rattle.ks_setup.proofs.NumberLemmas.{number_within}
 use Rattle.ks_setup.proofs.ReadLemmas.{both_true, read_fault, read_none, read_some}
+use Rattle.ks_setup.proofs.ServeLemmas.{serve_is_other}
 
--- the most that a rotation leaves
-
-within : (numeral lower upper : Bool) (number max : ℕ) → (if numeral && (lower && upper) then Some number else None) ≡ Some max → (lower ≡ true) × (upper ≡ true) × (number ≡ max)
-within true true true number max is = (refl, refl, cc)
-within true true false number max is = cc
-within true false upper number max is = cc
-within false lower upper number max is = cc
-
-number_within : (least most : ℕ) (word : List ℕ) (max : ℕ) → number_between least most word ≡ Some max → (least ≤ max) × (max ≤ most)
-unfolding number_between
-number_within least most word max is =
-    let number = digits_value 10 (without_leading_plus word) in
-    let tests = within (is_numeral (without_leading_plus word)) (nat_le least number) (nat_le number most) number max is in
-    (subst (λ n. least ≤ n) tests.2 (leb-true least number tests.0), subst (λ n. n ≤ most) tests.2 (leb-true number most tests.1))
+-- the numbers that a command is told, and the most that a rotation leaves
 
 said_within : (said : Option (List ℕ)) (max : ℕ) → max_said said ≡ Some max → (2 ≤ max) × (max ≤ 32)
 said_within None max is =
@@ -35,46 +23,46 @@ said_within None max is =
     subst (λ n. (2 ≤ n) × (n ≤ 32)) three (omega arith, omega arith)
 said_within (Some word) max is = number_within 2 32 word max is
 
-rotated_within : (folder : Option (List ℕ)) (said : Option ℕ) → ((max : ℕ) → said ≡ Some max → (2 ≤ max) × (max ≤ 32)) → HasMax (rotated_with folder said)
+rotated_within : (folder : Option (List ℕ)) (said : Option ℕ) → ((max : ℕ) → said ≡ Some max → (2 ≤ max) × (max ≤ 32)) → IsInRange (rotated_with folder said)
 rotated_within folder None within = tt
 rotated_within folder (Some max) within = within max refl
 
-rotate_max : (found : Option (List Row)) → HasMax (option_map_or rotate.meaning found Usage)
-rotate_max None = tt
-rotate_max (Some rows) = rotated_within (first_of (codes "folder") rows) (max_said (first_of (codes "max") rows)) (said_within (first_of (codes "max") rows))
+rotate_range : (found : Option (List Row)) → IsInRange (option_map_or rotate.meaning found Usage)
+rotate_range None = tt
+rotate_range (Some rows) = rotated_within (first_of (codes "folder") rows) (max_said (first_of (codes "max") rows)) (said_within (first_of (codes "max") rows))
 
-check_max : (found : Option (List Row)) → HasMax (option_map_or check.meaning found Usage)
-check_max None = tt
-check_max (Some rows) = tt
+check_range : (found : Option (List Row)) → IsInRange (option_map_or check.meaning found Usage)
+check_range None = tt
+check_range (Some rows) = tt
 
-talk_max : (found : Option (List Row)) → HasMax (option_map_or talk.meaning found Usage)
-talk_max None = tt
-talk_max (Some rows) = tt
+talk_range : (found : Option (List Row)) → IsInRange (option_map_or talk.meaning found Usage)
+talk_range None = tt
+talk_range (Some rows) = tt
 
-setup_max : (found : Option (List Row)) → HasMax (option_map_or setup.meaning found Usage)
-setup_max None = tt
-setup_max (Some rows) = tt
+setup_range : (found : Option (List Row)) → IsInRange (option_map_or setup.meaning found Usage)
+setup_range None = tt
+setup_range (Some rows) = tt
 
-pub check_has_max : (words : List (List ℕ)) → HasMax (read_by check words)
+pub check_in_range : (words : List (List ℕ)) → IsInRange (read_by check words)
 unfolding read_by
-check_has_max words = check_max (rows_read check_app words)
+check_in_range words = check_range (rows_read check_app words)
 
-pub talk_has_max : (words : List (List ℕ)) → HasMax (read_by talk words)
+pub talk_in_range : (words : List (List ℕ)) → IsInRange (read_by talk words)
 unfolding read_by
-talk_has_max words = talk_max (rows_read talk_app words)
+talk_in_range words = talk_range (rows_read talk_app words)
 
-pub setup_has_max : (words : List (List ℕ)) → HasMax (read_by setup words)
+pub setup_in_range : (words : List (List ℕ)) → IsInRange (read_by setup words)
 unfolding read_by
-setup_has_max words = setup_max (rows_read setup_app words)
+setup_in_range words = setup_range (rows_read setup_app words)
 
-pub rotate_has_max : (words : List (List ℕ)) → HasMax (read_by rotate words)
+pub rotate_in_range : (words : List (List ℕ)) → IsInRange (read_by rotate words)
 unfolding read_by
-rotate_has_max words = rotate_max (rows_read rotate_app words)
+rotate_in_range words = rotate_range (rows_read rotate_app words)
 
-pub read_has_max : (form : Form) (r : Result Words Memory) (words : List (List ℕ)) → ((words : List (List ℕ)) → HasMax (read_by form words))
-    → IfOk r (λ read. read ≡ read_by form words) → IfOk r HasMax
-read_has_max form (Ok read) words has is = subst HasMax (sym is) (has words)
-read_has_max form (Err fault) words has is = tt
+pub read_in_range : (form : Form) (r : Result Words Memory) (words : List (List ℕ)) → ((words : List (List ℕ)) → IsInRange (read_by form words))
+    → IfOk r (λ read. read ≡ read_by form words) → IfOk r IsInRange
+read_in_range form (Ok read) words has is = subst IsInRange (sym is) (has words)
+read_in_range form (Err fault) words has is = tt
 
 -- `setup`
 
@@ -161,6 +149,7 @@ setup_words_are (name ∷ rest) places =
     (λ e. absurd (talk_is_not (rows_read talk_app (name ∷ rest)) places e))
     (λ is e. setup_rest name rest places (is_name name (codes "setup") is) (setup_only name rest places e))
     (λ e. absurd (rotate_is_not (rows_read rotate_app (name ∷ rest)) places e))
+    (λ e. absurd ((serve_is_other (rows_read serve_app (name ∷ rest)) places).2 e))
     (λ e. cc)
 
 pub setup_words_give : (folder : List ℕ) → is_dashed folder ≡ false → words_of (codes "setup" ∷ folder ∷ []) ≡ Setup (folder_places (Some folder))

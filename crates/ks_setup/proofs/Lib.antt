@@ -15,6 +15,8 @@ pub mod OpeningLemmas
 pub mod OrphanLemmas
 pub mod RangeLemmas
 pub mod ReadLemmas
+pub mod ServeLemmas
+pub mod ServeWordLemmas
 pub mod TalkLemmas
 pub mod WalkLemmas
 pub mod WordLemmas

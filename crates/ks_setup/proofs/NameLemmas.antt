@@ -6,7 +6,7 @@ use Rattle.std.proofs.lemmas.Bool.{cases_Bool}
 use Rattle.std.proofs.lemmas.Slice.Eq.{bytes_eq-Decides}
 use Rattle.ks_setup.specs.declared.words.Words.{Words}
 use Rattle.ks_setup.specs.declared.words.Words.TheVariants.{Usage}
-use Rattle.ks_setup.specs.Words.{check, read_by, rotate, setup, talk, words_of}
+use Rattle.ks_setup.specs.Words.{check, read_by, rotate, serve, setup, talk, words_of}
 
 pub named_check : (words : List (List ℕ)) (name : List ℕ) (b : Bool) → slice_get words 0 ≡ Some name → b ≡ bytes_eq name (codes "check") → b ≡ true
     → words_of words ≡ read_by check words
@@ -63,16 +63,29 @@ named_rotate (word ∷ words) name b d e r first is h also g third f fourth k =
     let last : bytes_eq word (codes "rotate") ≡ true = ap (λ w. bytes_eq w (codes "rotate")) same ∙ sym fourth ∙ k in
     rw (tests.check_no, tests.talk_no, tests.setup_no, last) refl
 
-pub named_else : (words : List (List ℕ)) (name : List ℕ) (b d e r : Bool) → slice_get words 0 ≡ Some name → b ≡ bytes_eq name (codes "check") → b ≡ false
+pub named_serve : (words : List (List ℕ)) (name : List ℕ) (b d e r v : Bool) → slice_get words 0 ≡ Some name → b ≡ bytes_eq name (codes "check") → b ≡ false
     → d ≡ bytes_eq name (codes "talk") → d ≡ false → e ≡ bytes_eq name (codes "setup") → e ≡ false → r ≡ bytes_eq name (codes "rotate") → r ≡ false
-    → words_of words ≡ Usage
+    → v ≡ bytes_eq name (codes "serve") → v ≡ true → words_of words ≡ read_by serve words
 unfolding words_of
-named_else [] name b d e r first is h also g third f fourth k = cc
-named_else (word ∷ words) name b d e r first is h also g third f fourth k =
+named_serve [] name b d e r v first is h also g third f fourth k fifth j = cc
+named_serve (word ∷ words) name b d e r v first is h also g third f fourth k fifth j =
     let same : word ≡ name = cc in
     let tests = not_first word name b d e same is h also g third f in
-    let last : bytes_eq word (codes "rotate") ≡ false = ap (λ w. bytes_eq w (codes "rotate")) same ∙ sym fourth ∙ k in
-    rw (tests.check_no, tests.talk_no, tests.setup_no, last) refl
+    let next : bytes_eq word (codes "rotate") ≡ false = ap (λ w. bytes_eq w (codes "rotate")) same ∙ sym fourth ∙ k in
+    let last : bytes_eq word (codes "serve") ≡ true = ap (λ w. bytes_eq w (codes "serve")) same ∙ sym fifth ∙ j in
+    rw (tests.check_no, tests.talk_no, tests.setup_no, next, last) refl
+
+pub named_else : (words : List (List ℕ)) (name : List ℕ) (b d e r v : Bool) → slice_get words 0 ≡ Some name → b ≡ bytes_eq name (codes "check") → b ≡ false
+    → d ≡ bytes_eq name (codes "talk") → d ≡ false → e ≡ bytes_eq name (codes "setup") → e ≡ false → r ≡ bytes_eq name (codes "rotate") → r ≡ false
+    → v ≡ bytes_eq name (codes "serve") → v ≡ false → words_of words ≡ Usage
+unfolding words_of
+named_else [] name b d e r v first is h also g third f fourth k fifth j = cc
+named_else (word ∷ words) name b d e r v first is h also g third f fourth k fifth j =
+    let same : word ≡ name = cc in
+    let tests = not_first word name b d e same is h also g third f in
+    let next : bytes_eq word (codes "rotate") ≡ false = ap (λ w. bytes_eq w (codes "rotate")) same ∙ sym fourth ∙ k in
+    let last : bytes_eq word (codes "serve") ≡ false = ap (λ w. bytes_eq w (codes "serve")) same ∙ sym fifth ∙ j in
+    rw (tests.check_no, tests.talk_no, tests.setup_no, next, last) refl
 
 pub not_named : (words : List (List ℕ)) → slice_get words 0 ≡ None → words_of words ≡ Usage
 unfolding words_of
@@ -86,24 +99,33 @@ pub talk_name : (name : List ℕ) (rest : List (List ℕ)) → bytes_eq name (co
 talk_name name rest h g = named_talk (name ∷ rest) name false true refl (sym h) refl (sym g) refl
 
 -- whatever holds of the other commands holds of the words of another name
-pub other_name : (P : Words → Type 0) (name : List ℕ) (rest : List (List ℕ)) → bytes_eq name (codes "check") ≡ false → bytes_eq name (codes "talk") ≡ false
-    → (bytes_eq name (codes "setup") ≡ true → P (read_by setup (name ∷ rest))) → P (read_by rotate (name ∷ rest)) → P Usage → P (words_of (name ∷ rest))
-other_name P name rest h g of_setup of_rotate of_none = elim (cases_Bool (bytes_eq name (codes "setup"))) [
-  | inl e ↦ subst P (sym (named_setup (name ∷ rest) name false false true refl (sym h) refl (sym g) refl (sym e) refl)) (of_setup e)
-  | inr e ↦ elim (cases_Bool (bytes_eq name (codes "rotate"))) [
-    | inl r ↦ subst P (sym (named_rotate (name ∷ rest) name false false false true refl (sym h) refl (sym g) refl (sym e) refl (sym r) refl)) of_rotate
-    | inr r ↦ subst P (sym (named_else (name ∷ rest) name false false false false refl (sym h) refl (sym g) refl (sym e) refl (sym r) refl)) of_none
+of_later : (P : Words → Type 0) (name : List ℕ) (rest : List (List ℕ)) → bytes_eq name (codes "check") ≡ false → bytes_eq name (codes "talk") ≡ false
+    → bytes_eq name (codes "setup") ≡ false → P (read_by rotate (name ∷ rest)) → P (read_by serve (name ∷ rest)) → P Usage → P (words_of (name ∷ rest))
+of_later P name rest h g e of_rotate of_serve of_none = elim (cases_Bool (bytes_eq name (codes "rotate"))) [
+  | inl r ↦ subst P (sym (named_rotate (name ∷ rest) name false false false true refl (sym h) refl (sym g) refl (sym e) refl (sym r) refl)) of_rotate
+  | inr r ↦ elim (cases_Bool (bytes_eq name (codes "serve"))) [
+    | inl v ↦ subst P (sym (named_serve (name ∷ rest) name false false false false true refl (sym h) refl (sym g) refl (sym e) refl (sym r) refl (sym v) refl)) of_serve
+    | inr v ↦ subst P (sym (named_else (name ∷ rest) name false false false false false refl (sym h) refl (sym g) refl (sym e) refl (sym r) refl (sym v) refl)) of_none
   ]
+]
+
+pub other_name : (P : Words → Type 0) (name : List ℕ) (rest : List (List ℕ)) → bytes_eq name (codes "check") ≡ false → bytes_eq name (codes "talk") ≡ false
+    → (bytes_eq name (codes "setup") ≡ true → P (read_by setup (name ∷ rest))) → P (read_by rotate (name ∷ rest)) → P (read_by serve (name ∷ rest)) → P Usage
+    → P (words_of (name ∷ rest))
+other_name P name rest h g of_setup of_rotate of_serve of_none = elim (cases_Bool (bytes_eq name (codes "setup"))) [
+  | inl e ↦ subst P (sym (named_setup (name ∷ rest) name false false true refl (sym h) refl (sym g) refl (sym e) refl)) (of_setup e)
+  | inr e ↦ of_later P name rest h g e of_rotate of_serve of_none
 ]
 
 -- whatever holds of all commands, and where there is none, holds of any words
 pub any_name : (P : Words → Type 0) (name : List ℕ) (rest : List (List ℕ)) → P (read_by check (name ∷ rest)) → P (read_by talk (name ∷ rest))
-    → (bytes_eq name (codes "setup") ≡ true → P (read_by setup (name ∷ rest))) → P (read_by rotate (name ∷ rest)) → P Usage → P (words_of (name ∷ rest))
-any_name P name rest of_check of_talk of_setup of_rotate of_none = elim (cases_Bool (bytes_eq name (codes "check"))) [
+    → (bytes_eq name (codes "setup") ≡ true → P (read_by setup (name ∷ rest))) → P (read_by rotate (name ∷ rest)) → P (read_by serve (name ∷ rest)) → P Usage
+    → P (words_of (name ∷ rest))
+any_name P name rest of_check of_talk of_setup of_rotate of_serve of_none = elim (cases_Bool (bytes_eq name (codes "check"))) [
   | inl h ↦ subst P (sym (check_name name rest h)) of_check
   | inr h ↦ elim (cases_Bool (bytes_eq name (codes "talk"))) [
     | inl g ↦ subst P (sym (talk_name name rest h g)) of_talk
-    | inr g ↦ other_name P name rest h g of_setup of_rotate of_none
+    | inr g ↦ other_name P name rest h g of_setup of_rotate of_serve of_none
   ]
 ]
 

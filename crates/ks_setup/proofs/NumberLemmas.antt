@@ -1,6 +1,6 @@
 -- The number that a word writes.
-use Rattle.std.proofs.Common.{◌≡◌, ℕ, Bool, true, false, ◌<◌, ◌≤◌, ◌&&◌, ◌^◌, if◌then◌else◌, List, [], ◌∷◌, length, Option, Some, None, refl, sym, ◌∙◌, ap, arith, inl, inr, lt-ltb, le-leb, nat_le}
-use Rattle.std.proofs.lemmas.Bool.{cases_Bool, cases_lt, lt-leb, ltb-true}
+use Rattle.std.proofs.Common.{◌≡◌, ℕ, Bool, true, false, ◌<◌, ◌≤◌, ◌&&◌, ◌^◌, if◌then◌else◌, List, [], ◌∷◌, length, Option, Some, None, refl, subst, sym, ◌∙◌, ap, arith, inl, inr, lt-ltb, le-leb, nat_le}
+use Rattle.std.proofs.lemmas.Bool.{cases_Bool, cases_lt, leb-true, lt-leb, ltb-true}
 use Rattle.std.specs.Char.{digit_value, is_digit}
 use Rattle.std.specs.List.{list_all}
 use Rattle.std.specs.Str.Parse.{AllDigits, IsNumeral, digits_value, without_leading_plus}
@@ -85,3 +85,17 @@ unread least most word small none =
       ]
       | inr other ↦ no_numeral least most digits other
     ])
+
+-- a number that is read is within the bounds
+within : (numeral lower upper : Bool) (number max : ℕ) → (if numeral && (lower && upper) then Some number else None) ≡ Some max → (lower ≡ true) × (upper ≡ true) × (number ≡ max)
+within true true true number max is = (refl, refl, cc)
+within true true false number max is = cc
+within true false upper number max is = cc
+within false lower upper number max is = cc
+
+pub number_within : (least most : ℕ) (word : List ℕ) (max : ℕ) → number_between least most word ≡ Some max → (least ≤ max) × (max ≤ most)
+unfolding number_between
+number_within least most word max is =
+    let number = digits_value 10 (without_leading_plus word) in
+    let tests = within (is_numeral (without_leading_plus word)) (nat_le least number) (nat_le number most) number max is in
+    (subst (λ n. least ≤ n) tests.2 (leb-true least number tests.0), subst (λ n. n ≤ most) tests.2 (leb-true number most tests.1))

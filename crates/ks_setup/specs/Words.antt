@@ -9,7 +9,7 @@ use Rattle.clap.specs.Kinds.{Kinds}
 use Rattle.clap.specs.Words.{App, Row, Rule, fault_of, first_of, matches_of, new_app, new_rule, with_rule}
 use Rattle.ks_setup.specs.declared.words.Places.{Places}
 use Rattle.ks_setup.specs.declared.words.Words.{Words}
-use Rattle.ks_setup.specs.declared.words.Words.TheVariants.{Check, Talk, Setup, Rotate, Usage}
+use Rattle.ks_setup.specs.declared.words.Words.TheVariants.{Check, Talk, Serve, Setup, Rotate, Usage}
 
 -- the word begins with `-`
 abbrev pub is_dashed : List ℕ → Bool
@@ -110,18 +110,42 @@ abbrev pub max_said : Option (List ℕ) → Option ℕ
 max_said None = Some 3
 max_said (Some word) = number_between 2 32 word
 
--- from 2 to 32 keys may be left
-abbrev pub HasMax : Words → Type 0
-HasMax (Rotate places max) = (2 ≤ max) × (max ≤ 32)
-HasMax Check = Unit {0}
-HasMax (Talk places) = Unit {0}
-HasMax (Setup places) = Unit {0}
-HasMax Usage = Unit {0}
+-- `serve` without its options
+abbrev pub places_app : App
+places_app = with_rule (with_rule (with_rule (new_app (codes "serve")) (needed (codes "file"))) (needed (codes "folder"))) (needed (codes "address"))
+
+abbrev pub serve_app : App
+serve_app = with_rule (with_rule places_app (optional (codes "workers"))) (optional (codes "connections"))
+
+-- what so many workers serve with; the address stays a text, of which the program makes a socket
+abbrev pub serve_places : Option (List ℕ) → Option (List ℕ) → Option (List ℕ) → ℕ → Places
+serve_places file folder address workers = record { file = file; folder = folder; address = address; workers = workers }
+
+-- how many workers serve: 4 where nothing is said
+abbrev pub workers_said : Option (List ℕ) → Option ℕ
+workers_said None = Some 4
+workers_said (Some word) = number_between 1 32 word
+
+-- how many connections each serves: 0, by which they are not counted, where nothing is said
+abbrev pub connections_said : Option (List ℕ) → Option ℕ
+connections_said None = Some 0
+connections_said (Some word) = number_between 0 1000000 word
+
+-- the numbers that a command was told: a rotation leaves from 2 to 32 keys; from 1 to 32 workers serve, and
+-- each is told of at most 1,000,000 connections
+abbrev pub IsInRange : Words → Type 0
+IsInRange (Rotate places max) = (2 ≤ max) × (max ≤ 32)
+IsInRange (Serve places connections) = (1 ≤ places.workers) × (places.workers ≤ 32) × (connections ≤ 1000000)
+IsInRange Check = Unit {0}
+IsInRange (Talk places) = Unit {0}
+IsInRange (Setup places) = Unit {0}
+IsInRange Usage = Unit {0}
 
 -- the path of the opening file that a command names
 abbrev pub file_in : Words → Option (List ℕ)
 file_in Check = None
 file_in (Talk places) = places.file
+file_in (Serve places connections) = places.file
 file_in (Setup places) = None
 file_in (Rotate places max) = None
 file_in Usage = None
@@ -130,9 +154,19 @@ file_in Usage = None
 abbrev pub folder_in : Words → Option (List ℕ)
 folder_in Check = None
 folder_in (Talk places) = places.folder
+folder_in (Serve places connections) = places.folder
 folder_in (Setup places) = places.folder
 folder_in (Rotate places max) = places.folder
 folder_in Usage = None
+
+-- the address to listen at that a command names
+abbrev pub address_in : Words → Option (List ℕ)
+address_in Check = None
+address_in (Talk places) = None
+address_in (Serve places connections) = places.address
+address_in (Setup places) = None
+address_in (Rotate places max) = None
+address_in Usage = None
 
 abbrev pub rotated_with : Option (List ℕ) → Option ℕ → Words
 rotated_with folder None = Usage
@@ -144,8 +178,20 @@ rotate = record {
   meaning = λ rows. rotated_with (first_of (codes "folder") rows) (max_said (first_of (codes "max") rows));
 }
 
+abbrev pub served_with : (ℕ → Places) → Option ℕ → Option ℕ → Words
+served_with places None connections = Usage
+served_with places (Some workers) None = Usage
+served_with places (Some workers) (Some connections) = Serve (places workers) connections
+
+abbrev pub serve : Form
+serve = record {
+  app = serve_app;
+  meaning = λ rows. served_with (serve_places (first_of (codes "file") rows) (first_of (codes "folder") rows) (first_of (codes "address") rows))
+      (workers_said (first_of (codes "workers") rows)) (connections_said (first_of (codes "connections") rows));
+}
+
 abbrev pub forms : List Form
-forms = check ∷ talk ∷ setup ∷ rotate ∷ []
+forms = check ∷ talk ∷ setup ∷ rotate ∷ serve ∷ []
 
 -- what the words of a command mean
 unfoldable pub read_by : Form → List (List ℕ) → Words

@@ -1,6 +1,6 @@
 ghost use Rattle.std.specs.Prelude.{◌≡◌, IfOk, codes, map, option_map};
 ghost use Rattle.clap.specs.Words.{app_of, first_value, found_of};
-ghost use Rattle.ks_setup.specs.Words.{check, check_app, folder_places, max_said, number_between, read_by, rotate, rotate_app, setup, setup_app, talk, talk_app};
+ghost use Rattle.ks_setup.specs.Words.{check, check_app, connections_said, folder_places, max_said, number_between, places_app, read_by, rotate, rotate_app, serve, serve_app, serve_places, setup, setup_app, talk, talk_app, workers_said};
 
 use crate::reader::parsed;
 use crate::words::{Places, Words};
@@ -14,6 +14,18 @@ const FEWEST_KEYS: u32 = 2;
 const MOST_KEYS: u32 = 32;
 
 const KEYS_KEPT: u32 = 3;
+
+/// The fewest and the most workers that may serve, and how many do where that is not said.
+const FEWEST_WORKERS: u32 = 1;
+
+const MOST_WORKERS: u32 = 32;
+
+const WORKERS: u32 = 4;
+
+/// The most connections that a worker may be told to serve, and what stands for their not being counted.
+const MOST_CONNECTIONS: u32 = 1_000_000;
+
+const UNCOUNTED: u32 = 0;
 
 /// `check`, which takes no word.
 pub(crate) fn read_check(alloc: Global, words: &[&str]) -> Result<Words, Memory>
@@ -93,6 +105,79 @@ fn max_of(matches: &ArgMatches<'_>) -> Option<u32>
         Some(word) => number_between(word, FEWEST_KEYS, MOST_KEYS),
         None => Some(KEYS_KEPT),
     }
+}
+
+/// `serve FILE FOLDER ADDRESS [--workers N] [--connections N]`.
+pub(crate) fn read_serve(alloc: Global, words: &[&str]) -> Result<Words, Memory>
+    ensures { IfOk result (λ read. read ≡ read_by serve (map (λ word. word.now) words.now)) }
+{
+    let Some(matches) = parsed(serve_command(alloc)?, words)? else {
+        return Ok(Words::Usage);
+    };
+    let Some(workers) = workers_of(&matches) else {
+        return Ok(Words::Usage);
+    };
+    match connections_of(&matches) {
+        Some(connections) => {
+            let places = serve_places(alloc, &matches, workers)?;
+            Ok(Words::Serve(places, u64::from(connections)))
+        }
+        None => Ok(Words::Usage),
+    }
+}
+
+fn serve_command<'a>(alloc: Global) -> Result<Command<'a>, AllocError>
+    ensures { IfOk result (λ command. app_of command ≡ serve_app) }
+{
+    let workers = Arg::new(alloc, "workers").long("workers");
+    let connections = Arg::new(alloc, "connections").long("connections");
+    places_command(alloc)?.arg(workers)?.arg(connections)
+}
+
+/// The command with its places alone.
+fn places_command<'a>(alloc: Global) -> Result<Command<'a>, AllocError>
+    ensures { IfOk result (λ command. app_of command ≡ places_app) }
+{
+    let file = Arg::new(alloc, "file").required(true);
+    let folder = Arg::new(alloc, "folder").required(true);
+    let address = Arg::new(alloc, "address").required(true);
+    Command::new(alloc, "serve")
+        .arg(file)?
+        .arg(folder)?
+        .arg(address)
+}
+
+/// How many workers are to serve.
+fn workers_of(matches: &ArgMatches<'_>) -> Option<u32>
+    ensures { result ≡ workers_said (first_value (found_of matches.now) (codes "workers")) }
+{
+    match matches.get_str("workers") {
+        Some(word) => number_between(word, FEWEST_WORKERS, MOST_WORKERS),
+        None => Some(WORKERS),
+    }
+}
+
+/// How many connections each worker is to serve.
+fn connections_of(matches: &ArgMatches<'_>) -> Option<u32>
+    ensures { result ≡ connections_said (first_value (found_of matches.now) (codes "connections")) }
+{
+    match matches.get_str("connections") {
+        Some(word) => number_between(word, UNCOUNTED, MOST_CONNECTIONS),
+        None => Some(UNCOUNTED),
+    }
+}
+
+/// What a server works on.
+fn serve_places(alloc: Global, matches: &ArgMatches<'_>, workers: u32) -> Result<Places, Memory>
+    ensures { IfOk result (λ places. places ≡ serve_places (first_value (found_of matches.now) (codes "file"))
+        (first_value (found_of matches.now) (codes "folder")) (first_value (found_of matches.now) (codes "address")) workers) }
+{
+    Ok(Places {
+        file: text_of(alloc, matches, "file")?,
+        folder: text_of(alloc, matches, "folder")?,
+        address: text_of(alloc, matches, "address")?,
+        workers,
+    })
 }
 
 /// The number within these bounds that a word writes.

@@ -2,9 +2,9 @@
 //! does nothing.
 ghost use Rattle.std.specs.Prelude.{◌≡◌, ◌↔◌, ℕ, List, [], ◌∷◌, false, Some, codes};
 ghost use Rattle.ks_setup.specs.Ranges.{OpensInRange};
-ghost use Rattle.ks_setup.specs.Words.{folder_places, is_dashed, talk_places, words_of};
+ghost use Rattle.ks_setup.specs.Words.{folder_places, is_dashed, serve_places, talk_places, words_of};
 ghost use Rattle.ks_setup.specs.declared.words.Places.{Places};
-ghost use Rattle.ks_setup.specs.declared.words.Words.TheVariants.{Check, Talk, Setup, Rotate};
+ghost use Rattle.ks_setup.specs.declared.words.Words.TheVariants.{Check, Talk, Serve, Setup, Rotate};
 
 /// `check` is given by the one word `check` alone.
 pub fn check_is_one_word()
@@ -31,6 +31,13 @@ pub fn setup_is_two_words()
 /// `rotate` with a folder alone leaves at most 3 keys.
 pub fn rotate_leaves_three()
     ensures { (folder : List ℕ) → is_dashed folder ≡ false → words_of (codes "rotate" ∷ folder ∷ []) ≡ Rotate (folder_places (Some folder)) 3 }
+{}
+
+/// `serve` with a file, a folder and an address alone has 4 workers, which do not count their connections.
+/// The address may be any word that does not begin with `-`.
+pub fn serve_has_four_workers()
+    ensures { (file folder address : List ℕ) → is_dashed file ≡ false → is_dashed folder ≡ false → is_dashed address ≡ false
+        → words_of (codes "serve" ∷ file ∷ folder ∷ address ∷ []) ≡ Serve (serve_places (Some file) (Some folder) (Some address) 4) 0 }
 {}
 
 /// The settings and rows of each opening are in range.

@@ -21,8 +21,8 @@ mod written;
 
 pub use folder::wants_folder;
 pub use laws::{
-    check_is_one_word, openings_are_in_range, rotate_leaves_three, setup_is_two_words,
-    talk_is_three_words,
+    check_is_one_word, openings_are_in_range, rotate_leaves_three, serve_has_four_workers,
+    setup_is_two_words, talk_is_three_words,
 };
 pub use lines::{opening_line, state_line};
 pub use opening::{OpeningFault, read_opening};

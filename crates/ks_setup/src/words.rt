@@ -1,7 +1,7 @@
 ghost use Rattle.std.specs.Prelude.{◌≡◌, IfOk, map, option_copied};
-ghost use Rattle.ks_setup.specs.Words.{HasMax, file_in, folder_in, words_of};
+ghost use Rattle.ks_setup.specs.Words.{IsInRange, address_in, file_in, folder_in, words_of};
 
-use crate::commands::{read_check, read_rotate, read_setup, read_talk};
+use crate::commands::{read_check, read_rotate, read_serve, read_setup, read_talk};
 use ks_base::{Memory, Text};
 use std::alloc::{AllocError, Global};
 
@@ -12,7 +12,7 @@ pub struct Places {
     pub file: Option<Text>,
     /// The path of the folder of the keys.
     pub folder: Option<Text>,
-    /// The address to listen at.
+    /// The address to listen at, as it was said: the program finds the socket that it names.
     pub address: Option<Text>,
     /// How many desks serve.
     pub workers: u32,
@@ -26,6 +26,11 @@ pub enum Words {
     /// `talk FILE FOLDER`: one connection is served, by the first desk alone, so there is no address and one
     /// worker.
     Talk(Places),
+    /// `serve FILE FOLDER ADDRESS [--workers N] [--connections N]`: the connections to an address are served,
+    /// by as many desks as there are workers, from 1 to 32; where that is not said there are 4. The number is
+    /// how many connections each desk serves, from 0 to 1,000,000; with 0, as where it is not said, they are
+    /// not counted.
+    Serve(Places, u64),
     /// `setup FOLDER`: the keys of an empty folder are made.
     Setup(Places),
     /// `rotate FOLDER [--max N]`: the keys of a folder are rotated, and at most N of them are left, from 2
@@ -42,6 +47,7 @@ impl Words {
     {
         match self {
             Words::Talk(places) => places.file.as_ref(),
+            Words::Serve(places, _) => places.file.as_ref(),
             Words::Check => None,
             Words::Setup(_) => None,
             Words::Rotate(_, _) => None,
@@ -55,9 +61,24 @@ impl Words {
     {
         match self {
             Words::Talk(places) => places.folder.as_ref(),
+            Words::Serve(places, _) => places.folder.as_ref(),
             Words::Setup(places) => places.folder.as_ref(),
             Words::Rotate(places, _) => places.folder.as_ref(),
             Words::Check => None,
+            Words::Usage => None,
+        }
+    }
+
+    /// The address to listen at, where the command names one.
+    pub fn address(&self) -> Option<&Text>
+        ensures { option_copied result ≡ address_in self.now }
+    {
+        match self {
+            Words::Serve(places, _) => places.address.as_ref(),
+            Words::Check => None,
+            Words::Talk(_) => None,
+            Words::Setup(_) => None,
+            Words::Rotate(_, _) => None,
             Words::Usage => None,
         }
     }
@@ -71,7 +92,7 @@ impl Words {
 /// command takes is `Words::Usage`.
 pub fn read_words(alloc: Global, words: &[Text]) -> Result<Words, Memory>
     ensures words { IfOk result (λ read. read ≡ words_of words.now) }
-    ensures max { IfOk result HasMax }
+    ensures range { IfOk result IsInRange }
 {
     let words = borrowed(alloc, words)?;
     let words = words.as_slice();
@@ -89,6 +110,9 @@ pub fn read_words(alloc: Global, words: &[Text]) -> Result<Words, Memory>
     }
     if *name == "rotate" {
         return read_rotate(alloc, words);
+    }
+    if *name == "serve" {
+        return read_serve(alloc, words);
     }
     Ok(Words::Usage)
 }
