@@ -37,12 +37,12 @@ def expect(what, got, wanted):
         print(f"key_folder: {what}: {got!r} for {wanted!r}", file=sys.stderr)
 
 
-def run(words, status, output="", error="", **options):
-    """Runs the program, which is to end so: a line about the folder has its path."""
+def run(words, status, output="", error="", tracer=(), **options):
+    """Runs the program, below a tracer if one is given, which is to end so: a line about the folder has its path."""
     global runs
     runs += 1
     options.setdefault("stdout", subprocess.PIPE)
-    ended = subprocess.run([KS, *words], stdin=subprocess.DEVNULL, stderr=subprocess.PIPE, umask=0o022, **options)
+    ended = subprocess.run([*tracer, KS, *words], stdin=subprocess.DEVNULL, stderr=subprocess.PIPE, umask=0o022, **options)
     expect(
         f"run {runs}, ks {' '.join(words)}",
         (ended.returncode, (ended.stdout or b"").decode(), ended.stderr.decode().rstrip("\n")),
@@ -192,6 +192,59 @@ def try_closed(work):
     os.chmod(bare, 0o700)
 
 
+# A step of a command that the system refuses: the command, the indices of the folder, the call that is refused and why, the file
+# that it is about, the indices afterwards and which of them have the content of which before, and what the next rotation leaves.
+STOPS = (
+    # a setup, whose two keys are written one after the other
+    ("setup", (), "write", "ENOSPC", "1.new", {}, None),
+    ("setup", (), "fsync", "EIO", "1.new", {}, None),
+    ("setup", (), "rename", "EACCES", "1.new", {}, None),
+    ("setup", (), "write", "ENOSPC", "0.new", {1: None}, "0 1"),
+    ("setup", (), "rename", "EACCES", "0.new", {1: None}, "0 1"),
+    # a rotation: the staged key becomes primary, the new one is written, and the oldest goes
+    ("rotate", (0, 1, 2), "rename", "EACCES", "0", {0: 0, 1: 1, 2: 2}, "0 2 3"),
+    ("rotate", (0, 1, 2), "write", "ENOSPC", "0.new", {1: 1, 2: 2, 3: 0}, "0 2 3"),
+    ("rotate", (0, 1, 2), "rename", "EACCES", "0.new", {1: 1, 2: 2, 3: 0}, "0 2 3"),
+    ("rotate", (0, 1, 2), "unlink", "EACCES", "1", {0: None, 1: 1, 2: 2, 3: 0}, "0 3 4"),
+)
+
+
+def try_stop(folder, command, indices, call, error, name, wanted, next_keys):
+    """A command that is stopped at one step leaves the steps before it, and the next command goes on from there."""
+    what = f"{command} without {call} of {name}"
+    before = lay_out(folder, indices)
+    tracer = ["strace", "-f", "-qq", "-o", "/dev/null", "-P", os.path.join(folder, name), "-e", f"inject={call}:error={error}"]
+    run([command, folder], 8, "", FAILED, tracer=tracer)
+    held = {name: content for name, content in files(folder).items() if name.isdecimal()}
+    expect(f"the files of a {what}", sorted(held), sorted(map(str, wanted)))
+    for index, old in wanted.items():
+        if old is None:
+            expect(f"the key {index} of a {what} is new", held.get(str(index)) and key(held[str(index)]) not in map(key, before.values()), True)
+        else:
+            expect(f"the key {index} of a {what}", held.get(str(index)), before[str(old)])
+    if next_keys:
+        run(["rotate", folder], 0, f"keys {next_keys}\n")
+    else:
+        run(["setup", folder], 0, "keys 0 1\n")
+    expect(f"the files behind a {what}", sorted(files(folder)), (next_keys or "0 1").split())
+
+
+def try_stops(work):
+    """A stop at each step, by calls of the system that are refused for want of room or of rights."""
+    probe = [*"strace -f -qq -o /dev/null -e inject=unlink:error=EIO".split(), sys.executable, "-c", "pass"]
+    try:
+        can_trace = subprocess.run(probe, stdin=subprocess.DEVNULL, capture_output=True).returncode == 0
+    except FileNotFoundError:
+        can_trace = False
+    if not can_trace:
+        print("key_folder: skipped: a stop at each step, for want of an strace that may trace")
+        return
+    for number, stop in enumerate(STOPS):
+        folder = os.path.join(work, f"stop{number}")
+        os.mkdir(folder)
+        try_stop(folder, *stop)
+
+
 def main():
     work = tempfile.mkdtemp()
     try:
@@ -200,6 +253,7 @@ def main():
             os.mkdir(folder)
             part(folder)
         try_refusals(work)
+        try_stops(work)
         try_closed(work)
     finally:
         shutil.rmtree(work)
