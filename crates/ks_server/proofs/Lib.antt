@@ -9,3 +9,5 @@ pub mod AnswerLemmas
 pub mod EndLemmas
 pub mod ProgressLemmas
 pub mod ConnectionLemmas
+pub mod ShiftLemmas
+pub mod SeatLemmas

@@ -46,11 +46,11 @@ word_kept f g on count bytes over word within (refusal why is) = refusal why is
 word_kept f g on count bytes over word within (cut is) = cut is
 word_kept f g on count bytes over word within (memory over' is) = memory over' is
 
-within_first : (journal : Front) (xs ys : List Exchange) → AreWithin journal (xs ++ ys) → AreWithin journal xs
+pub within_first : (journal : Front) (xs ys : List Exchange) → AreWithin journal (xs ++ ys) → AreWithin journal xs
 within_first journal [] ys h = tt
 within_first journal (x ∷ xs) ys h = (h.0, within_first journal xs ys h.1)
 
-within_last : (journal : Front) (xs ys : List Exchange) → AreWithin journal (xs ++ ys) → AreWithin journal ys
+pub within_last : (journal : Front) (xs ys : List Exchange) → AreWithin journal (xs ++ ys) → AreWithin journal ys
 within_last journal [] ys h = h
 within_last journal (x ∷ xs) ys h = within_last journal xs ys h.1
 

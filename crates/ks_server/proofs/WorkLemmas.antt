@@ -11,12 +11,12 @@ use Rattle.ks_turn.specs.Passes.{Passed}
 
 -- moves
 
-reading_first : (moment : ℕ) (xs ys : List Exchange) → IsReadingAmong moment xs → IsReadingAmong moment (xs ++ ys)
+pub reading_first : (moment : ℕ) (xs ys : List Exchange) → IsReadingAmong moment xs → IsReadingAmong moment (xs ++ ys)
 reading_first moment [] ys h = absurd h
 reading_first moment (x ∷ xs) ys (inl is) = inl is
 reading_first moment (x ∷ xs) ys (inr more) = inr (reading_first moment xs ys more)
 
-reading_last : (moment : ℕ) (xs ys : List Exchange) → IsReadingAmong moment ys → IsReadingAmong moment (xs ++ ys)
+pub reading_last : (moment : ℕ) (xs ys : List Exchange) → IsReadingAmong moment ys → IsReadingAmong moment (xs ++ ys)
 reading_last moment [] ys h = h
 reading_last moment (x ∷ xs) ys h = inr (reading_last moment xs ys h)
 

@@ -1,9 +1,10 @@
 -- What the public contract means, in the order in which it is read: exchanges of requests and replies; their order; what ties them to
--- desks; the bytes of a session; and what a stretch of work is.
+-- desks; the bytes of a session; what a stretch of work is; and what workers do beside each other.
 pub mod Exchanges
 pub mod Orders
 pub mod Ties
 pub mod Sessions
 pub mod Work
+pub mod Workers
 pub mod Laws
 pub mod steps

@@ -10,8 +10,12 @@ mod number;
 mod replied;
 mod requests;
 mod respond;
+mod seats;
 mod server;
+mod worker;
+mod workers;
 
 pub use closed::Closed;
 pub use connection::serve_connection;
 pub use laws::{exchanges_are_in_order, sessions_stay};
+pub use workers::{Served, serve};
