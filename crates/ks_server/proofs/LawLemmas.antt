@@ -1,15 +1,18 @@
 -- What holds of exchanges in order.
-use Rattle.std.proofs.Common.{◌≡◌, ℕ, ◌≤◌, List, [], ◌∷◌, ◌++◌, length, take, Some, slice_get, sym, ap, subst, ◌∙◌, arith, length-append}
+use Rattle.std.proofs.Common.{◌≡◌, ℕ, ◌≤◌, Bool, true, false, List, [], ◌∷◌, ◌++◌, length, take, Some, slice_get, sym, ap, subst, ◌∙◌, arith, length-append}
 use Rattle.std.proofs.lemmas.List.{length-take-le}
 use Rattle.std.specs.List.{AllByRecursion}
 use Rattle.ks_machine.proofs.FrontLemmas.{reflexive, transitive}
 use Rattle.ks_machine.specs.declared.change.Entry.{Entry}
 use Rattle.ks_machine.specs.Fronts.{Front, IsSound, ◌⊑◌}
+use Rattle.ks_outside.specs.Streams.{StreamState}
 use Rattle.ks_server.proofs.OrderLemmas.{bare_before, chain_to, from_later, goes_kept, left_later, next_later, within_of}
 use Rattle.ks_server.proofs.SessionLemmas.{ends_kept}
-use Rattle.ks_server.specs.Exchanges.{Exchange, bare, cut_at, front_after}
-use Rattle.ks_server.specs.Laws.{IsPlaced, MovesInOrder, OrderStays, ReceiptsArePlaced, SessionsStay}
-use Rattle.ks_server.specs.Orders.{Goes, HasPlace, IsFrom}
+use Rattle.ks_server.proofs.TieLemmas.{all_both}
+use Rattle.ks_server.specs.Exchanges.{Asked, calls, refused, Exchange, bare, cut_at, front_after}
+use Rattle.ks_server.specs.Laws.{IsPlaced, MovesInOrder, OrderStays, ReceiptsArePlaced, SessionsStay, WorkersArePlaced}
+use Rattle.ks_server.specs.Orders.{Goes, HasPlace, InOrder, IsFrom, IsLate}
+use Rattle.ks_server.specs.Workers.{AreServed, Place, Shift, all_exchanges, exchanges_of}
 
 pub moves_in_order : MovesInOrder
 moves_in_order old new xs moves = record { now = bare new.seen; goes = moves.in_order; on = bare_before new.seen }
@@ -74,3 +77,39 @@ receipts_are_placed seen journal xs order on sound = placed_all seen journal ord
 pub sessions_stay : (F : Type 0) → SessionsStay F
 sessions_stay F seen f g xs order on input before left written why ends =
     ends_kept why f g on input before left written xs (within_of f (bare seen) order.now xs order.goes) ends
+
+-- what workers did
+
+late_more : (asked : Asked) (memory : Bool) (moment high : ℕ) → moment ≤ high → IsLate asked memory moment → IsLate asked memory high
+late_more (calls call) false moment high le late = omega (arith, le, late)
+late_more (calls call) true moment high le late = tt
+late_more (refused why) memory moment high le late = tt
+
+abbrev IsPlacedBy : Front → Front → Exchange → Type 0
+IsPlacedBy seen journal x = IsPlaced seen journal x × IsLate x.asked x.receipt.memory journal.high
+
+placed_by : (seen journal since now : Front) (xs : List Exchange) → Goes journal since xs now → AllByRecursion (λ (x : Exchange). IsPlaced seen journal x) xs → AllByRecursion (λ (x : Exchange). IsPlacedBy seen journal x) xs
+placed_by seen journal since now [] goes placed = tt
+placed_by seen journal since now (x ∷ xs) goes placed = (
+  (placed.0, late_more x.asked x.receipt.memory x.receipt.moment journal.high placed.0.high goes.1.late),
+  placed_by seen journal (front_after journal x) now xs goes.2 placed.1,
+)
+
+placed_in : (seen journal : Front) (xs : List Exchange) → InOrder seen journal xs → seen ⊑ journal → IsSound seen → AllByRecursion (λ (x : Exchange). IsPlacedBy seen journal x) xs
+placed_in seen journal xs order on sound = placed_by seen journal (bare seen) order.now xs order.goes (receipts_are_placed seen journal xs order on sound)
+
+all_placed : {F Link : Type 0} (state : Link → StreamState) (connections : ℕ) (seen journal : Front) (olds news : List (Place Link)) (shifts : List (Shift F Link)) → AreServed state connections seen journal olds news shifts
+    → seen ⊑ journal → IsSound seen → AllByRecursion (λ (x : Exchange). IsPlacedBy seen journal x) (all_exchanges shifts)
+all_placed state connections seen journal [] [] [] h on sound = tt
+all_placed state connections seen journal [] [] (shift ∷ shifts) h on sound = absurd h
+all_placed state connections seen journal [] (new ∷ news) shifts h on sound = absurd h
+all_placed state connections seen journal (old ∷ olds) [] shifts h on sound = absurd h
+all_placed state connections seen journal (old ∷ olds) (new ∷ news) [] h on sound = absurd h
+all_placed state connections seen journal (old ∷ olds) (new ∷ news) (shift ∷ shifts) h on sound =
+    all_both (λ (x : Exchange). IsPlacedBy seen journal x) (exchanges_of shift.visits) (all_exchanges shifts)
+    (placed_in seen journal (exchanges_of shift.visits) h.0.in_order on sound)
+    (all_placed state connections seen journal olds news shifts h.1 on sound)
+
+pub workers_are_placed : (F Link : Type 0) → WorkersArePlaced F Link
+workers_are_placed F Link state connections old new olds news failed keeper served sound =
+    all_placed state connections old.seen new.seen olds news served.shifts served.desks served.later sound

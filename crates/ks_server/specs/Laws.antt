@@ -1,13 +1,15 @@
 -- What holds of exchanges in order, whatever they are.
-use Rattle.std.specs.Prelude.{◌≡◌, ℕ, ◌≤◌, List, Option, Some, slice_get}
+use Rattle.std.specs.Prelude.{◌≡◌, ℕ, ◌≤◌, Bool, List, Option, Some, slice_get}
 use Rattle.std.specs.List.{AllByRecursion}
 use Rattle.ks_machine.specs.declared.change.Entry.{Entry}
 use Rattle.ks_machine.specs.Fronts.{Front, IsSound, ◌⊑◌, cut}
+use Rattle.ks_outside.specs.Streams.{StreamState}
 use Rattle.ks_server.specs.declared.closed.Closed.{Closed}
 use Rattle.ks_server.specs.Exchanges.{Exchange, cut_at, front_after}
-use Rattle.ks_server.specs.Orders.{InOrder}
+use Rattle.ks_server.specs.Orders.{InOrder, IsLate}
 use Rattle.ks_server.specs.Sessions.{EndsSession}
 use Rattle.ks_server.specs.Work.{Moves}
+use Rattle.ks_server.specs.Workers.{Place, ServesAll, all_exchanges}
 use Rattle.ks_turn.specs.Passes.{Passed}
 
 -- what a pass did is in order: from what it had seen to what it has seen
@@ -38,3 +40,11 @@ abbrev pub SessionsStay : Type 0 → Type 0
 SessionsStay F =
     (seen f g : Front) (xs : List Exchange) → InOrder seen f xs → f ⊑ g → (input before : List ℕ) (left written : Option (List ℕ)) (why : Closed F)
     → EndsSession f input before left written xs why → EndsSession g input before left written xs why
+
+-- each exchange of workers stands so in the journal that the pass has seen at the end, and no command that was decided was read later
+-- than its highest moment
+abbrev pub WorkersArePlaced : Type 0 → Type 0 → Type 0
+WorkersArePlaced F Link =
+    (state : Link → StreamState) (connections : ℕ) (old new : Passed) (olds news : List (Place Link)) (failed : Bool) (keeper : Option F)
+    → (served : ServesAll state connections old new olds news failed keeper) → IsSound old.seen
+    → AllByRecursion (λ x. IsPlaced old.seen new.seen x × IsLate x.asked x.receipt.memory new.seen.high) (all_exchanges served.shifts)

@@ -17,5 +17,5 @@ mod workers;
 
 pub use closed::Closed;
 pub use connection::serve_connection;
-pub use laws::{exchanges_are_in_order, sessions_stay};
+pub use laws::{exchanges_are_in_order, sessions_stay, workers_are_placed};
 pub use workers::{Served, serve};
