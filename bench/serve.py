@@ -1,0 +1,184 @@
+#!/usr/bin/env python3
+"""What bench/serve.sh runs: servers, and the load on them.
+
+    serve.py KS SECONDS
+"""
+
+import json
+import multiprocessing
+import os
+import re
+import shutil
+import subprocess
+import sys
+import tempfile
+import time
+
+sys.dont_write_bytecode = True
+TOP = os.path.dirname(os.path.dirname(os.path.abspath(__file__)))
+sys.path.insert(0, os.path.join(TOP, "tests"))
+from served import Connection, Failure, Server, exchange, login, project_scope, request, require, run
+
+O1 = os.path.join(TOP, "examples", "o1.json")
+WORKERS = (1, 4)
+TOKENS, ROUNDS = 1000, 10_000
+
+# A script of wrk: each thread sends the requests of a file, from a place of its own on.
+SCRIPT = """
+local requests, place, threads = {}, 0, 0
+function setup(thread)
+  thread:set("start", threads)
+  threads = threads + 1
+end
+function init(args)
+  local file = io.open(args[1], "rb")
+  local text = file:read("*a")
+  file:close()
+  for length, from in text:gmatch("(%d+) (%d+)\\n") do
+    requests[#requests + 1] = text:sub(-tonumber(from), -tonumber(from) + tonumber(length) - 1)
+  end
+  place = start * 251
+end
+function request()
+  place = place + 1
+  return requests[(place - 1) % #requests + 1]
+end
+function done(summary, latency)
+  local wrong = summary.errors.connect + summary.errors.read + summary.errors.write + summary.errors.status + summary.errors.timeout
+  io.write(string.format("measured %d %d %f %f %d\\n", summary.requests, summary.duration, latency:percentile(50),
+    latency:percentile(99), wrong))
+end
+"""
+
+
+def script_file(work, requests):
+    """Writes the requests with what wrk needs to find them: lengths, and places counted from the end."""
+    path, rest = os.path.join(work, "requests"), sum(map(len, requests))
+    with open(path, "wb") as file:
+        for each in requests:
+            file.write(f"{len(each)} {rest}\n".encode())
+            rest -= len(each)
+        file.write(b"".join(requests))
+    return path
+
+
+def by_wrk(work, port, workers, requests, seconds):
+    """Responses a second, the median and the 99th percentile in milliseconds."""
+    script, path = os.path.join(work, "load.lua"), script_file(work, requests)
+    with open(script, "w", encoding="ascii") as file:
+        file.write(SCRIPT)
+    words = ["wrk", "-t", str(workers), "-c", str(workers), "-d", f"{seconds}s", "-s", script, f"http://127.0.0.1:{port}", "--", path]
+    ran = subprocess.run(words, stdout=subprocess.PIPE, stderr=subprocess.STDOUT, check=False)
+    found = re.search(rb"measured (\d+) (\d+) ([\d.]+) ([\d.]+) (\d+)", ran.stdout)
+    require(found is not None, f"wrk: {ran.stdout.decode()}")
+    count, micros, half, most, wrong = (float(number) for number in found.groups())
+    require(not wrong, f"wrk: {wrong:.0f} requests were answered otherwise: {ran.stdout.decode()}")
+    return count / micros * 1e6, half / 1000, most / 1000
+
+
+def client(port, requests, start, until, results):
+    """Sends requests in turn over one connection, and hands on how long each took."""
+    taken, place = [], start
+    try:
+        with Connection(port) as connection:
+            while time.time() < until:
+                began = time.perf_counter()
+                connection.send(requests[place % len(requests)])
+                status = connection.response().status
+                taken.append(time.perf_counter() - began)
+                require(status < 300, f"a request is answered with {status}")
+                place += 1
+        results.put(taken)
+    except (Failure, OSError) as why:
+        results.put(str(why))
+
+
+def by_python(port, workers, requests, seconds):
+    """The same, by a process for each connection."""
+    results, until = multiprocessing.Queue(), time.time() + seconds
+    clients = [multiprocessing.Process(target=client, args=(port, requests, number * 251, until, results)) for number in range(workers)]
+    for each in clients:
+        each.start()
+    told = [results.get(timeout=seconds + 60) for _ in clients]
+    for each in clients:
+        each.join()
+    for part in told:
+        require(not isinstance(part, str), part)
+    taken = sorted(each for part in told for each in part)
+    return len(taken) / seconds, taken[len(taken) // 2] * 1000, taken[len(taken) * 99 // 100] * 1000
+
+
+def opening(work):
+    """The opening file of the examples, with the rounds of a real one."""
+    with open(O1, encoding="utf-8") as file:
+        told = json.load(file)
+    told["settings"]["rounds"] = ROUNDS
+    path = os.path.join(work, "opening.json")
+    with open(path, "w", encoding="utf-8") as file:
+        json.dump(told, file)
+    return path, told["projects"][0]["id"]
+
+
+def loads(port, project):
+    """The rows: what each is, and its requests."""
+    password = login("ann", "secret", project_scope("demo"))
+    with Connection(port) as connection:
+        first = connection.ask("POST", "/v3/auth/tokens", password).fields["X-Subject-Token"]
+        others = [connection.ask("POST", "/v3/auth/tokens", exchange(first, project_scope("demo"))) for _ in range(TOKENS)]
+    tokens = [response.fields["X-Subject-Token"] for response in others]
+    require(len(set(tokens)) == TOKENS, "the tokens are not different")
+    validations = [request("GET", "/v3/auth/tokens", auth=token, subject=token) for token in tokens]
+    mixed = list(validations)
+    for place in range(0, TOKENS, 100):
+        body = {"project": {"description": f"change {place}"}}
+        mixed[place] = request("PATCH", f"/v3/projects/{project}", body, tokens[place])
+    return [
+        ("GET /v3", [request("GET", "/v3")]),
+        (f"validations of {TOKENS:,} tokens", validations),
+        (f"logins with {ROUNDS:,} rounds", [request("POST", "/v3/auth/tokens", password)]),
+        ("validations with a change in a hundred", mixed),
+    ]
+
+
+def named(workers):
+    """So many workers in words."""
+    return "1 worker" if workers == 1 else f"{workers} workers"
+
+
+def measure(program, seconds, work):
+    """Prints a line for each row and number of workers."""
+    file, project = opening(work)
+    folder, has_wrk, rates = os.path.join(work, "keys"), shutil.which("wrk") is not None, {}
+    os.mkdir(folder, 0o700)
+    require(run(program, "setup", folder)[0] == 0, "the keys cannot be set up")
+    print("the load is " + ("wrk" if has_wrk else "a client in Python for each connection"), flush=True)
+    for workers in WORKERS:
+        with Server(program, file, folder, workers) as server:
+            for what, requests in loads(server.port, project):
+                if has_wrk:
+                    rate, half, most = by_wrk(work, server.port, workers, requests, seconds)
+                else:
+                    rate, half, most = by_python(server.port, workers, requests, seconds)
+                rates[what, workers] = rate
+                print(f"{what}, {named(workers)}: {rate:,.0f} a second, p50 {half:.3f} ms, p99 {most:.3f} ms, "
+                      f"{server.memory() / 1024:.1f} MiB resident", flush=True)
+    least, most = WORKERS
+    for what in dict.fromkeys(what for what, _ in rates):
+        print(f"{what}: {named(most)} do {rates[what, most] / rates[what, least]:.2f} times what {named(least)} does")
+
+
+def main():
+    program, seconds = sys.argv[1], int(sys.argv[2])
+    work = tempfile.mkdtemp()
+    try:
+        measure(program, seconds, work)
+    except (Failure, OSError, subprocess.SubprocessError) as why:
+        print(f"serve: {why}", file=sys.stderr)
+        return 1
+    finally:
+        shutil.rmtree(work, ignore_errors=True)
+    return 0
+
+
+if __name__ == "__main__":
+    sys.exit(main())

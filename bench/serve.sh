@@ -1,0 +1,22 @@
+#!/bin/sh
+# Prints how many requests a second `ks serve` answers over loopback with 1 and with 4 workers, each connection kept: for the version
+# document, for validations of 1,000 different tokens, for logins with 10,000 rounds, and for validations of which each hundredth
+# request is a change; with the time that half of the responses and all but a hundredth of them take at most, and the memory that is
+# resident then. There are as many connections as workers, since a connection occupies one. The load is `wrk`, where it is there, else
+# a client in Python for each connection, which takes a good part of the machine itself.
+#
+#     bench/serve.sh [SECONDS]      for each row, by default 10
+#
+# The program is bin/ks of this repository; the environment's KS names another.
+set -e
+top=$(cd "$(dirname "$0")/.." && pwd)
+ks=${KS:-$top/bin/ks}
+
+if [ ! -x "$ks" ]; then
+    echo "serve: there is no program $ks" >&2
+    exit 1
+fi
+# bin/ks may have to build the program first.
+"$ks" talk "$top/examples/o1.json" keys < /dev/null
+
+exec python3 "$top/bench/serve.py" "$ks" "${1:-10}"
