@@ -1,11 +1,12 @@
 //! Links over TCP, and desks over a listener, the clock and the random source.
 
 use crate::desks::serve;
-use ks_outside::{Desk, Failed, RealDesk, Sink, Source, TcpLink};
+use ks_outside::{Desk, Failed, Folder, KeyDir, RealDesk, Sink, Source, TcpLink};
 use std::io::{Read, Write};
 use std::net::{TcpListener, TcpStream};
 use std::test::Fail;
 use std::thread;
+use std::thread::Threads;
 use std::time::Duration;
 
 #[test]
@@ -23,6 +24,82 @@ fn a_desk_serves_a_connection(rt: HostRuntime) -> Result<(), Fail> {
     // Nobody comes, and the desk may not wait.
     listener.set_nonblocking(true)?;
     assert!(rt; desk.accept().is_err());
+    Ok(())
+}
+
+/// A desk with its folder, and whether it served a link.
+#[derive(Drop)]
+struct Worker<P, D> {
+    desk: P,
+    dir: D,
+    served: bool,
+}
+
+/// Each worker serves one link, on a thread of its own where there can be one.
+fn serve_each<R, P, D>(rt: &R, workers: &mut [Worker<P, D>])
+where
+    R: Threads + Sync,
+    P: Desk + Send + Drop,
+    P::Link: Send,
+    D: KeyDir + Send + Drop,
+{
+    thread::for_each_mut(
+        rt,
+        workers,
+        2,
+        &|_, worker: &mut Worker<P, D>| {
+            worker.served = serve(&mut worker.desk).is_ok();
+        },
+    );
+}
+
+#[test]
+fn desks_on_threads_share_a_listener(rt: HostRuntime) -> Result<(), Fail> {
+    let listener = TcpListener::bind(&rt, "127.0.0.1:0")?;
+    let mut clients = Vec::new(rt.alloc());
+    let mut workers = Vec::new(rt.alloc());
+    for _ in 0..2 {
+        clients.push(TcpStream::connect(&rt, listener.local_addr()?)?)?;
+        workers.push(Worker {
+            desk: RealDesk::new(&rt, Some(&listener)),
+            dir: Folder::new(rt.alloc(), &rt, "keys")?,
+            served: false,
+        })?;
+    }
+    for client in &mut clients {
+        client.write_all(b"abc")?;
+    }
+    serve_each(&rt, workers.as_mut_slice());
+    assert!(rt; workers.iter().all(|worker| worker.served));
+    for client in &mut clients {
+        let mut answer = [0; 3];
+        client.read_exact(&mut answer)?;
+        assert_eq!(rt; answer, *b"abc");
+    }
+    Ok(())
+}
+
+#[test]
+fn a_link_reads_on_within_a_request_and_behind_an_answer(rt: HostRuntime) -> Result<(), Fail> {
+    let listener = TcpListener::bind(&rt, "127.0.0.1:0")?;
+    let mut client = TcpStream::connect(&rt, listener.local_addr()?)?;
+    client.write_all(b"ab")?;
+    let mut desk = RealDesk::new(&rt, Some(&listener));
+    let mut link = desk.accept()?.ok_or("no link")?;
+    let mut into = [0; 1];
+    assert_eq!(rt; link.read(&mut into), Ok(1));
+    assert_eq!(rt; into, *b"a");
+    assert_eq!(rt; link.read(&mut into), Ok(1));
+    assert_eq!(rt; into, *b"b");
+    assert_eq!(rt; link.write(b"xy"), Ok(2));
+    let mut answer = [0; 2];
+    client.read_exact(&mut answer)?;
+    assert_eq!(rt; answer, *b"xy");
+    client.write_all(b"c")?;
+    assert_eq!(rt; link.read(&mut into), Ok(1));
+    assert_eq!(rt; into, *b"c");
+    drop(client);
+    assert_eq!(rt; link.read(&mut into), Ok(0));
     Ok(())
 }
 
