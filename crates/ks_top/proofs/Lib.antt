@@ -5,3 +5,7 @@ pub mod KeyFolderLemmas
 pub mod OpeningLemmas
 pub mod TalkLemmas
 pub mod RunLemmas
+pub mod SendLemmas
+pub mod ServeLemmas
+pub mod LawLemmas
+pub mod JournalLemmas

@@ -3,6 +3,7 @@ use Rattle.std.proofs.Common.{◌≡◌, ℕ, inl, List, Option, Some, Result, O
 use Rattle.ks_outside.specs.Counts.{Counts}
 use Rattle.ks_outside.specs.Files.{KeyFile}
 use Rattle.ks_outside.specs.Streams.{OnlyReads, OnlyWrites, StreamState}
+use Rattle.ks_server.specs.Workers.{Place}
 use Rattle.ks_setup.specs.declared.words.Words.{Words}
 use Rattle.ks_setup.specs.Words.{words_of}
 use Rattle.ks_state.specs.Shown.{Shown}
@@ -14,9 +15,10 @@ use Rattle.ks_top.specs.Runs.{ChangesKeys, Checks, Does, Rotates, Runs, SetsUp, 
 use Rattle.ks_top.specs.World.{World}
 use Rattle.ks_top.proofs.TalkLemmas.{counts_for, reads_for}
 
-pub runs_by : {Link : Type 0} (words : List (List ℕ)) (asked : Words) (old new : World Link) (f : Option Fault) (state : Option Shown)
-    → asked ≡ words_of words → Does asked old new f state → Runs words old new f state
-runs_by words asked old new f state is does = inl (subst (λ w. Does w old new f state) is does)
+pub runs_by : {Link Seat : Type 0} (view : Seat → Place Link) (stream : Link → StreamState) (words : List (List ℕ)) (asked : Words) (old new : World Link Seat) (f : Option Fault) (state : Option Shown)
+    → asked ≡ words_of words → Does view stream asked old new f state → Runs view stream words old new f state
+unfolding Runs
+runs_by view stream words asked old new f state is does = inl (subst (λ w. Does view stream w old new f state) is does)
 
 -- a result and its fault
 
@@ -40,11 +42,11 @@ writes_for P Q old new from writes = record {
   names = writes.names;
 }
 
-abbrev Ends : {Link : Type 0} → World Link → World Link → Result (Unit {0}) Fault → Type 0
+abbrev Ends : {Link Seat : Type 0} → World Link Seat → World Link Seat → Result (Unit {0}) Fault → Type 0
 Ends old new r =
     (text before : List ℕ) → old.input.left ≡ Some text → old.output.written ≡ Some before → EndsCheck text before new.input.left new.output.written r
 
-pub checks : {Link : Type 0} (old new : World Link) (r : Result (Unit {0}) Fault) (f : Option Fault) → f ≡ fault_of r → Ends old new r → IfErr r IsStreamFault
+pub checks : {Link Seat : Type 0} (old new : World Link Seat) (r : Result (Unit {0}) Fault) (f : Option Fault) → f ≡ fault_of r → Ends old new r → IfErr r IsStreamFault
     → OnlyReads (r ≡ Err fault.Read) old.input new.input → OnlyWrites (r ≡ Err fault.Write) old.output new.output
     → new ≡ record old { input = new.input; output = new.output } → Checks old new f
 checks old new r f is told causes reads writes others = subst (Checks old new) (sym is) (record {
@@ -56,7 +58,7 @@ checks old new r f is told causes reads writes others = subst (Checks old new) (
 })
 
 -- what a command on keys says beside what it tells
-pub record Keeps {Link : Type 0} (old new : World Link) (r : Result (Unit {0}) Fault) : Type 0 where
+pub record Keeps {Link Seat : Type 0} (old new : World Link Seat) (r : Result (Unit {0}) Fault) : Type 0 where
   pub causes : IfErr r IsFolderFault
   pub folder : Counts (r ≡ Err fault.Folder) old.dir.faults new.dir.faults
   pub draws : Counts (r ≡ Err fault.Desk) old.desk.fill_faults new.desk.fill_faults
@@ -64,7 +66,7 @@ pub record Keeps {Link : Type 0} (old new : World Link) (r : Result (Unit {0}) F
   pub desk : OnlyDraws old.desk new.desk
   pub others : new ≡ record old { output = new.output; dir = new.dir; desk = new.desk }
 
-changes_keys : {Link : Type 0} (old new : World Link) (r : Result (Unit {0}) Fault) → Keeps old new r → ChangesKeys old new (fault_of r)
+changes_keys : {Link Seat : Type 0} (old new : World Link Seat) (r : Result (Unit {0}) Fault) → Keeps old new r → ChangesKeys old new (fault_of r)
 changes_keys old new r keeps = record {
   causes = caused IsFolderFault r keeps.causes;
   folder = counts_for (r ≡ Err fault.Folder) (fault_of r ≡ Some fault.Folder) old.dir.faults new.dir.faults (err_of r fault.Folder) keeps.folder;
@@ -74,23 +76,23 @@ changes_keys old new r keeps = record {
   others = keeps.others;
 }
 
-abbrev TellsSetup : {Link : Type 0} → World Link → World Link → Result (Unit {0}) Fault → Type 0
+abbrev TellsSetup : {Link Seat : Type 0} → World Link Seat → World Link Seat → Result (Unit {0}) Fault → Type 0
 TellsSetup old new r =
     (random before : List ℕ) (files : List KeyFile) → old.desk.random ≡ Some random → old.dir.files ≡ Some files → old.output.written ≡ Some before
     → EndsSetup random files before (outside new) r
 
-pub sets_up : {Link : Type 0} (old new : World Link) (r : Result (Unit {0}) Fault) (f : Option Fault) → f ≡ fault_of r → TellsSetup old new r → Keeps old new r → SetsUp old new f
+pub sets_up : {Link Seat : Type 0} (old new : World Link Seat) (r : Result (Unit {0}) Fault) (f : Option Fault) → f ≡ fault_of r → TellsSetup old new r → Keeps old new r → SetsUp old new f
 sets_up old new r f is told keeps = subst (SetsUp old new) (sym is) (record {
   told = λ random before files drawn stood written. subst (EndsSetup random files before (outside new)) (sym (same_result r)) (told random before files drawn stood written);
   changes = changes_keys old new r keeps;
 })
 
-abbrev TellsRotation : {Link : Type 0} → ℕ → World Link → World Link → Result (Unit {0}) Fault → Type 0
+abbrev TellsRotation : {Link Seat : Type 0} → ℕ → World Link Seat → World Link Seat → Result (Unit {0}) Fault → Type 0
 TellsRotation max old new r =
     (random before : List ℕ) (files : List KeyFile) → old.desk.random ≡ Some random → old.dir.files ≡ Some files → old.output.written ≡ Some before
     → EndsRotation max random files before (outside new) r
 
-pub rotates : {Link : Type 0} (max : ℕ) (old new : World Link) (r : Result (Unit {0}) Fault) (f : Option Fault) → f ≡ fault_of r → TellsRotation max old new r → Keeps old new r → Rotates max old new f
+pub rotates : {Link Seat : Type 0} (max : ℕ) (old new : World Link Seat) (r : Result (Unit {0}) Fault) (f : Option Fault) → f ≡ fault_of r → TellsRotation max old new r → Keeps old new r → Rotates max old new f
 rotates max old new r f is told keeps = subst (Rotates max old new) (sym is) (record {
   told = λ random before files drawn stood written. subst (EndsRotation max random files before (outside new)) (sym (same_result r)) (told random before files drawn stood written);
   changes = changes_keys old new r keeps;

@@ -1,5 +1,5 @@
 -- A talk, from an opening to the end of its connection.
-use Rattle.std.proofs.Common.{◌≡◌, ℕ, ◌+◌, ◌⊎◌, inl, inr, List, length, Option, Some, refl, sym, ap, ◌∙◌, subst, arith}
+use Rattle.std.proofs.Common.{◌≡◌, ℕ, ◌+◌, ◌⊎◌, inl, inr, List, length, Option, Some, Result, Err, refl, sym, ap, ◌∙◌, subst, arith}
 use Rattle.std.specs.declared.convert.Infallible.{Infallible}
 use Rattle.std.proofs.lemmas.Bool.Decides.{nat_tests}
 use Rattle.ks_machine.specs.declared.settings.OpenFault.{OpenFault}
@@ -22,8 +22,9 @@ use Rattle.ks_state.specs.Standing.{Stands, StandsWithAllKept, first_front}
 use Rattle.ks_state.specs.Shown.{Shown}
 use Rattle.ks_top.specs.declared.fault.Fault.{Fault}
 use Rattle.ks_top.specs.declared.fault.Fault.TheVariants as fault
+use Rattle.ks_top.specs.Identities.{Stopped}
 use Rattle.ks_top.specs.Opened.{IsOpening, StopsOpening}
-use Rattle.ks_top.specs.Talk.{Served, Stopped, Talked, ending}
+use Rattle.ks_top.specs.Talk.{Served, Talked, ending}
 use Rattle.ks_top.specs.World.{World}
 use Rattle.ks_top.specs.steps.Openings.{of_state}
 use Rattle.ks_turn.specs.Passes.{Ends, Passed, first_pass}
@@ -73,7 +74,7 @@ pub record IsLink (link input output : StreamState) : Type 0 where
   pub reads : link.read_faults ≡ input.read_faults
   pub writes : link.write_faults ≡ output.write_faults
 
-told_by : {Link : Type 0} (old new : World Link) (link link_after : StreamState) (journal : Front) (xs : List Exchange) (why : Closed Infallible)
+told_by : {Link Seat : Type 0} (old new : World Link Seat) (link link_after : StreamState) (journal : Front) (xs : List Exchange) (why : Closed Infallible)
     → IsLink link old.input old.output → IsLink link_after new.input new.output
     → ((text before : List ℕ) → link.left ≡ Some text → link.written ≡ Some before → EndsSession journal text before link_after.left link_after.written xs why)
     → (text before : List ℕ) → old.input.left ≡ Some text → old.output.written ≡ Some before → EndsSession journal text before new.input.left new.output.written xs why
@@ -85,7 +86,7 @@ told_by old new link link_after journal xs why is is_after told text before left
 counts_at : (P : Type 0) (a b c d : ℕ) → a ≡ c → b ≡ d → Counts P a b → Counts P c d
 counts_at P a b c d first second counts = subst (λ n. Counts P n d) first (subst (Counts P a) second counts)
 
-pub talked : {Link : Type 0} (old new : World Link) (opening : PlainOpening) (opened : DeskState Link) (pass after : Passed) (why : Closed Infallible) (link link_after : StreamState)
+pub talked : {Link Seat : Type 0} (old new : World Link Seat) (opening : PlainOpening) (opened : DeskState Link) (pass after : Passed) (why : Closed Infallible) (link link_after : StreamState)
     → pass ≡ first_pass pass.turn (first_front opening)
     → (serves : work.Serves pass after opened new.desk old.place new.place 0 link link_after why)
     → KeepsLinks opened new.desk → Ends (first_front opening) after
@@ -105,12 +106,12 @@ talked old new opening opened pass after why link link_after first serves links 
       writes = counts_at (why ≡ closed.WriteFault) link.write_faults link_after.write_faults old.output.write_faults new.output.write_faults is.writes is_after.writes serves.writes;
     }
 
-pub served : {Link : Type 0} {link link_after : StreamState} (old new : World Link) (opening : PlainOpening) (opened : DeskState Link) (pass after : Passed) (why : Closed Infallible) (f : Option Fault) (state : Shown)
+pub served : {Link Seat : Type 0} {link link_after : StreamState} (old new : World Link Seat) (opening : PlainOpening) (opened : DeskState Link) (pass after : Passed) (why : Closed Infallible) (f : Option Fault) (state : Shown)
     → pass ≡ first_pass pass.turn (first_front opening)
     → (serves : work.Serves pass after opened new.desk old.place new.place 0 link link_after why)
     → KeepsLinks opened new.desk → Ends (first_front opening) after
     → IsLink link old.input old.output → IsLink link_after new.input new.output
-    → StandsWithAllKept state after.seen → ending why f → Served old new opening opened f state
+    → StandsWithAllKept state after.seen → ending why f → Served old new f opening opened state
 served {link} {link_after} old new opening opened pass after why f state first serves links ends is is_after stands ended = inl (record {
   journal = after.seen;
   exchanges = serves.exchanges;
@@ -134,7 +135,7 @@ refuses : {Link : Type 0} (file : StreamState) (dir : DirState) (old new : DeskS
     → IsOpening file dir old new opening → (why ≡ state.Memory) ⊎ (open_fault opening ≡ Some why) → StopsOpening file dir old new (fault.State why)
 refuses file dir old new opening why other opened told = (other, record { opening = opening; opened = opened; refused = told_fault (open_fault opening) why other told })
 
-state_stops : {Link : Type 0} (file : StreamState) (dir : DirState) (old new : DeskState Link) (opening : PlainOpening) (why : OpenFault)
+pub state_stops : {Link : Type 0} (file : StreamState) (dir : DirState) (old new : DeskState Link) (opening : PlainOpening) (why : OpenFault)
     → IsOpening file dir old new opening → (why ≡ state.Memory) ⊎ (open_fault opening ≡ Some why) → StopsOpening file dir old new (of_state why)
 state_stops file dir old new opening state.Memory opened told = (opened.drawn, opened.drew)
 state_stops file dir old new opening (state.IdRepeated kind id) opened told = refuses file dir old new opening (state.IdRepeated kind id) (λ e. cc e) opened told
@@ -148,7 +149,7 @@ state_stops file dir old new opening (state.Ring reason) opened told = refuses f
 
 -- no read failed, and the folder did not fail
 
-unread : (why : OpenFault) → of_state why ≡ fault.Read → ⊥
+pub unread : (why : OpenFault) → of_state why ≡ fault.Read → ⊥
 unread state.Memory e = cc e
 unread (state.IdRepeated kind id) e = cc e
 unread (state.Name kind id) e = cc e
@@ -159,7 +160,7 @@ unread (state.Prohibited id) e = cc e
 unread (state.Full kind) e = cc e
 unread (state.Ring reason) e = cc e
 
-unlisted : (why : OpenFault) → of_state why ≡ fault.Folder → ⊥
+pub unlisted : (why : OpenFault) → of_state why ≡ fault.Folder → ⊥
 unlisted state.Memory e = cc e
 unlisted (state.IdRepeated kind id) e = cc e
 unlisted (state.Name kind id) e = cc e
@@ -170,13 +171,18 @@ unlisted (state.Prohibited id) e = cc e
 unlisted (state.Full kind) e = cc e
 unlisted (state.Ring reason) e = cc e
 
-pub state_stopped : {Link : Type 0} (old new : World Link) (opening : PlainOpening) (why : OpenFault)
-    → IsOpening old.file old.dir old.desk new.desk opening → (why ≡ state.Memory) ⊎ (open_fault opening ≡ Some why)
-    → OnlyReads ⊥ old.file new.file → OnlyLooks ⊥ old.dir new.dir → new ≡ record old { file = new.file; dir = new.dir; desk = new.desk }
-    → Stopped old new (of_state why)
-state_stopped old new opening why opened told reads looks others = record {
-  stops = state_stops old.file old.dir old.desk new.desk opening why opened told;
-  file = reads_for ⊥ (of_state why ≡ fault.Read) old.file new.file (unread why) reads;
-  folder = looks_for ⊥ (of_state why ≡ fault.Folder) old.dir new.dir (unlisted why) looks;
+-- a fault of an opening, as one of the program
+
+-- a call failed with the first of these, which is the other one
+abbrev pub Failed : Type 0 → Fault → Fault → Type 0
+Failed A f g = let r : Result A Fault = Err f in r ≡ Err g
+
+pub stopped_by : {Link Seat : Type 0} (A : Type 0) (old new : World Link Seat) (f : Fault) → StopsOpening old.file old.dir old.desk new.desk f
+    → OnlyReads (Failed A f fault.Read) old.file new.file → OnlyLooks (Failed A f fault.Folder) old.dir new.dir
+    → new ≡ record old { file = new.file; dir = new.dir; desk = new.desk } → Stopped old new f
+stopped_by A old new f stops reads looks others = record {
+  stops = stops;
+  file = reads_for (Failed A f fault.Read) (f ≡ fault.Read) old.file new.file (λ e. ap Err e) reads;
+  folder = looks_for (Failed A f fault.Folder) (f ≡ fault.Folder) old.dir new.dir (λ e. ap Err e) looks;
   others = others;
 }

@@ -2,7 +2,8 @@
 use Rattle.std.specs.Prelude.{◌≡◌, ◌⊎◌, ℕ, List, Option, Some, None, IfSome}
 use Rattle.ks_outside.specs.Counts.{Counts}
 use Rattle.ks_outside.specs.Files.{KeyFile}
-use Rattle.ks_outside.specs.Streams.{OnlyReads, OnlyWrites}
+use Rattle.ks_outside.specs.Streams.{OnlyReads, OnlyWrites, StreamState}
+use Rattle.ks_server.specs.Workers.{Place}
 use Rattle.ks_setup.specs.declared.words.Words.{Words}
 use Rattle.ks_setup.specs.declared.words.Words.TheVariants as asked
 use Rattle.ks_setup.specs.Words.{words_of}
@@ -11,11 +12,12 @@ use Rattle.ks_top.specs.declared.fault.Fault.{Fault}
 use Rattle.ks_top.specs.declared.fault.Fault.TheVariants as fault
 use Rattle.ks_top.specs.Ending.{EndsCheck, IsStreamFault, result_of}
 use Rattle.ks_top.specs.KeyFolders.{EndsRotation, EndsSetup, IsFolderFault, OnlyDraws, Outside}
+use Rattle.ks_top.specs.Serve.{Serves}
 use Rattle.ks_top.specs.Talk.{Talks}
 use Rattle.ks_top.specs.World.{World}
 
 -- a check reads its input and writes its output, and touches nothing else
-pub record Checks {Link : Type 0} (old new : World Link) (f : Option Fault) : Type 0 where
+pub record Checks {Link Seat : Type 0} (old new : World Link Seat) (f : Option Fault) : Type 0 where
   pub told : (text before : List ℕ) → old.input.left ≡ Some text → old.output.written ≡ Some before
       → EndsCheck text before new.input.left new.output.written (result_of f)
   pub causes : IfSome f IsStreamFault
@@ -24,11 +26,11 @@ pub record Checks {Link : Type 0} (old new : World Link) (f : Option Fault) : Ty
   pub others : new ≡ record old { input = new.input; output = new.output }
 
 -- what is told behind a command on keys
-abbrev pub outside : {Link : Type 0} → World Link → Outside
+abbrev pub outside : {Link Seat : Type 0} → World Link Seat → Outside
 outside world = record { random = world.desk.random; files = world.dir.files; written = world.output.written }
 
 -- a command on keys draws from the desk, changes the folder and writes its output, and touches nothing else
-pub record ChangesKeys {Link : Type 0} (old new : World Link) (f : Option Fault) : Type 0 where
+pub record ChangesKeys {Link Seat : Type 0} (old new : World Link Seat) (f : Option Fault) : Type 0 where
   pub causes : IfSome f IsFolderFault
   pub folder : Counts (f ≡ Some fault.Folder) old.dir.faults new.dir.faults
   pub draws : Counts (f ≡ Some fault.Desk) old.desk.fill_faults new.desk.fill_faults
@@ -36,28 +38,29 @@ pub record ChangesKeys {Link : Type 0} (old new : World Link) (f : Option Fault)
   pub desk : OnlyDraws old.desk new.desk
   pub others : new ≡ record old { output = new.output; dir = new.dir; desk = new.desk }
 
-pub record SetsUp {Link : Type 0} (old new : World Link) (f : Option Fault) : Type 0 where
+pub record SetsUp {Link Seat : Type 0} (old new : World Link Seat) (f : Option Fault) : Type 0 where
   pub told : (random before : List ℕ) (files : List KeyFile) → old.desk.random ≡ Some random → old.dir.files ≡ Some files → old.output.written ≡ Some before
       → EndsSetup random files before (outside new) (result_of f)
   pub changes : ChangesKeys old new f
 
-pub record Rotates {Link : Type 0} (max : ℕ) (old new : World Link) (f : Option Fault) : Type 0 where
+pub record Rotates {Link Seat : Type 0} (max : ℕ) (old new : World Link Seat) (f : Option Fault) : Type 0 where
   pub told : (random before : List ℕ) (files : List KeyFile) → old.desk.random ≡ Some random → old.dir.files ≡ Some files → old.output.written ≡ Some before
       → EndsRotation max random files before (outside new) (result_of f)
   pub changes : ChangesKeys old new f
 
--- a command does this, and `talk` alone has an identity at its end
-abbrev pub Does : {Link : Type 0} → Words → World Link → World Link → Option Fault → Option Shown → Type 0
-Does asked.Check old new f state = Checks old new f × (state ≡ None)
-Does (asked.Talk places) old new f state = Talks old new f state
-Does (asked.Setup places) old new f state = SetsUp old new f × (state ≡ None)
-Does (asked.Rotate places max) old new f state = Rotates max old new f × (state ≡ None)
-Does asked.Usage old new f state = (f ≡ Some fault.Usage) × (new ≡ old) × (state ≡ None)
+-- a command does this, and `talk` and `serve` alone have an identity at their end
+unfoldable pub Does : {Link Seat : Type 0} → (Seat → Place Link) → (Link → StreamState) → Words → World Link Seat → World Link Seat → Option Fault → Option Shown → Type 0
+Does view stream asked.Check old new f state = Checks old new f × (state ≡ None)
+Does view stream (asked.Talk places) old new f state = Talks old new f state
+Does view stream (asked.Serve places connections) old new f state = Serves view stream places.workers connections old new f state
+Does view stream (asked.Setup places) old new f state = SetsUp old new f × (state ≡ None)
+Does view stream (asked.Rotate places max) old new f state = Rotates max old new f × (state ≡ None)
+Does view stream asked.Usage old new f state = (f ≡ Some fault.Usage) × (new ≡ old) × (state ≡ None)
 
 -- there was no memory to read the words: nothing happened
-abbrev pub HasNotBegun : {Link : Type 0} → World Link → World Link → Option Fault → Option Shown → Type 0
+abbrev pub HasNotBegun : {Link Seat : Type 0} → World Link Seat → World Link Seat → Option Fault → Option Shown → Type 0
 HasNotBegun old new f state = (f ≡ Some fault.Memory) × (new ≡ old) × (state ≡ None)
 
--- the program does what its words say, or there was no memory to read them
-abbrev pub Runs : {Link : Type 0} → List (List ℕ) → World Link → World Link → Option Fault → Option Shown → Type 0
-Runs words old new f state = Does (words_of words) old new f state ⊎ HasNotBegun old new f state
+-- the program does what its words say, or there was no memory to read them; this is what the other desks and the links tell
+unfoldable pub Runs : {Link Seat : Type 0} → (Seat → Place Link) → (Link → StreamState) → List (List ℕ) → World Link Seat → World Link Seat → Option Fault → Option Shown → Type 0
+Runs view stream words old new f state = Does view stream (words_of words) old new f state ⊎ HasNotBegun old new f state

@@ -1,13 +1,10 @@
--- What `talk` does: it opens an identity, serves one connection, and ends with the identity.
+-- What `talk` does behind its opening: it serves one connection, and ends with the identity.
 use Rattle.std.specs.Prelude.{◌≡◌, ◌⊎◌, ℕ, List, Option, Some, None, length}
 use Rattle.std.specs.declared.convert.Infallible.{Infallible}
 use Rattle.ks_machine.specs.Fronts.{Front}
-use Rattle.ks_machine.specs.Opened.{open_fault}
 use Rattle.ks_machine.specs.Openings.{PlainOpening}
 use Rattle.ks_outside.specs.Counts.{Counts}
 use Rattle.ks_outside.specs.Desks.{DeskState}
-use Rattle.ks_outside.specs.Files.{OnlyLooks}
-use Rattle.ks_outside.specs.Streams.{OnlyReads}
 use Rattle.ks_server.specs.declared.closed.Closed.{Closed}
 use Rattle.ks_server.specs.declared.closed.Closed.TheVariants as closed
 use Rattle.ks_server.specs.Exchanges.{Exchange, bare, made}
@@ -18,7 +15,7 @@ use Rattle.ks_state.specs.Standing.{StandsWithAllKept, first_front}
 use Rattle.ks_state.specs.Shown.{Shown}
 use Rattle.ks_top.specs.declared.fault.Fault.{Fault}
 use Rattle.ks_top.specs.declared.fault.Fault.TheVariants as fault
-use Rattle.ks_top.specs.Opened.{IsOpening, StopsOpening}
+use Rattle.ks_top.specs.Identities.{HadNoRoom, OpensThen}
 use Rattle.ks_top.specs.World.{World}
 use Rattle.ks_turn.specs.Sums.{below, times}
 
@@ -34,7 +31,7 @@ ending closed.Memory f = f ≡ Some fault.Memory
 ending (closed.KeeperFault never) f = ⊥
 
 -- a talk of these exchanges over the identity of this opening, behind whose fills the desk was this, ended for this
-pub record Talked {Link : Type 0} (old new : World Link) (opening : PlainOpening) (opened : DeskState Link) (journal : Front) (xs : List Exchange) (why : Closed Infallible) : Type 0 where
+pub record Talked {Link Seat : Type 0} (old new : World Link Seat) (opening : PlainOpening) (opened : DeskState Link) (journal : Front) (xs : List Exchange) (why : Closed Infallible) : Type 0 where
   -- the exchanges are numbered on the one connection, and go from the opening to the end of the journal
   pub numbered : AreNumbered 0 0 xs
   pub in_order : Goes journal (first_front opening) xs (bare journal)
@@ -53,7 +50,7 @@ pub record Talked {Link : Type 0} (old new : World Link) (opening : PlainOpening
   pub writes : Counts (why ≡ closed.WriteFault) old.output.write_faults new.output.write_faults
 
 -- the connection was served, and the identity stands for the end of its journal
-pub record Serves {Link : Type 0} (old new : World Link) (opening : PlainOpening) (opened : DeskState Link) (f : Option Fault) (state : Shown) : Type 0 where
+pub record Serves {Link Seat : Type 0} (old new : World Link Seat) (opening : PlainOpening) (opened : DeskState Link) (f : Option Fault) (state : Shown) : Type 0 where
   pub journal : Front
   pub exchanges : List Exchange
   pub why : Closed Infallible
@@ -61,36 +58,10 @@ pub record Serves {Link : Type 0} (old new : World Link) (opening : PlainOpening
   pub talked : Talked old new opening opened journal exchanges why
   pub ends : ending why f
 
--- there was no memory for a turn: the identity is as it was opened, and nothing was read or written
-pub record HadNoTurn {Link : Type 0} (old new : World Link) (opening : PlainOpening) (opened : DeskState Link) (f : Option Fault) (state : Shown) : Type 0 where
-  pub memory : f ≡ Some fault.Memory
-  pub stands : StandsWithAllKept state (first_front opening)
-  pub desk : new.desk ≡ opened
-  pub others : new ≡ record old { file = new.file; dir = new.dir; desk = new.desk }
-
 -- it was served, unless there was no memory for that
-abbrev pub Served : {Link : Type 0} → World Link → World Link → PlainOpening → DeskState Link → Option Fault → Shown → Type 0
-Served old new opening opened f state = Serves old new opening opened f state ⊎ HadNoTurn old new opening opened f state
-
--- an identity was opened
-pub record Opened {Link : Type 0} (old new : World Link) (f : Option Fault) (state : Shown) : Type 0 where
-  pub opening : PlainOpening
-  pub desk : DeskState Link
-  pub opened : IsOpening old.file old.dir old.desk desk opening
-  pub lawful : open_fault opening ≡ None
-  pub file : OnlyReads ⊥ old.file new.file
-  pub folder : OnlyLooks ⊥ old.dir new.dir
-  pub served : Served old new opening desk f state
-
--- no identity was opened, for this fault; nothing was read of the input, and nothing written
-pub record Stopped {Link : Type 0} (old new : World Link) (f : Fault) : Type 0 where
-  pub stops : StopsOpening old.file old.dir old.desk new.desk f
-  pub file : OnlyReads (f ≡ fault.Read) old.file new.file
-  pub folder : OnlyLooks (f ≡ fault.Folder) old.dir new.dir
-  pub others : new ≡ record old { file = new.file; dir = new.dir; desk = new.desk }
+abbrev pub Served : {Link Seat : Type 0} → World Link Seat → World Link Seat → Option Fault → PlainOpening → DeskState Link → Shown → Type 0
+Served old new f opening opened state = Serves old new opening opened f state ⊎ HadNoRoom old new opening opened f state
 
 -- what a talk does
-abbrev pub Talks : {Link : Type 0} → World Link → World Link → Option Fault → Option Shown → Type 0
-Talks old new (Some f) None = Stopped old new f
-Talks old new None None = ⊥
-Talks old new f (Some state) = Opened old new f state
+abbrev pub Talks : {Link Seat : Type 0} → World Link Seat → World Link Seat → Option Fault → Option Shown → Type 0
+Talks old new f state = OpensThen (Served old new f) old new f state

@@ -28,7 +28,7 @@ pub enum Fault {
     Folder,
     /// The folder of the keys is refused. It is never `Failed` or `Memory`: these are faults of their own.
     Keys(KeysFault),
-    /// The first desk had no random bytes.
+    /// The first desk had no random bytes; or, once an identity was opened, a desk accepted no more connections.
     Desk,
 }
 

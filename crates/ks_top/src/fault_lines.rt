@@ -6,7 +6,7 @@ use ks_base::KeysFault;
 use std::fmt;
 
 const USAGE: &str =
-    "usage: ks check | ks talk FILE FOLDER | ks setup FOLDER | ks rotate FOLDER [--max N]";
+    "usage: ks check | ks talk FILE FOLDER | ks serve FILE FOLDER ADDRESS [--workers N] [--connections N] | ks setup FOLDER | ks rotate FOLDER [--max N]";
 
 const FAILED: &str =
     "the key folder could not be read or written; if there is none yet, make it first";
@@ -27,7 +27,7 @@ impl fmt::Display for Fault {
             Fault::Opening(_) | Fault::State(_) => write!(f, "the opening file is refused"),
             Fault::Folder => write!(f, "{FAILED}"),
             Fault::Keys(fault) => write_keys(f, fault),
-            Fault::Desk => write!(f, "there were no random bytes"),
+            Fault::Desk => { write!(f, "there were no random bytes, or no more connections") }
         }
     }
 }

@@ -6,12 +6,14 @@ use crate::check::check;
 use crate::fault::Fault;
 use crate::key_folder::{rotate, set_up};
 use crate::outcome::Outcome;
+use crate::serve::serve;
 use crate::talk::talk;
 use ks_base::Text;
 use ks_outside::{Desk, KeyDir, Sink, Source};
 use ks_setup::{Words, read_words};
 use ks_state::Identity;
 use std::sync::Wait;
+use std::thread::Threads;
 
 /// How the program ended: the status of its process, and the fault where that is not 0; the desks with their folders;
 /// and the identity as it then was, where one was opened.
@@ -24,7 +26,7 @@ pub struct Ended<P, D> {
 }
 
 /// Does what the words say, on an input, an opening file and an output, a folder of keys, and desks, each with a
-/// folder of its own. The first desk does all work, and the others come back as they are.
+/// folder of its own. All desks come back in their order; of a command other than `serve` all but the first as they are.
 ///
 /// `check` reads a Fernet key and lines of a moment and a token, and answers which tokens are refused.
 /// `talk FILE FOLDER` opens an identity from the file, which may take its keys from the folder `dir`, and serves one
@@ -32,31 +34,44 @@ pub struct Ended<P, D> {
 /// desk's folder. `setup FOLDER` makes the keys of an empty folder, and `rotate FOLDER` rotates them; both say which
 /// indices the folder then has.
 ///
+/// `serve FILE FOLDER ADDRESS [--workers N] [--connections N]` opens an identity as `talk` does, and serves with the first
+/// N desks beside each other, 4 where N is not said and never more than there are. Each accepts links and serves them one
+/// after the other, until no more come, an accept fails, or it had its number of them, if one other than 0 is said; its own
+/// folder is the one from which calls load keys. Input and output are left alone. The address is for who makes the desks.
+///
 /// The statuses: 0 where the input was read and answered whole, or to the request or the refusal that
-/// ends the connection; 2 where the words are not a command's; 3 where the input or the opening file could not be
-/// read; 4 where the output could not be written; 5 for want of memory; 6 where a line of `check` is not in
-/// the grammar; 7 where the opening file is refused; 8 where the folder failed; 9 where it has no keys, or bad or too
-/// many ones; 10 where there were no random bytes; 11 where `setup` found keys; 12 where `rotate` found the last
-/// index of all.
-pub fn run<R: AllocGlobal + Wait, S: Source, F: Source, K: Sink, D: KeyDir + Drop, P: Desk + Drop>(
+/// ends the connection, or where the desks had no more links or their number of them; 2 where the words are not a
+/// command's; 3 where the input or the opening file could not be read; 4 where the output could not be written; 5 for want
+/// of memory; 6 where a line of `check` is not in the grammar; 7 where the opening file is refused; 8 where the folder
+/// failed; 9 where it has no keys, or bad or too many ones; 10 where there were no random bytes, or where an identity was
+/// opened and a desk's accept failed; 11 where `setup` found keys; 12 where `rotate` found the last index of all.
+pub fn run<
+    R: AllocGlobal + Threads + Wait + Sync,
+    S: Source,
+    F: Source,
+    K: Sink,
+    D: KeyDir + Send + Drop,
+    P: Desk + Send + Drop,
+>(
     rt: &R,
     words: &[Text],
     input: &mut S,
     file: &mut F,
     output: &mut K,
     dir: &mut D,
-    mut desks: Vec<(P, D)>,
+    desks: Vec<(P, D)>,
 ) -> Ended<P, D>
+where
+    P::Link: Send,
     requires { 0 < length desks.items }
     ensures status { result.status ≡ status_of result.fault }
-    ensures runs { (first : P × D) (others : List (P × D)) → desks.items ≡ first ∷ others → (after : P × D) × (result.desks.items ≡ after ∷ others)
-        × Runs words.now
-        (record { input = S.stream input.old; file = F.stream file.old; output = K.stream output.old; dir = D.dir dir.old; desk = P.desk first.0; place = D.dir first.1 })
-        (record { input = S.stream input.new; file = F.stream file.new; output = K.stream output.new; dir = D.dir dir.new; desk = P.desk after.0; place = D.dir after.1 })
+    ensures runs { (first : P × D) (others : List (P × D)) → desks.items ≡ first ∷ others → (after : P × D) × (rest : List (P × D)) × (result.desks.items ≡ after ∷ rest)
+        × Runs (λ (d : P × D). record { desk = P.desk d.0; dir = D.dir d.1 }) P.Link.stream words.now
+        (record { input = S.stream input.old; file = F.stream file.old; output = K.stream output.old; dir = D.dir dir.old; desk = P.desk first.0; place = D.dir first.1; others = others })
+        (record { input = S.stream input.new; file = F.stream file.new; output = K.stream output.new; dir = D.dir dir.new; desk = P.desk after.0; place = D.dir after.1; others = rest })
         result.fault result.state }
 {
-    let (desk, place) = &mut desks[0];
-    let Outcome { fault, state } = run_first(rt, words, input, file, output, dir, desk, place);
+    let (Outcome { fault, state }, desks) = run_command(rt, words, input, file, output, dir, desks);
     Ended {
         status: status(&fault),
         fault,
@@ -75,30 +90,53 @@ fn status(fault: &Option<Fault>) -> u8
     }
 }
 
-/// Does what the words say with the first desk and its folder.
-fn run_first<R: AllocGlobal + Wait, S: Source, F: Source, K: Sink, D: KeyDir, P: Desk>(
+/// Does what the words say. The desks come back in their order.
+fn run_command<
+    R: AllocGlobal + Threads + Wait + Sync,
+    S: Source,
+    F: Source,
+    K: Sink,
+    D: KeyDir + Send + Drop,
+    P: Desk + Send + Drop,
+>(
     rt: &R,
     words: &[Text],
     input: &mut S,
     file: &mut F,
     output: &mut K,
     dir: &mut D,
-    desk: &mut P,
-    place: &mut D,
-) -> Outcome
-    ensures { Runs words.now
-        (record { input = S.stream input.old; file = F.stream file.old; output = K.stream output.old; dir = D.dir dir.old; desk = P.desk desk.old; place = D.dir place.old })
-        (record { input = S.stream input.new; file = F.stream file.new; output = K.stream output.new; dir = D.dir dir.new; desk = P.desk desk.new; place = D.dir place.new })
-        result.fault result.state }
+    mut desks: Vec<(P, D)>,
+) -> (Outcome, Vec<(P, D)>)
+where
+    P::Link: Send,
+    requires { 0 < length desks.items }
+    ensures { (first : P × D) (others : List (P × D)) → desks.items ≡ first ∷ others → (after : P × D) × (rest : List (P × D)) × (result.1.items ≡ after ∷ rest)
+        × Runs (λ (d : P × D). record { desk = P.desk d.0; dir = D.dir d.1 }) P.Link.stream words.now
+        (record { input = S.stream input.old; file = F.stream file.old; output = K.stream output.old; dir = D.dir dir.old; desk = P.desk first.0; place = D.dir first.1; others = others })
+        (record { input = S.stream input.new; file = F.stream file.new; output = K.stream output.new; dir = D.dir dir.new; desk = P.desk after.0; place = D.dir after.1; others = rest })
+        result.0.fault result.0.state }
 {
     match read_words(rt.alloc(), words) {
-        Ok(Words::Check) => Outcome::of(check(rt.alloc(), input, output)),
-        Ok(Words::Talk(_places)) => talk(rt, input, file, output, dir, desk, place),
-        Ok(Words::Setup(_places)) => Outcome::of(set_up(dir, desk, output)),
-        Ok(Words::Rotate(_places, max)) => {
-            Outcome::of(rotate(rt.alloc(), dir, desk, max, output))
+        Ok(Words::Check) => (Outcome::of(check(rt.alloc(), input, output)), desks),
+        Ok(Words::Talk(_places)) => {
+            let (desk, place) = &mut desks[0];
+            let outcome = talk(rt, input, file, output, dir, desk, place);
+            (outcome, desks)
         }
-        Ok(Words::Usage) => Outcome::stopped(Fault::Usage),
-        Err(_) => Outcome::stopped(Fault::Memory),
+        Ok(Words::Serve(places, connections)) => {
+            serve(rt, file, dir, desks, places.workers, connections)
+        }
+        Ok(Words::Setup(_places)) => {
+            let (desk, _place) = &mut desks[0];
+            let outcome = Outcome::of(set_up(dir, desk, output));
+            (outcome, desks)
+        }
+        Ok(Words::Rotate(_places, max)) => {
+            let (desk, _place) = &mut desks[0];
+            let outcome = Outcome::of(rotate(rt.alloc(), dir, desk, max, output));
+            (outcome, desks)
+        }
+        Ok(Words::Usage) => (Outcome::stopped(Fault::Usage), desks),
+        Err(_) => (Outcome::stopped(Fault::Memory), desks),
     }
 }

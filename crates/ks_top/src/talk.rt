@@ -1,5 +1,5 @@
 //! One connection, served by an identity that an opening file gives.
-ghost use Rattle.std.specs.Prelude.{◌≡◌, ◌⊎◌, Some};
+ghost use Rattle.std.specs.Prelude.{◌≡◌, ◌⊎◌, Some, List};
 ghost use Rattle.ks_outside.specs.Desks.{DeskState};
 ghost use Rattle.ks_outside.specs.Files.{DirState};
 ghost use Rattle.ks_outside.specs.Streams.{StreamState};
@@ -8,19 +8,14 @@ ghost use Rattle.ks_state.specs.Standing.{StandsWithAllKept, first_front};
 ghost use Rattle.ks_top.specs.Talk.{Served, Talks, ending};
 
 use crate::fault::Fault;
-use crate::opening;
+use crate::opened::{Opened, open};
 use crate::outcome::Outcome;
-use ks_base::Text;
 use ks_outside::{Desk, KeyDir, Open, Pair, Sink, Source};
-use ks_policy::Opening;
-use ks_routes::Routes;
 use ks_server::{Closed, serve_connection};
-use ks_setup::openings_are_in_range;
 use ks_state::Identity;
 use ks_turn::{First, NoRoom, Turn};
 use std::convert::Infallible;
 use std::marker::Brand;
-use std::snapshot::Snapshot;
 use std::sync::Wait;
 
 /// Opens an identity from the file, and from the folder `dir` where the file takes its keys from there, and serves one
@@ -34,58 +29,48 @@ pub fn talk<R: AllocGlobal + Wait, S: Source, F: Source, K: Sink, D: KeyDir, P: 
     desk: &mut P,
     place: &mut D,
 ) -> Outcome
-    ensures { Talks
-        (record { input = S.stream input.old; file = F.stream file.old; output = K.stream output.old; dir = D.dir dir.old; desk = P.desk desk.old; place = D.dir place.old })
-        (record { input = S.stream input.new; file = F.stream file.new; output = K.stream output.new; dir = D.dir dir.new; desk = P.desk desk.new; place = D.dir place.new })
+    ensures { (others : List (P × D)) → Talks
+        (record { input = S.stream input.old; file = F.stream file.old; output = K.stream output.old; dir = D.dir dir.old; desk = P.desk desk.old; place = D.dir place.old; others = others })
+        (record { input = S.stream input.new; file = F.stream file.new; output = K.stream output.new; dir = D.dir dir.new; desk = P.desk desk.new; place = D.dir place.new; others = others })
         result.fault result.state }
 {
-    let alloc = rt.alloc();
-    let Ok(routes) = Routes::new(alloc) else {
-        return Outcome::stopped(Fault::Memory);
-    };
-    let opening = match opening::read(alloc, file, dir, desk) {
-        Ok(opening) => opening,
-        Err(fault) => return Outcome::stopped(fault),
-    };
-    let Ok(url) = opening.settings.url.copy() else {
-        return Outcome::stopped(Fault::Memory);
-    };
-    let named = Snapshot::of(&opening);
-    openings_are_in_range();
-    match Identity::open(alloc, opening) {
-        Ok(identity) => {
-            let (fault, state) = serve::<Brand, R, S, K, D, P>(
-                rt, named, identity, &routes, &url, input, output, desk, place,
+    match open(rt.alloc(), file, dir, desk) {
+        Ok(opened) => {
+            let (fault, state) = serve_one::<Brand, R, S, K, D, P>(
+                rt, opened, input, output, desk, place,
             );
             Outcome {
                 fault,
                 state: Some(state),
             }
         }
-        Err(why) => Outcome::stopped(Fault::of_state(why)),
+        Err(fault) => Outcome::stopped(fault),
     }
 }
 
-/// Serves one connection by an identity that was opened with this.
-fn serve<N: First, R: AllocGlobal + Wait, S: Source, K: Sink, D: KeyDir, P: Desk>(
+/// Serves one connection by an identity that was opened.
+fn serve_one<N: First, R: AllocGlobal + Wait, S: Source, K: Sink, D: KeyDir, P: Desk>(
     rt: &R,
-    opening: Snapshot<Opening>,
-    identity: Identity,
-    routes: &Routes,
-    url: &Text,
+    opened: Opened,
     input: &mut S,
     output: &mut K,
     desk: &mut P,
     place: &mut D,
 ) -> (Option<Fault>, Identity)
-    requires front { N.front ≡ first_front (plain opening.value) }
-    requires stands { StandsWithAllKept identity N.front }
-    requires url { url.now ≡ opening.value.settings.url }
-    ensures { (before : DeskState P.Link) (file file_after : StreamState) (dir dir_after : DirState) → Served
-        (record { input = S.stream input.old; file = file; output = K.stream output.old; dir = dir; desk = before; place = D.dir place.old })
-        (record { input = S.stream input.new; file = file_after; output = K.stream output.new; dir = dir_after; desk = P.desk desk.new; place = D.dir place.new })
-        (plain opening.value) (P.desk desk.old) result.0 result.1 }
+    requires front { N.front ≡ first_front (plain opened.opening.value) }
+    requires stands { StandsWithAllKept opened.identity N.front }
+    requires url { opened.url ≡ opened.opening.value.settings.url }
+    ensures { (before : DeskState P.Link) (file file_after : StreamState) (dir dir_after : DirState) (others : List (P × D)) → Served
+        (record { input = S.stream input.old; file = file; output = K.stream output.old; dir = dir; desk = before; place = D.dir place.old; others = others })
+        (record { input = S.stream input.new; file = file_after; output = K.stream output.new; dir = dir_after; desk = P.desk desk.new; place = D.dir place.new; others = others })
+        result.0 (plain opened.opening.value) (P.desk desk.old) result.1 }
 {
+    let Opened {
+        identity,
+        routes,
+        url,
+        opening: _,
+    } = opened;
     let (turn, pass) = match Turn::<Identity, N>::new(rt.alloc(), identity) {
         Ok(made) => made,
         Err(NoRoom { state }) => return (Some(Fault::Memory), state),
@@ -104,8 +89,8 @@ fn serve<N: First, R: AllocGlobal + Wait, S: Source, K: Sink, D: KeyDir, P: Desk
         0,
         &mut link,
         &Open,
-        routes,
-        url,
+        &routes,
+        &url,
     );
     (ending(closed), turn.close(pass))
 }

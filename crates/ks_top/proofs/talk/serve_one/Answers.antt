@@ -3,12 +3,12 @@ use Rattle.ks_policy.specs.Openings.{plain}
 use Rattle.ks_state.specs.Standing.{first_front}
 use Rattle.ks_top.proofs.TalkLemmas.{first_is, served}
 use Rattle.ks_turn.specs.Passes.{Ends}
-use Rattle.ks_top.proofs.talk.serve.Goals as goal
+use Rattle.ks_top.proofs.talk.serve_one.Goals as goal
 
 pub returns : goal.returns
-returns g c = λ before file file_after dir dir_after.
-    served _ _ (plain c.args.opening.value) (g.P.Desk.desk c.args.desk.now) c.in-Ok.made.1 c.serve_connection-pass.result.0 c.serve_connection-pass.result.1 c.ending.result c.close.result
-    (first_is c.in-Ok.made.0 c.in-Ok.made.1 g.N.First.front (first_front (plain c.args.opening.value)) c.in-Ok.ensures.made c.requires.front)
+returns g c = λ before file file_after dir dir_after others.
+    served _ _ (plain c.args.opened.opening.value) (g.P.Desk.desk c.args.desk.now) c.in-Ok.made.1 c.serve_connection-pass.result.0 c.serve_connection-pass.result.1 c.ending.result c.close.result
+    (first_is c.in-Ok.made.0 c.in-Ok.made.1 g.N.First.front (first_front (plain c.args.opened.opening.value)) c.in-Ok.ensures.made c.requires.front)
     c.serve_connection-pass.ensures.serves c.serve_connection-pass.ensures.links
     (subst (λ f. Ends f c.serve_connection-pass.result.0) c.requires.front c.close.ensures.ends)
     (record { left = refl; written = refl; reads = refl; writes = refl })

@@ -1,0 +1,294 @@
+-- What holds of every run.
+use Rattle.std.proofs.Common.{◌≡◌, ℕ, zero, suc, ◌-◌, ◌⊎◌, inl, inr, Bool, true, false, ◌||◌, List, [], ◌∷◌, take, map, Option, Some, None, refl, sym, ap, subst, ◌∙◌}
+use Rattle.std.specs.List.{AllZip}
+use Rattle.std.specs.declared.convert.Infallible.{Infallible}
+use Rattle.ks_base.specs.declared.faults.KeysFault.TheVariants as keys
+use Rattle.ks_machine.specs.Fronts.{Front}
+use Rattle.ks_outside.specs.Counts.{Rose}
+use Rattle.ks_outside.specs.Desks.{DeskState}
+use Rattle.ks_outside.specs.Files.{DirState}
+use Rattle.ks_outside.specs.Streams.{StreamState}
+use Rattle.ks_server.specs.declared.closed.Closed.{Closed}
+use Rattle.ks_server.specs.declared.closed.Closed.TheVariants as closed
+use Rattle.ks_server.specs.Workers.{AreServed, Place, Shift, some_failed}
+use Rattle.ks_setup.specs.declared.opening.OpeningFault.TheVariants as refusal
+use Rattle.ks_setup.specs.declared.words.Words.{Words}
+use Rattle.ks_setup.specs.declared.words.Words.TheVariants as asked
+use Rattle.ks_setup.specs.Words.{words_of}
+use Rattle.ks_state.specs.Shown.{Shown}
+use Rattle.ks_state.specs.Standing.{first_front}
+use Rattle.ks_top.specs.declared.fault.Fault.{Fault}
+use Rattle.ks_top.specs.declared.fault.Fault.TheVariants as fault
+use Rattle.ks_top.specs.Identities.{Opened, Stopped}
+use Rattle.ks_top.specs.Laws.{CommandsComplete, DeskFaultsAreCounted, EndsUnfailed, IsCounted, IsUnfailed, NothingFailed, SomeAcceptRose, StoodStill, TalksComplete, places_of}
+use Rattle.ks_top.specs.Runs.{ChangesKeys, Checks, Does, Runs}
+use Rattle.ks_top.specs.Serve.{desk_fault, serving}
+use Rattle.ks_top.specs.Serve as serve
+use Rattle.ks_top.specs.Talk.{Served, Talks, ending}
+use Rattle.ks_top.specs.World.{World}
+
+-- a fault of this value was told
+
+unfailed_as : (f g : Option Fault) → f ≡ g → EndsUnfailed g → EndsUnfailed f
+unfailed_as f g is ends = subst EndsUnfailed (sym is) ends
+
+-- `check`, `setup` and `rotate`
+
+check_unfailed : {Link Seat : Type 0} (view : Seat → Place Link) (old new : World Link Seat) (f : Option Fault) → Checks old new f → NothingFailed view old new → EndsUnfailed f
+check_unfailed view old new None checks nothing = tt
+check_unfailed view old new (Some fault.Read) checks nothing = absurd (nothing.input (checks.reads.reads.rose refl))
+check_unfailed view old new (Some fault.Write) checks nothing = absurd (nothing.output (checks.writes.writes.rose refl))
+check_unfailed view old new (Some fault.Memory) checks nothing = inl refl
+check_unfailed view old new (Some (fault.BadLine n)) checks nothing = inr tt
+check_unfailed view old new (Some fault.Usage) checks nothing = absurd checks.causes
+check_unfailed view old new (Some (fault.Opening reason)) checks nothing = absurd checks.causes
+check_unfailed view old new (Some (fault.State reason)) checks nothing = absurd checks.causes
+check_unfailed view old new (Some fault.Folder) checks nothing = absurd checks.causes
+check_unfailed view old new (Some (fault.Keys reason)) checks nothing = absurd checks.causes
+check_unfailed view old new (Some fault.Desk) checks nothing = absurd checks.causes
+
+keys_unfailed : {Link Seat : Type 0} (view : Seat → Place Link) (old new : World Link Seat) (f : Option Fault) → ChangesKeys old new f → NothingFailed view old new → EndsUnfailed f
+keys_unfailed view old new None changes nothing = tt
+keys_unfailed view old new (Some fault.Write) changes nothing = absurd (nothing.output (changes.writes.writes.rose refl))
+keys_unfailed view old new (Some fault.Memory) changes nothing = inl refl
+keys_unfailed view old new (Some fault.Folder) changes nothing = absurd (nothing.folder (changes.folder.rose refl))
+keys_unfailed view old new (Some fault.Desk) changes nothing = absurd (nothing.fills (changes.draws.rose refl))
+keys_unfailed view old new (Some (fault.Keys keys.NoKeys)) changes nothing = inr tt
+keys_unfailed view old new (Some (fault.Keys keys.AlreadySet)) changes nothing = inr tt
+keys_unfailed view old new (Some (fault.Keys keys.IndexEnd)) changes nothing = inr tt
+keys_unfailed view old new (Some (fault.Keys keys.Failed)) changes nothing = absurd changes.causes
+keys_unfailed view old new (Some (fault.Keys (keys.BadKey index))) changes nothing = absurd changes.causes
+keys_unfailed view old new (Some (fault.Keys keys.TooMany)) changes nothing = absurd changes.causes
+keys_unfailed view old new (Some (fault.Keys keys.Memory)) changes nothing = absurd changes.causes
+keys_unfailed view old new (Some fault.Usage) changes nothing = absurd changes.causes
+keys_unfailed view old new (Some fault.Read) changes nothing = absurd changes.causes
+keys_unfailed view old new (Some (fault.BadLine n)) changes nothing = absurd changes.causes
+keys_unfailed view old new (Some (fault.Opening reason)) changes nothing = absurd changes.causes
+keys_unfailed view old new (Some (fault.State reason)) changes nothing = absurd changes.causes
+
+-- an opening
+
+stopped_unfailed : {Link Seat : Type 0} (view : Seat → Place Link) (old new : World Link Seat) (f : Fault) → Stopped old new f → NothingFailed view old new → EndsUnfailed (Some f)
+stopped_unfailed view old new fault.Read stopped nothing = absurd (nothing.file (stopped.file.reads.rose refl))
+stopped_unfailed view old new fault.Memory stopped nothing = inl refl
+stopped_unfailed view old new (fault.Opening (refusal.Shape reason)) stopped nothing = inr tt
+stopped_unfailed view old new (fault.Opening (refusal.Policy reason)) stopped nothing = inr tt
+stopped_unfailed view old new (fault.Opening (refusal.BadKey path)) stopped nothing = inr tt
+stopped_unfailed view old new (fault.Opening refusal.Random) stopped nothing = absurd stopped.stops
+stopped_unfailed view old new (fault.Opening refusal.Memory) stopped nothing = absurd stopped.stops
+stopped_unfailed view old new (fault.State reason) stopped nothing = inr stopped.stops.0
+stopped_unfailed view old new fault.Folder stopped nothing = absurd (nothing.folder (stopped.folder.faults.rose refl))
+stopped_unfailed view old new (fault.Keys keys.NoKeys) stopped nothing = inr tt
+stopped_unfailed view old new (fault.Keys (keys.BadKey index)) stopped nothing = inr tt
+stopped_unfailed view old new (fault.Keys keys.TooMany) stopped nothing = inr tt
+stopped_unfailed view old new (fault.Keys keys.Failed) stopped nothing = absurd stopped.stops
+stopped_unfailed view old new (fault.Keys keys.AlreadySet) stopped nothing = absurd stopped.stops
+stopped_unfailed view old new (fault.Keys keys.IndexEnd) stopped nothing = absurd stopped.stops
+stopped_unfailed view old new (fault.Keys keys.Memory) stopped nothing = absurd stopped.stops
+stopped_unfailed view old new fault.Desk stopped nothing = absurd (nothing.fills stopped.stops.refused.1.3)
+stopped_unfailed view old new fault.Usage stopped nothing = absurd stopped.stops
+stopped_unfailed view old new fault.Write stopped nothing = absurd stopped.stops
+stopped_unfailed view old new (fault.BadLine n) stopped nothing = absurd stopped.stops
+
+-- `talk`
+
+pub talks_complete : (Link Seat : Type 0) → TalksComplete Link Seat
+talks_complete Link Seat old new opening opened journal xs closed.End talked reads writes = tt
+talks_complete Link Seat old new opening opened journal xs closed.Asked talked reads writes = tt
+talks_complete Link Seat old new opening opened journal xs closed.Last talked reads writes = tt
+talks_complete Link Seat old new opening opened journal xs (closed.BadHttp why) talked reads writes = tt
+talks_complete Link Seat old new opening opened journal xs closed.Memory talked reads writes = tt
+talks_complete Link Seat old new opening opened journal xs closed.ReadFault talked reads writes = absurd (reads (talked.reads.rose refl))
+talks_complete Link Seat old new opening opened journal xs closed.WriteFault talked reads writes = absurd (writes (talked.writes.rose refl))
+talks_complete Link Seat old new opening opened journal xs (closed.KeeperFault never) talked reads writes = elim never [ ]
+
+ending_unfailed : (why : Closed Infallible) (f : Option Fault) → ending why f → IsUnfailed why → EndsUnfailed f
+ending_unfailed closed.End f is unfailed = unfailed_as f None is tt
+ending_unfailed closed.Asked f is unfailed = unfailed_as f None is tt
+ending_unfailed closed.Last f is unfailed = unfailed_as f None is tt
+ending_unfailed (closed.BadHttp why) f is unfailed = unfailed_as f None is tt
+ending_unfailed closed.Memory f is unfailed = unfailed_as f (Some fault.Memory) is (inl refl)
+ending_unfailed closed.ReadFault f is unfailed = absurd unfailed
+ending_unfailed closed.WriteFault f is unfailed = absurd unfailed
+ending_unfailed (closed.KeeperFault never) f is unfailed = absurd unfailed
+
+talked_unfailed : {Link Seat : Type 0} (view : Seat → Place Link) (old new : World Link Seat) (f : Option Fault) (state : Shown)
+    → (opened : Opened (λ opening desk. Served old new f opening desk state) old new) → NothingFailed view old new → EndsUnfailed f
+talked_unfailed {Link} {Seat} view old new f state opened nothing =
+    elim opened.done as (λ _. EndsUnfailed f) [
+      | inl s ↦ ending_unfailed s.why f s.ends (talks_complete Link Seat old new opened.opening opened.desk s.journal s.exchanges s.why s.talked nothing.input nothing.output)
+      | inr h ↦ unfailed_as f (Some fault.Memory) h.memory (inl refl)
+    ]
+
+talk_unfailed : {Link Seat : Type 0} (view : Seat → Place Link) (old new : World Link Seat) (f : Option Fault) (state : Option Shown) → Talks old new f state → NothingFailed view old new → EndsUnfailed f
+talk_unfailed view old new (Some f) None talks nothing = stopped_unfailed view old new f talks nothing
+talk_unfailed view old new None None talks nothing = absurd talks
+talk_unfailed view old new None (Some state) talks nothing = tt
+talk_unfailed view old new (Some f) (Some state) talks nothing = talked_unfailed view old new (Some f) state talks nothing
+
+-- `serve`
+
+or_none : (a b : Bool) → (a ≡ true → ⊥) → b ≡ false → (a || b) ≡ false
+or_none true b never rest = absurd (never refl)
+or_none false b never rest = rest
+
+none_failed : {Link : Type 0} (stream : Link → StreamState) (connections : ℕ) (seen journal : Front) (olds news : List (Place Link)) (shifts : List (Shift Infallible Link))
+    → AreServed stream connections seen journal olds news shifts
+    → AllZip (λ (before after : Place Link). StoodStill before.desk.accept_faults after.desk.accept_faults) olds news → some_failed shifts ≡ false
+none_failed stream connections seen journal [] [] [] served still = refl
+none_failed stream connections seen journal [] [] (shift ∷ shifts) served still = absurd served
+none_failed stream connections seen journal [] (new ∷ news) shifts served still = absurd served
+none_failed stream connections seen journal (old ∷ olds) [] shifts served still = absurd served
+none_failed stream connections seen journal (old ∷ olds) (new ∷ news) [] served still = absurd served
+none_failed stream connections seen journal (old ∷ olds) (new ∷ news) (shift ∷ shifts) served still =
+    let rest = none_failed stream connections seen journal olds news shifts served.1 still.1 in
+    or_none shift.failed (some_failed shifts) (λ failed. still.0 (served.0.accepts.rose failed)) rest
+
+abbrev StillAccepts : {Link : Type 0} → Place Link → Place Link → Type 0
+StillAccepts before after = StoodStill before.desk.accept_faults after.desk.accept_faults
+
+-- the opening accepts nothing
+accepted_first : {Link : Type 0} (old opened : DeskState Link) (count : ℕ) → opened ≡ record old { random = opened.random; fill_faults = opened.fill_faults }
+    → StoodStill old.accept_faults count → StoodStill opened.accept_faults count
+accepted_first old opened count kept still = subst (λ n. StoodStill n count) (sym (ap (λ (d : DeskState _). d.accept_faults) kept)) still
+
+first_of_zip : {A B : Type 0} (R : B → B → Type 0) (view : A → B) (count : ℕ) (xs ys : List A) → AllZip R (map view xs) (map view ys) → AllZip R (map view (take count xs)) (map view (take count ys))
+first_of_zip R view zero xs ys all = tt
+first_of_zip R view (suc count) [] [] all = tt
+first_of_zip R view (suc count) [] (y ∷ ys) all = absurd all
+first_of_zip R view (suc count) (x ∷ xs) [] all = absurd all
+first_of_zip R view (suc count) (x ∷ xs) (y ∷ ys) all = (all.0, first_of_zip R view count xs ys all.1)
+
+served_unfailed : {Link Seat : Type 0} (view : Seat → Place Link) (stream : Link → StreamState) (workers connections : ℕ) (old new : World Link Seat) (f : Option Fault) (state : Shown)
+    → (opened : Opened (λ opening desk. serve.Served view stream workers connections old new f opening desk state) old new) → NothingFailed view old new → EndsUnfailed f
+served_unfailed view stream workers connections old new f state opened nothing =
+    elim opened.done as (λ _. EndsUnfailed f) [
+      | inl s ↦ unfailed_as f (desk_fault false) (s.ends ∙ ap desk_fault (none_failed stream connections (first_front opened.opening) s.journal
+          (serving view workers opened.desk old.place old.others) (serving view workers new.desk new.place new.others) s.shifts s.desks
+          (accepted_first old.desk opened.desk new.desk.accept_faults opened.opened.drew.kept nothing.accepts.0, first_of_zip StillAccepts view (workers - 1) old.others new.others nothing.accepts.1))) tt
+      | inr h ↦ unfailed_as f (Some fault.Memory) h.memory (inl refl)
+    ]
+
+serve_unfailed : {Link Seat : Type 0} (view : Seat → Place Link) (stream : Link → StreamState) (workers connections : ℕ) (old new : World Link Seat) (f : Option Fault) (state : Option Shown)
+    → serve.Serves view stream workers connections old new f state → NothingFailed view old new → EndsUnfailed f
+serve_unfailed view stream workers connections old new (Some f) None serves nothing = stopped_unfailed view old new f serves nothing
+serve_unfailed view stream workers connections old new None None serves nothing = absurd serves
+serve_unfailed view stream workers connections old new None (Some state) serves nothing = tt
+serve_unfailed view stream workers connections old new (Some f) (Some state) serves nothing = served_unfailed view stream workers connections old new (Some f) state serves nothing
+
+-- each command
+
+does_unfailed : {Link Seat : Type 0} (view : Seat → Place Link) (stream : Link → StreamState) (what : Words) (old new : World Link Seat) (f : Option Fault) (state : Option Shown)
+    → Does view stream what old new f state → NothingFailed view old new → EndsUnfailed f
+unfolding Does
+does_unfailed view stream asked.Check old new f state does nothing = check_unfailed view old new f does.0 nothing
+does_unfailed view stream (asked.Talk places) old new f state does nothing = talk_unfailed view old new f state does nothing
+does_unfailed view stream (asked.Serve places connections) old new f state does nothing = serve_unfailed view stream places.workers connections old new f state does nothing
+does_unfailed view stream (asked.Setup places) old new f state does nothing = keys_unfailed view old new f does.0.changes nothing
+does_unfailed view stream (asked.Rotate places max) old new f state does nothing = keys_unfailed view old new f does.0.changes nothing
+does_unfailed view stream asked.Usage old new f state does nothing = unfailed_as f (Some fault.Usage) does.0 (inr tt)
+
+pub commands_complete : (Link Seat : Type 0) → CommandsComplete Link Seat
+unfolding Runs
+commands_complete Link Seat view stream words old new f state (inl does) nothing = does_unfailed view stream (words_of words) old new f state does nothing
+commands_complete Link Seat view stream words old new f state (inr none) nothing = unfailed_as f (Some fault.Memory) none.0 (inl refl)
+
+-- faults of the desks
+
+check_counted : {Link Seat : Type 0} (old new : World Link Seat) → Checks old new (Some fault.Desk) → ⊥
+check_counted old new checks = checks.causes
+
+stopped_counted : {Link Seat : Type 0} (old new : World Link Seat) → Stopped old new fault.Desk → Rose old.desk.fill_faults new.desk.fill_faults
+stopped_counted old new stopped = stopped.stops.refused.1.3
+
+ending_is_none : (why : Closed Infallible) → ending why (Some fault.Desk) → ⊥
+ending_is_none closed.End is = cc is
+ending_is_none closed.Asked is = cc is
+ending_is_none closed.Last is = cc is
+ending_is_none (closed.BadHttp why) is = cc is
+ending_is_none closed.Memory is = cc is
+ending_is_none closed.ReadFault is = cc is
+ending_is_none closed.WriteFault is = cc is
+ending_is_none (closed.KeeperFault never) is = is
+
+talked_counted : {Link Seat : Type 0} (old new : World Link Seat) (state : Shown) → (opened : Opened (λ opening desk. Served old new (Some fault.Desk) opening desk state) old new) → ⊥
+talked_counted old new state opened = elim opened.done as (λ _. ⊥) [
+  | inl s ↦ ending_is_none s.why s.ends
+  | inr h ↦ cc h.memory
+]
+
+talk_counted : {Link Seat : Type 0} (view : Seat → Place Link) (old new : World Link Seat) (state : Option Shown) → Talks old new (Some fault.Desk) state → IsCounted view old new state
+talk_counted view old new None talks = stopped_counted old new talks
+talk_counted view old new (Some state) talks = absurd (talked_counted old new state talks)
+
+either_true : (a b : Bool) → (a || b) ≡ true → (a ≡ true) ⊎ (b ≡ true)
+either_true true b is = inl refl
+either_true false b is = inr is
+
+some_rose : {Link : Type 0} (stream : Link → StreamState) (connections : ℕ) (seen journal : Front) (olds news : List (Place Link)) (shifts : List (Shift Infallible Link))
+    → AreServed stream connections seen journal olds news shifts → some_failed shifts ≡ true → SomeAcceptRose olds news
+some_rose stream connections seen journal [] [] [] served failed = cc failed
+some_rose stream connections seen journal [] [] (shift ∷ shifts) served failed = absurd served
+some_rose stream connections seen journal [] (new ∷ news) shifts served failed = absurd served
+some_rose stream connections seen journal (old ∷ olds) [] shifts served failed = absurd served
+some_rose stream connections seen journal (old ∷ olds) (new ∷ news) [] served failed = absurd served
+some_rose stream connections seen journal (old ∷ olds) (new ∷ news) (shift ∷ shifts) served failed =
+    elim (either_true shift.failed (some_failed shifts) failed) as (λ _. Rose old.desk.accept_faults new.desk.accept_faults ⊎ SomeAcceptRose olds news) [
+      | inl here ↦ inl (served.0.accepts.rose here)
+      | inr there ↦ inr (some_rose stream connections seen journal olds news shifts served.1 there)
+    ]
+
+rose_in_all : {Link Seat : Type 0} (view : Seat → Place Link) (count : ℕ) (xs ys : List Seat) → SomeAcceptRose (map view (take count xs)) (map view (take count ys)) → SomeAcceptRose (map view xs) (map view ys)
+rose_in_all view zero xs ys rose = absurd rose
+rose_in_all view (suc count) [] ys rose = absurd rose
+rose_in_all view (suc count) (x ∷ xs) [] rose = absurd rose
+rose_in_all view (suc count) (x ∷ xs) (y ∷ ys) rose =
+    elim rose as (λ _. Rose (view x).desk.accept_faults (view y).desk.accept_faults ⊎ SomeAcceptRose (map view xs) (map view ys)) [
+      | inl here ↦ inl here
+      | inr there ↦ inr (rose_in_all view count xs ys there)
+    ]
+
+rose_of_first : {Link Seat : Type 0} (view : Seat → Place Link) (count : ℕ) (old opened : DeskState Link) (new : Place Link) (dir : DirState) (xs ys : List Seat)
+    → opened ≡ record old { random = opened.random; fill_faults = opened.fill_faults }
+    → SomeAcceptRose (record { desk = opened; dir = dir } ∷ map view (take count xs)) (new ∷ map view (take count ys)) → SomeAcceptRose (record { desk = old; dir = dir } ∷ map view xs) (new ∷ map view ys)
+rose_of_first view count old opened new dir xs ys kept rose =
+    elim rose as (λ _. Rose old.accept_faults new.desk.accept_faults ⊎ SomeAcceptRose (map view xs) (map view ys)) [
+      | inl here ↦ inl (subst (λ n. Rose n new.desk.accept_faults) (ap (λ (d : DeskState _). d.accept_faults) kept) here)
+      | inr there ↦ inr (rose_in_all view count xs ys there)
+    ]
+
+failed_of : (failed : Bool) → Some fault.Desk ≡ desk_fault failed → failed ≡ true
+failed_of true is = refl
+failed_of false is = absurd (cc is)
+
+served_counted : {Link Seat : Type 0} (view : Seat → Place Link) (stream : Link → StreamState) (workers connections : ℕ) (old new : World Link Seat) (state : Shown)
+    → (opened : Opened (λ opening desk. serve.Served view stream workers connections old new (Some fault.Desk) opening desk state) old new) → SomeAcceptRose (places_of view old) (places_of view new)
+served_counted view stream workers connections old new state opened = elim opened.done as (λ _. SomeAcceptRose (places_of view old) (places_of view new)) [
+  | inl s ↦ rose_of_first view (workers - 1) old.desk opened.desk (record { desk = new.desk; dir = new.place }) old.place old.others new.others opened.opened.drew.kept
+      (some_rose stream connections (first_front opened.opening) s.journal (serving view workers opened.desk old.place old.others) (serving view workers new.desk new.place new.others) s.shifts s.desks (failed_of (some_failed s.shifts) s.ends))
+  | inr h ↦ absurd (cc h.memory)
+]
+
+serve_counted : {Link Seat : Type 0} (view : Seat → Place Link) (stream : Link → StreamState) (workers connections : ℕ) (old new : World Link Seat) (state : Option Shown)
+    → serve.Serves view stream workers connections old new (Some fault.Desk) state → IsCounted view old new state
+serve_counted view stream workers connections old new None serves = stopped_counted old new serves
+serve_counted view stream workers connections old new (Some state) serves = served_counted view stream workers connections old new state serves
+
+keys_counted : {Link Seat : Type 0} (view : Seat → Place Link) (old new : World Link Seat) (state : Option Shown) → state ≡ None → ChangesKeys old new (Some fault.Desk) → IsCounted view old new state
+keys_counted view old new None none changes = changes.draws.rose refl
+keys_counted view old new (Some state) none changes = absurd (cc none)
+
+does_count : {Link Seat : Type 0} (view : Seat → Place Link) (stream : Link → StreamState) (what : Words) (old new : World Link Seat) (state : Option Shown)
+    → Does view stream what old new (Some fault.Desk) state → IsCounted view old new state
+unfolding Does
+does_count view stream asked.Check old new state does = absurd (check_counted old new does.0)
+does_count view stream (asked.Talk places) old new state does = talk_counted view old new state does
+does_count view stream (asked.Serve places connections) old new state does = serve_counted view stream places.workers connections old new state does
+does_count view stream (asked.Setup places) old new state does = keys_counted view old new state does.1 does.0.changes
+does_count view stream (asked.Rotate places max) old new state does = keys_counted view old new state does.1 does.0.changes
+does_count view stream asked.Usage old new state does = absurd (cc does.0)
+
+pub desk_faults_are_counted : (Link Seat : Type 0) → DeskFaultsAreCounted Link Seat
+unfolding Runs
+desk_faults_are_counted Link Seat view stream words old new state (inl does) = does_count view stream (words_of words) old new state does
+desk_faults_are_counted Link Seat view stream words old new state (inr none) = absurd (cc none.0)
