@@ -15,7 +15,7 @@ wrong=0
 runs=0
 
 key=cw_0x689RpI-jtRR7oE8h_eQsKImvJapLeSbXpwF4e4=
-usage='usage: ks check | ks talk FILE FOLDER | ks setup FOLDER | ks rotate FOLDER [--max N]'
+usage='usage: ks check | ks talk FILE FOLDER | ks serve FILE FOLDER ADDRESS [--workers N] [--connections N] | ks setup FOLDER | ks rotate FOLDER [--max N]'
 
 # is STATUS OUTPUT LINE: the run before ended so, with its status in $status.
 is() {
@@ -33,6 +33,13 @@ run() {
     shift
     status=0
     printf "$input" | "$ks" "$@" >"$work/out" 2>"$work/err" || status=$?
+}
+
+# serve WORD..: the program as a server, without the line that says where it listens.
+serve() {
+    status=0
+    "$ks" serve "$@" </dev/null >"$work/out" 2>"$work/err" || status=$?
+    sed -i '/^ks: listening on 127\.0\.0\.1:[0-9]* with [0-9]* workers*$/d' "$work/err"
 }
 
 # Whole runs.
@@ -55,6 +62,13 @@ is 2 '' "$usage"
 run '' talk o1.json "$(printf 'k\377')"
 is 2 '' "$usage"
 run '' talk o1.json
+is 2 '' "$usage"
+
+serve examples/o1.json keys
+is 2 '' "$usage"
+serve examples/o1.json keys 127.0.0.1:0 --workers 0
+is 2 '' "$usage"
+serve examples/o1.json keys 127.0.0.1:0 --connections 1000001
 is 2 '' "$usage"
 
 # Lines that are not in the grammar.
@@ -85,6 +99,43 @@ is 9 '' "ks: $work/keys: the key folder has no key"
 printf 'x' >"$work/keys/5"
 run '' talk "$work/o.json" "$work/keys"
 is 9 '' "ks: $work/keys/5: not a Fernet key"
+
+serve "$work/none.json" keys 127.0.0.1:0
+is 3 '' "ks: $work/none.json: it could not be read"
+serve "$work/o.json" "$work/keys" 127.0.0.1:0 --workers 1
+is 9 '' "ks: $work/keys/5: not a Fernet key"
+printf '{"users":[{"id":"u","name":"ann"}]}' >"$work/o.json"
+serve "$work/o.json" keys 127.0.0.1:0
+is 7 '' "ks: $work/o.json: users[0].domain_id: missing; an id of 1 to 64 of the characters 0-9 A-Z a-z _ - is wanted"
+
+# An address at which nobody can listen here.
+serve examples/o1.json keys 192.0.2.1:5000
+is 10 '' 'ks: 192.0.2.1:5000: Cannot assign requested address (os error 99)'
+
+# One connection of one worker, at a port that the system chose.
+runs=$((runs + 1))
+"$ks" serve examples/o1.json keys 127.0.0.1:0 --workers 1 --connections 1 >"$work/out" 2>"$work/err" &
+server=$!
+port=
+tries=0
+while [ -z "$port" ] && [ "$tries" -lt 100 ]; do
+    tries=$((tries + 1))
+    sleep 0.1
+    port=$(sed -n 's/^ks: listening on 127\.0\.0\.1:\([0-9]*\) with 1 worker$/\1/p' "$work/err")
+done
+answer=$(python3 -c '
+import socket, sys
+with socket.create_connection(("127.0.0.1", int(sys.argv[1]))) as link:
+    link.sendall(b"GET /v3 HTTP/1.0\r\n\r\n")
+    sys.stdout.buffer.write(link.makefile("rb").readline())
+    link.makefile("rb").read()
+' "$port" | tr -d '\r') || answer=none
+status=0
+wait "$server" || status=$?
+if [ "$status" != 0 ] || [ "$answer" != 'HTTP/1.1 200 OK' ]; then
+    wrong=$((wrong + 1))
+    echo "program: run $runs: status $status, and the answer: $answer" >&2
+fi
 
 # An input that cannot be read, and an output that cannot be written.
 status=0

@@ -5,22 +5,23 @@
 
 ghost use Rattle.std.specs.Prelude.{◌<◌, IfOk, length};
 
+mod listening;
 mod named;
 mod opening_file;
 
 use ks_base::{Memory, Text};
-use ks_outside::{Desk, Folder, KeyDir, RealDesk, RealSink, RealSource, Sink, Source};
+use ks_outside::{Folder, RealDesk, RealSink, RealSource};
 use ks_setup::read_words;
 use ks_top::{Ended, Fault, run};
+use listening::{desks, listen, serving};
 use named::{Named, path_of};
 use opening_file::OpeningFile;
 use std::env;
 use std::fs::File;
 use std::io::ErrorKind;
+use std::net::TcpListener;
 use std::process::ExitCode;
-use std::random::RandomSource;
-use std::rt::{Clock, Env, Files};
-use std::sync::Wait;
+use std::rt::Env;
 
 /// The words behind the program's name.
 fn words<R: Env + AllocGlobal>(rt: &R) -> Result<Vec<Text>, Fault> {
@@ -46,93 +47,84 @@ fn words<R: Env + AllocGlobal>(rt: &R) -> Result<Vec<Text>, Fault> {
     Ok(words)
 }
 
-/// Does what the words say. Nothing in this program rests on what `run` promises of it, so none of that is said again.
-fn done<R: AllocGlobal + Wait, S: Source, F: Source, K: Sink, D: KeyDir + Drop, P: Desk + Drop>(
-    rt: &R,
-    words: &[Text],
-    input: &mut S,
-    file: &mut F,
-    output: &mut K,
-    dir: &mut D,
-    desks: Vec<(P, D)>,
-) -> (u8, Option<Fault>)
-    requires { 0 < length desks.items }
-{
-    let Ended { status, fault, .. } = run(rt, words, input, file, output, dir, desks);
-    (status, fault)
-}
-
-/// The one desk of the program, which listens at no address, with its folder.
-fn desks<'a, R: AllocGlobal>(
+/// The folder of this path, and so many desks with it at the listener, one at least.
+fn places<'a, R: AllocGlobal>(
     rt: &'a R,
     folder: &str,
-) -> Result<Vec<(RealDesk<'a, R>, Folder<'a, R>)>, Memory>
-    ensures { IfOk result (λ desks. 0 < length desks.items) }
+    listener: Option<&'a TcpListener>,
+    workers: u32,
+) -> Result<(Folder<'a, R>, Vec<(RealDesk<'a, R>, Folder<'a, R>)>), Memory>
+    ensures { IfOk result (λ places. 0 < length places.1.items) }
 {
-    let mut desks = Vec::new(rt.alloc());
-    desks.push((
-        RealDesk::new(rt, None),
-        Folder::new(rt.alloc(), rt, folder)?,
-    ))?;
-    Ok(desks)
+    let dir = Folder::new(rt.alloc(), rt, folder)?;
+    Ok((dir, desks(rt, folder, listener, workers)?))
 }
 
-/// Does what the words say over the folder of this path.
-fn done_over<
-    R: AllocGlobal + Files + Clock + RandomSource + Wait + Clone + Drop,
-    S: Source,
-    F: Source,
-    K: Sink,
->(
-    rt: &R,
-    words: &[Text],
-    folder: &str,
-    input: &mut S,
-    file: &mut F,
-    output: &mut K,
-) -> Result<(u8, Option<Fault>), Memory> {
-    let mut dir = Folder::new(rt.alloc(), rt, folder)?;
-    let desks = desks(rt, folder)?;
-    Ok(done(rt, words, input, file, output, &mut dir, desks))
+/// Says that there was no memory to begin.
+fn out_of_memory<R: Eprint>(rt: &R) -> ExitCode {
+    named::tell(rt, &Fault::Memory);
+    ExitCode::from(Fault::Memory.status())
 }
 
-/// Runs the command of these words, says why it did not end whole, and answers the status of the process.
-fn run_words<
-    R: AllocGlobal + Files + Clock + RandomSource + Eprint + Wait + Clone + Drop,
-    S: Source,
-    K: Sink,
->(rt: &R, words: &[Text], input: &mut S, output: &mut K) -> Result<u8, Memory> {
-    let command = read_words(rt.alloc(), words)?;
+fn main(rt: HostRuntime) -> ExitCode {
+    let words = match words(&rt) {
+        Ok(words) => words,
+        Err(fault) => {
+            named::tell(&rt, &fault);
+            return ExitCode::from(fault.status());
+        }
+    };
+    let Ok(command) = read_words(rt.alloc(), words.as_slice()) else {
+        return out_of_memory(&rt);
+    };
     let file = path_of(command.file());
     let folder = path_of(command.folder());
-    let mut source = OpeningFile::new(File::open(rt, file).ok());
-    let (status, fault) = done_over(rt, words, folder, input, &mut source, output)?;
+    let address = path_of(command.address());
+    let mut source = OpeningFile::new(File::open(&rt, file).ok());
+    let (workers, listening) = match serving(&command) {
+        Some(places) => (places.workers, Some(listen(&rt, address, places.workers))),
+        None => (1, None),
+    };
+    let listener = match &listening {
+        Some(Ok(listener)) => Some(listener),
+        Some(Err(_)) | None => None,
+    };
+    let Ok((mut dir, desks)) = places(&rt, folder, listener, workers) else {
+        return out_of_memory(&rt);
+    };
+    let mut input = RealSource::new(rt.stdin());
+    let mut output = RealSink::new(rt.stdout());
+    // Only over the runtime itself may desks go to threads.
+    let Ended {
+        status,
+        fault,
+        state,
+        ..
+    } = run(
+        &rt,
+        words.as_slice(),
+        &mut input,
+        &mut source,
+        &mut output,
+        &mut dir,
+        desks,
+    );
     if let Some(fault) = &fault {
         let named = Named {
             file,
             folder,
+            address,
             has_failed: source.has_failed(),
+            unbound: match listening {
+                Some(Err(error)) => Some(error),
+                Some(Ok(_)) | None => None,
+            },
+            is_open: state.is_some(),
         };
-        named.tell(rt, fault)?;
-    }
-    Ok(status)
-}
-
-fn main(rt: HostRuntime) -> ExitCode {
-    let mut input = RealSource::new(rt.stdin());
-    let mut output = RealSink::new(rt.stdout());
-    let status = match words(&rt) {
-        Ok(words) => run_words(&rt, words.as_slice(), &mut input, &mut output),
-        Err(fault) => {
-            named::tell(&rt, &fault);
-            Ok(fault.status())
-        }
-    };
-    match status {
-        Ok(status) => ExitCode::from(status),
-        Err(Memory) => {
-            named::tell(&rt, &Fault::Memory);
-            ExitCode::from(Fault::Memory.status())
+        // Where there is no memory for the place, the status stays, and the fault is told without it.
+        if named.tell(&rt, fault).is_err() {
+            named::tell(&rt, fault);
         }
     }
+    ExitCode::from(status)
 }

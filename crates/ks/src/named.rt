@@ -4,16 +4,21 @@ use ks_base::{KeysFault, Memory, Text};
 use ks_machine::OpenFault;
 use ks_setup::{opening_line, state_line};
 use ks_top::Fault;
-use std::fs;
 use std::rt::Files;
+use std::{fs, io};
 
 /// What the words name: a fault is told behind the path of what it is about.
 #[derive(Drop)]
 pub struct Named<'a> {
     pub file: &'a str,
     pub folder: &'a str,
+    pub address: &'a str,
     /// Whether the file could not be read.
     pub has_failed: bool,
+    /// Why nothing listens at the address.
+    pub unbound: Option<io::Error>,
+    /// Whether an identity was opened.
+    pub is_open: bool,
 }
 
 /// The path, or none.
@@ -52,9 +57,24 @@ impl Named<'_> {
             Fault::Keys(_) | Fault::Folder => {
                 let _ = eprintln!(rt; "ks: {}: {fault}", self.folder);
             }
+            // Once an identity is open, all that fails of a desk is to accept a connection.
+            Fault::Desk if self.is_open => self.tell_of_address(rt),
+            Fault::Desk => {
+                let _ = eprintln!(rt; "ks: there were no random bytes");
+            }
             _ => tell(rt, fault),
         }
         Ok(())
+    }
+
+    fn tell_of_address<R: Eprint>(&self, rt: &R) {
+        let _ = match &self.unbound {
+            Some(error) => eprintln!(rt; "ks: {}: {error}", self.address),
+            None => eprintln!(rt;
+                "ks: {}: no more connections could be accepted",
+                self.address
+            ),
+        };
     }
 
     /// Says what is wrong with the rows of the opening file, which is read again to find them.
