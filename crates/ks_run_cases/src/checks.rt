@@ -7,20 +7,25 @@ use ks_top::Fault;
 use std::alloc::Global;
 use std::rt::Files;
 use std::sync::Wait;
+use std::thread::Threads;
 
-pub fn try_tables<R: Files + Print + AllocGlobal + Wait>(rt: &R) -> Result<()> {
+pub fn try_tables<R: Files + Print + AllocGlobal + Threads + Wait + Sync>(rt: &R) -> Result<()> {
     try_table(rt, "checks", |_alloc, case| checks(rt, case))?;
     try_table(rt, "check_faults", |_alloc, case| check_faults(rt, case))?;
     try_table(rt, "words", |_alloc, case| words(rt, case))
 }
 
 /// Runs `check`.
-fn check<R: AllocGlobal + Wait>(rt: &R, input: &[u8], outside: &Outside<'_>) -> Result<End> {
+fn check<R: AllocGlobal + Threads + Wait + Sync>(
+    rt: &R,
+    input: &[u8],
+    outside: &Outside<'_>,
+) -> Result<End> {
     run_on(rt, &["check"], input, outside)
 }
 
 /// Of an input: the end of its check and the output, which are the same in other pieces too.
-fn checks<R: AllocGlobal + Wait>(rt: &R, case: &Case) -> Result<String> {
+fn checks<R: AllocGlobal + Threads + Wait + Sync>(rt: &R, case: &Case) -> Result<String> {
     let whole = shown_check(rt, case.bytes(0), WHOLE)?;
     for longest in [1, 2] {
         let same = shown_check(rt, case.bytes(0), longest)?;
@@ -33,7 +38,11 @@ fn checks<R: AllocGlobal + Wait>(rt: &R, case: &Case) -> Result<String> {
     Ok(whole)
 }
 
-fn shown_check<R: AllocGlobal + Wait>(rt: &R, input: &[u8], longest: usize) -> Result<String> {
+fn shown_check<R: AllocGlobal + Threads + Wait + Sync>(
+    rt: &R,
+    input: &[u8],
+    longest: usize,
+) -> Result<String> {
     let end = check(rt, input, &Outside::pieces(&[], longest))?;
     let mut shown = shown_end(rt.alloc(), &end)?;
     if !end.written.is_empty() {
@@ -54,7 +63,7 @@ fn shown_end(alloc: Global, end: &End) -> Result<String> {
 }
 
 /// Of an input, the length of the pieces, and the read and the write that fail: the status, and the output.
-fn check_faults<R: AllocGlobal + Wait>(rt: &R, case: &Case) -> Result<String> {
+fn check_faults<R: AllocGlobal + Threads + Wait + Sync>(rt: &R, case: &Case) -> Result<String> {
     let mut outside = Outside::pieces(&[], case.size(1)?);
     outside.read = case.number(2)?;
     outside.write = case.number(3)?;
@@ -64,7 +73,7 @@ fn check_faults<R: AllocGlobal + Wait>(rt: &R, case: &Case) -> Result<String> {
 }
 
 /// Of words in quotes: the status of their run on a key, and how much it wrote.
-fn words<R: AllocGlobal + Wait>(rt: &R, case: &Case) -> Result<String> {
+fn words<R: AllocGlobal + Threads + Wait + Sync>(rt: &R, case: &Case) -> Result<String> {
     let alloc = rt.alloc();
     let mut words = Vec::new(alloc);
     for (at, word) in case.str(0)?.split('"').enumerate() {

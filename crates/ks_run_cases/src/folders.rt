@@ -8,15 +8,16 @@ use ks_tables::{Case, try_table};
 use std::alloc::Global;
 use std::rt::Files;
 use std::sync::Wait;
+use std::thread::Threads;
 
-pub fn try_tables<R: Files + Print + AllocGlobal + Wait>(rt: &R) -> Result<()> {
+pub fn try_tables<R: Files + Print + AllocGlobal + Threads + Wait + Sync>(rt: &R) -> Result<()> {
     try_table(rt, "folders", |_alloc, case| folders(rt, case))
 }
 
 /// Of commands with semicolons between them, which are run one after the other on a folder that is empty at first,
 /// the random bytes, the calls of the folder that fail and the write of each command that fails: the status of each
 /// and what it wrote, and the files that are left.
-fn folders<R: AllocGlobal + Wait>(rt: &R, case: &Case) -> Result<String> {
+fn folders<R: AllocGlobal + Threads + Wait + Sync>(rt: &R, case: &Case) -> Result<String> {
     let alloc = rt.alloc();
     let failing = numbers(alloc, case.str(2)?)?;
     let mut dir = MemoryDir::new(alloc, &[], failing.as_slice(), None)?;

@@ -1,12 +1,15 @@
 //! Runs of the program over an input, an opening file, an output, a folder and a desk in memory.
 ghost use Rattle.std.specs.Prelude.{◌<◌, length};
 
-use anyhow::{Context, Result};
+use anyhow::{Context, Result, ensure};
 use ks_base::Text;
-use ks_outside::{Desk, KeyDir, MemoryDesk, MemoryDir, MemorySink, MemorySource, Sink, Source};
+use ks_outside::{
+    Desk, KeyDir, MemoryDesk, MemoryDir, MemoryLink, MemorySink, MemorySource, Sink, Source,
+};
 use ks_top::{Ended, Fault, run};
 use std::alloc::Global;
 use std::sync::Wait;
+use std::thread::Threads;
 
 /// No piece is longer, and no output.
 pub const WHOLE: usize = 1_000_000;
@@ -58,7 +61,7 @@ fn texts(alloc: Global, words: &[&str]) -> Result<Vec<Text>> {
 }
 
 /// Runs the words of a command on an input, over an empty folder.
-pub fn run_on<R: AllocGlobal + Wait>(
+pub fn run_on<R: AllocGlobal + Threads + Wait + Sync>(
     rt: &R,
     command: &[&str],
     input: &[u8],
@@ -66,13 +69,45 @@ pub fn run_on<R: AllocGlobal + Wait>(
 ) -> Result<End> {
     let alloc = rt.alloc();
     let mut dir = MemoryDir::new(alloc, &[], &[], None)?;
-    let links = Vec::new(alloc);
-    let desk = MemoryDesk::new(alloc, links, &[MOMENT], RANDOM.as_slice(), &[], &[])?;
+    let desk = desk_of(alloc, Vec::new(alloc), 0)?;
     run_over(rt, command, input, outside, &mut dir, desk)
 }
 
+/// A desk of these links, of which this accept fails, counted from 1.
+pub fn desk_of(alloc: Global, links: Vec<MemoryLink>, failing: u64) -> Result<MemoryDesk> {
+    let random = RANDOM.as_slice();
+    Ok(MemoryDesk::new(alloc, links, &[MOMENT], random, &[failing], &[])?)
+}
+
+/// Runs the words of a command that serves, over this opening file, an empty folder and desks: its status, and the desks
+/// behind it.
+pub fn serve_at<R: AllocGlobal + Threads + Wait + Sync>(
+    rt: &R,
+    command: &[&str],
+    file: &[u8],
+    desks: Vec<(MemoryDesk, MemoryDir)>,
+) -> Result<(u8, Vec<(MemoryDesk, MemoryDir)>)> {
+    let alloc = rt.alloc();
+    ensure!(!desks.is_empty(), "no desk");
+    let words = texts(alloc, command)?;
+    let mut source = MemorySource::new(alloc, b"", &[], WHOLE)?;
+    let mut file = MemorySource::new(alloc, file, &[], WHOLE)?;
+    let mut sink = MemorySink::new(alloc, 0, &[], WHOLE)?;
+    let mut dir = MemoryDir::new(alloc, &[], &[], None)?;
+    let (status, _fault, desks) = done(
+        rt,
+        words.as_slice(),
+        &mut source,
+        &mut file,
+        &mut sink,
+        &mut dir,
+        desks,
+    );
+    Ok((status, desks))
+}
+
 /// The same over a folder and a desk.
-pub fn run_over<R: AllocGlobal + Wait>(
+pub fn run_over<R: AllocGlobal + Threads + Wait + Sync>(
     rt: &R,
     command: &[&str],
     input: &[u8],
@@ -108,7 +143,14 @@ pub fn run_over<R: AllocGlobal + Wait>(
 }
 
 /// Does what the words say. No case rests on what `run` promises, so none of that is said again.
-fn done<R: AllocGlobal + Wait, S: Source, F: Source, K: Sink, D: KeyDir + Drop, P: Desk + Drop>(
+fn done<
+    R: AllocGlobal + Threads + Wait + Sync,
+    S: Source,
+    F: Source,
+    K: Sink,
+    D: KeyDir + Send + Drop,
+    P: Desk + Send + Drop,
+>(
     rt: &R,
     words: &[Text],
     input: &mut S,
@@ -117,6 +159,8 @@ fn done<R: AllocGlobal + Wait, S: Source, F: Source, K: Sink, D: KeyDir + Drop, 
     dir: &mut D,
     desks: Vec<(P, D)>,
 ) -> (u8, Option<Fault>, Vec<(P, D)>)
+where
+    P::Link: Send,
     requires { 0 < length desks.items }
 {
     let Ended {

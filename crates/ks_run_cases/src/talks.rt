@@ -1,12 +1,14 @@
-//! The tables of `talk`.
+//! The tables of `talk` and of `serve`, which have the same responses.
 
 use crate::runs::{End, Outside, WHOLE, run_on};
+use crate::serves::serves;
 use anyhow::{Context, Result, bail, ensure};
 use ks_tables::{Case, Row, read_rows, try_table};
 use std::alloc::Global;
 use std::fs;
 use std::rt::Files;
 use std::sync::Wait;
+use std::thread::Threads;
 
 /// Inputs that are longer are given whole alone.
 const SHORT: usize = 1_000;
@@ -16,12 +18,12 @@ const MOST: u32 = 100;
 
 /// What all connections stand on: the opening file, and the responses by their names.
 #[derive(Drop)]
-struct Known {
-    file: String,
-    responses: Vec<Row>,
+pub struct Known {
+    pub file: String,
+    pub responses: Vec<Row>,
 }
 
-pub fn try_tables<R: Files + Print + AllocGlobal + Wait>(rt: &R) -> Result<()> {
+pub fn try_tables<R: Files + Print + AllocGlobal + Threads + Wait + Sync>(rt: &R) -> Result<()> {
     let known = Known {
         file: fs::read_to_string(rt, "o1.json")?,
         responses: read_rows(rt, "talk_responses")?,
@@ -31,7 +33,8 @@ pub fn try_tables<R: Files + Print + AllocGlobal + Wait>(rt: &R) -> Result<()> {
         rt,
         "talk_faults",
         |_alloc, case| talk_faults(rt, &known, case),
-    )
+    )?;
+    try_table(rt, "serves", |_alloc, case| serves(rt, &known, case))
 }
 
 /// The bytes of the response of this name, behind which stand `close` where it ends the connection, and `head` where its body
@@ -74,7 +77,7 @@ fn first_response(alloc: Global, known: &[Row], bytes: &[u8]) -> Result<(String,
 }
 
 /// The names of the responses that some bytes are.
-fn names(alloc: Global, known: &[Row], bytes: &[u8]) -> Result<String> {
+pub fn names(alloc: Global, known: &[Row], bytes: &[u8]) -> Result<String> {
     let mut names = String::new(alloc);
     let mut rest = bytes;
     for at in 0..MOST {
@@ -92,12 +95,20 @@ fn names(alloc: Global, known: &[Row], bytes: &[u8]) -> Result<String> {
 }
 
 /// Runs `talk`.
-fn talk<R: AllocGlobal + Wait>(rt: &R, input: &[u8], outside: &Outside<'_>) -> Result<End> {
+fn talk<R: AllocGlobal + Threads + Wait + Sync>(
+    rt: &R,
+    input: &[u8],
+    outside: &Outside<'_>,
+) -> Result<End> {
     run_on(rt, &["talk", "o1.json", "keys"], input, outside)
 }
 
 /// Of an input: the names of the responses, which are the same in single bytes.
-fn talks<R: AllocGlobal + Wait>(rt: &R, known: &Known, case: &Case) -> Result<String> {
+fn talks<R: AllocGlobal + Threads + Wait + Sync>(
+    rt: &R,
+    known: &Known,
+    case: &Case,
+) -> Result<String> {
     let input = case.bytes(0);
     let whole = talk(rt, input, &Outside::pieces(known.file.as_bytes(), WHOLE))?;
     ensure!(whole.status == 0, "status {}", whole.status);
@@ -117,7 +128,11 @@ fn talks<R: AllocGlobal + Wait>(rt: &R, known: &Known, case: &Case) -> Result<St
 
 /// Of an input, the length of the pieces, the read and the write that fail, and responses: the status, and how much of the
 /// responses was written.
-fn talk_faults<R: AllocGlobal + Wait>(rt: &R, known: &Known, case: &Case) -> Result<String> {
+fn talk_faults<R: AllocGlobal + Threads + Wait + Sync>(
+    rt: &R,
+    known: &Known,
+    case: &Case,
+) -> Result<String> {
     let alloc = rt.alloc();
     let mut outside = Outside::pieces(known.file.as_bytes(), case.size(1)?);
     outside.read = case.number(2)?;

@@ -9,10 +9,14 @@ use anyhow::Result;
 use ks_tables::{Case, read_rows};
 use std::rt::Files;
 use std::sync::Wait;
+use std::thread::Threads;
 
 /// Cuts each request of the table behind each of its bytes but the last, and prints how many requests were answered as
 /// they are to be each time.
-pub fn try_table<R: Files + Print + AllocGlobal + Wait>(rt: &R, world: &World) -> Result<()> {
+pub fn try_table<R: Files + Print + AllocGlobal + Threads + Wait + Sync>(
+    rt: &R,
+    world: &World,
+) -> Result<()> {
     let alloc = rt.alloc();
     let opening = world.opening("o1")?;
     let none = Names::new(alloc);
@@ -32,7 +36,7 @@ pub fn try_table<R: Files + Print + AllocGlobal + Wait>(rt: &R, world: &World) -
 }
 
 /// The length of the first front of a request that is answered by other bytes or ends with another status, if one is.
-fn first_other<R: AllocGlobal + Wait>(
+fn first_other<R: AllocGlobal + Threads + Wait + Sync>(
     rt: &R,
     opening: &Opening,
     request: &[u8],

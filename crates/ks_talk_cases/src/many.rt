@@ -11,6 +11,7 @@ use ks_tables::{Case, read_rows};
 use std::alloc::Global;
 use std::rt::Files;
 use std::sync::Wait;
+use std::thread::Threads;
 
 /// The bytes that a draw takes behind its first eight.
 const REST: [u8; 56] = [0; 56];
@@ -23,7 +24,10 @@ const GRANTED: &str = "HTTP/1.1 201 Created\r\n";
 
 /// Makes each request of the table so often, and prints how many were granted each time and refused in the end as they are
 /// to be.
-pub fn try_table<R: Files + Print + AllocGlobal + Wait>(rt: &R, world: &World) -> Result<()> {
+pub fn try_table<R: Files + Print + AllocGlobal + Threads + Wait + Sync>(
+    rt: &R,
+    world: &World,
+) -> Result<()> {
     let mut held: u64 = 0;
     for row in read_rows(rt, "many")? {
         let line = row.line;
@@ -64,7 +68,11 @@ impl Many {
     }
 
     /// What is written over the opening, with the status 0.
-    fn written<R: AllocGlobal + Wait>(&self, rt: &R, opening: &Opening) -> Result<Vec<u8>> {
+    fn written<R: AllocGlobal + Threads + Wait + Sync>(
+        &self,
+        rt: &R,
+        opening: &Opening,
+    ) -> Result<Vec<u8>> {
         let outside = Outside {
             input: self.input.as_bytes(),
             readings: self.readings.as_slice(),
@@ -80,7 +88,11 @@ impl Many {
 }
 
 /// How the requests of a case are answered otherwise, if they are.
-fn difference<R: AllocGlobal + Wait>(rt: &R, world: &World, case: &Case) -> Result<Option<String>> {
+fn difference<R: AllocGlobal + Threads + Wait + Sync>(
+    rt: &R,
+    world: &World,
+    case: &Case,
+) -> Result<Option<String>> {
     let alloc = rt.alloc();
     let opening = world.opening("o1")?;
     let (reading, times) = (case.number(1)?, case.number(4)?);

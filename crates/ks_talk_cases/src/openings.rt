@@ -6,9 +6,13 @@ use crate::world::{Opening, World};
 use anyhow::Result;
 use std::alloc::Global;
 use std::sync::Wait;
+use std::thread::Threads;
 
 /// Opens each over an empty input, which writes nothing, and prints how many ended as they are to.
-pub fn try_table<R: Print + AllocGlobal + Wait>(rt: &R, world: &World) -> Result<()> {
+pub fn try_table<R: Print + AllocGlobal + Threads + Wait + Sync>(
+    rt: &R,
+    world: &World,
+) -> Result<()> {
     let mut held: u64 = 0;
     for opening in &world.openings {
         let salts = salts(rt.alloc(), opening)?;

@@ -9,6 +9,7 @@ use ks_outside::{Desk, KeyDir, MemoryDesk, MemoryDir, MemorySink, MemorySource, 
 use ks_top::{Ended, run};
 use std::alloc::Global;
 use std::sync::Wait;
+use std::thread::Threads;
 
 /// No piece is longer.
 pub const WHOLE: usize = 20_000_000;
@@ -39,7 +40,7 @@ pub struct End {
 }
 
 /// Runs `talk` over an opening.
-pub fn talk<R: AllocGlobal + Wait>(
+pub fn talk<R: AllocGlobal + Threads + Wait + Sync>(
     rt: &R,
     opening: &Opening,
     outside: &Outside<'_>,
@@ -86,12 +87,12 @@ pub fn talk<R: AllocGlobal + Wait>(
 
 /// The status with which the program ends. No case rests on what `run` promises, so none of that is said again.
 fn status_of<
-    R: AllocGlobal + Wait,
+    R: AllocGlobal + Threads + Wait + Sync,
     S: Source,
     F: Source,
     K: Sink,
-    D: KeyDir + Drop,
-    P: Desk + Drop,
+    D: KeyDir + Send + Drop,
+    P: Desk + Send + Drop,
 >(
     rt: &R,
     words: &[Text],
@@ -101,6 +102,8 @@ fn status_of<
     dir: &mut D,
     desks: Vec<(P, D)>,
 ) -> u8
+where
+    P::Link: Send,
     requires { 0 < length desks.items }
 {
     let Ended { status, .. } = run(rt, words, input, file, output, dir, desks);

@@ -10,6 +10,7 @@ use ks_tables::{Case, read_rows};
 use std::alloc::Global;
 use std::rt::Files;
 use std::sync::Wait;
+use std::thread::Threads;
 
 /// Longer inputs are given whole alone.
 const SHORT: usize = 4_000;
@@ -45,7 +46,7 @@ pub struct Session {
 
 /// Tries each session of the table of this name, and prints each that is answered otherwise, and then how many held and
 /// how many requests these had.
-pub fn try_table<R: Files + Print + AllocGlobal + Wait>(
+pub fn try_table<R: Files + Print + AllocGlobal + Threads + Wait + Sync>(
     rt: &R,
     world: &World,
     name: &str,
@@ -152,7 +153,11 @@ impl Session {
     }
 
     /// How the session is answered otherwise, if it is: whole, and a short one in single bytes too.
-    fn difference<R: AllocGlobal + Wait>(&self, rt: &R, world: &World) -> Result<Option<String>> {
+    fn difference<R: AllocGlobal + Threads + Wait + Sync>(
+        &self,
+        rt: &R,
+        world: &World,
+    ) -> Result<Option<String>> {
         let is_cut = self.fails(world).is_of_connection();
         let longest = if is_cut { PIECE } else { WHOLE };
         let end = self.end(rt, world, longest)?;
@@ -167,7 +172,12 @@ impl Session {
     }
 
     /// Runs the session with pieces of at most this length.
-    fn end<R: AllocGlobal + Wait>(&self, rt: &R, world: &World, longest: usize) -> Result<End> {
+    fn end<R: AllocGlobal + Threads + Wait + Sync>(
+        &self,
+        rt: &R,
+        world: &World,
+        longest: usize,
+    ) -> Result<End> {
         let opening = self.opening(world)?;
         let mut folder = opening.folder.as_str();
         if let Some(setting) = world.setting(self.name.as_str())
