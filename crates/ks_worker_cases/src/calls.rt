@@ -10,7 +10,7 @@ use ks_machine::{Call, Command, FolderRead, LoginBody, ProjectNamed, Proof, Scop
 use std::alloc::Global;
 
 /// The clock's reading, in seconds since 1970: 1985-10-26T08:20:00Z.
-const READING: u64 = 499_162_800;
+pub const READING: u64 = 499_162_800;
 
 /// The administrator of the opening.
 pub const ANN: &str = "00112233445566778899aabbccddeeff";

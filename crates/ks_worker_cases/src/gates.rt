@@ -95,3 +95,44 @@ impl Gate for HoldingGate {
         }
     }
 }
+
+/// Lets two workers meet: each that is about to derive waits there until both are.
+#[derive(Drop)]
+pub struct MeetingGate {
+    came: AtomicU64,
+    gave_up: AtomicU64,
+}
+
+impl MeetingGate {
+    pub fn new() -> MeetingGate {
+        MeetingGate {
+            came: AtomicU64::new(0),
+            gave_up: AtomicU64::new(0),
+        }
+    }
+
+    /// Refuses a case in which a worker gave up waiting for the other, or not just two came.
+    pub fn ensure_met(&self) -> Result<()> {
+        let came = self.came.load(Ordering::SeqCst);
+        ensure!(
+            self.gave_up.load(Ordering::SeqCst) == 0,
+            "a worker waited in vain"
+        );
+        ensure!(
+            came == 2,
+            "the gate was reached {came} times before a derivation"
+        );
+        Ok(())
+    }
+}
+
+impl Gate for MeetingGate {
+    fn at(&self, place: Place) {
+        if place == Place::Deriving {
+            self.came.fetch_add(1, Ordering::SeqCst);
+            if !comes_to(&self.came, 2) {
+                self.gave_up.fetch_add(1, Ordering::SeqCst);
+            }
+        }
+    }
+}

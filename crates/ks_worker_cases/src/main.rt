@@ -1,26 +1,33 @@
 //! Workers beside each other over one identity. Tries that the turn is free while a worker opens tokens or derives
-//! passwords, by gates that hold a worker there while another makes calls, and prints of each case whether it held, or
-//! what was otherwise.
+//! passwords, by gates that hold a worker there while another makes calls, and that desks are served beside each other, by
+//! a gate at which their workers meet. Prints of each case whether it held, or what was otherwise.
 #![tactic(auto)]
 
 mod aged_token;
 mod calls;
 mod cases;
+mod desks;
 mod gates;
+mod links;
 mod old_password;
 mod opening;
 mod workers;
 
-use crate::cases::Case;
+use crate::cases::{Case, World};
 use anyhow::Result;
-use std::fs;
 
-const CASES: [Case; 2] = [Case::AgedToken, Case::OldPassword];
+const CASES: [Case; 5] = [
+    Case::AgedToken,
+    Case::OldPassword,
+    Case::Meeting,
+    Case::TwoDesks,
+    Case::FailedAccept,
+];
 
 fn main(rt: HostRuntime) -> Result<()> {
-    let file = fs::read_to_string(&rt, "o1.json")?;
+    let world = World::read(&rt)?;
     for case in CASES {
-        match cases::try_case(&rt, file.as_str().as_bytes(), case) {
+        match cases::try_case(&rt, &world, case) {
             Ok(()) => println!(rt; "{}: held", case.name())?,
             Err(error) => println!(rt; "{}: {error}", case.name())?,
         }
