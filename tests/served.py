@@ -50,7 +50,7 @@ class Server:
 
     def __init__(self, program, file, folder, workers, connections=0):
         self.port, self.lines = free_port(), []
-        self.listening = f"ks: listening on {HOST}:{self.port} with {workers} workers"
+        self.listening = f"ks: listening on {HOST}:{self.port} with {workers} worker{'' if workers == 1 else 's'}"
         words = [program, "serve", file, folder, f"{HOST}:{self.port}", "--workers", str(workers)]
         words += ["--connections", str(connections)] if connections else []
         self.process = subprocess.Popen(words, stdin=subprocess.DEVNULL, stdout=subprocess.DEVNULL, stderr=subprocess.PIPE)
