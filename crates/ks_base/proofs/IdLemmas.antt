@@ -1,9 +1,13 @@
 use Rattle.std.proofs.Common.{◌≡◌, ℕ, ◌+◌, ◌-◌, ◌<◌, ◌≤◌, Bool, true, false, not, ◌&&◌, ◌==◌, cond, nat_lt, List, [], ◌∷◌, ◌++◌, length, take, drop, replicate, Some, None, refl, ap, ◌∙◌, arith, length-append}
 use Rattle.std.proofs.Math.Seq.{take-append_seam, drop-append_seam}
 use Rattle.std.proofs.lemmas.List.{drop-replicate, length-replicate}
+use Rattle.std.proofs.lemmas.Bool.{and_parts}
 use Rattle.std.proofs.lemmas.Bool.Decides.{nat_tests}
+use Rattle.std.proofs.lemmas.Str.{IsUtf8-from_ascii}
+use Rattle.std.proofs.lemmas.Str.Ascii.{IsAscii-nil, IsAscii-cons}
 use Rattle.std.specs.List.{list_all, position, prefix_len}
-use Rattle.ks_base.specs.Ids.{IsId}
+use Rattle.std.specs.Str.{IsAscii, IsUtf8}
+use Rattle.ks_base.specs.Ids.{IsId, is_id_byte}
 
 good_byte : (b : Bool) (m n : ℕ) (t : Bool) → (n ≤ m → t ≡ true) → n + 1 ≤ cond (not (not b)) (1 + m) 0 → (b && t) ≡ true
 good_byte true m n t others h = others (omega arith)
@@ -34,3 +38,16 @@ holding_fields text front id e =
     let long : length (text ++ drop (length text) (replicate 64 zero)) ≡ 64 =
     omega (arith, length-append text (drop (length text) (replicate 64 zero)), ap length rest, length-replicate (64 - length text) zero) in
     rw e (short, drop-append_seam text (drop (length text) (replicate 64 zero)) ∙ rest, long, rw take-append_seam id)
+
+id_byte_is_ascii : (b : ℕ) → is_id_byte b ≡ true → b < 128
+id_byte_is_ascii b is = grind (arith, nat_tests)
+
+id_is_ascii : (text : List ℕ) → list_all is_id_byte text ≡ true → IsAscii text
+id_is_ascii [] all = IsAscii-nil
+id_is_ascii (b ∷ bs) all =
+    let parts = and_parts (is_id_byte b) _ all in
+    IsAscii-cons b bs (id_byte_is_ascii b parts.0) (id_is_ascii bs parts.1)
+
+-- an id is ASCII, and so it is a text
+pub id_is_utf8 : (text : List ℕ) → IsId text → IsUtf8 text
+id_is_utf8 text is = IsUtf8-from_ascii text (id_is_ascii text is.2)

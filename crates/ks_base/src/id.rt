@@ -8,17 +8,16 @@ ghost use Rattle.std.specs.Cmp.Rules.{comparing};
 ghost use Rattle.std.proofs.Common.{rules};
 ghost use Rattle.ks_base.specs.Ids.{IsId, IsFirstBadByte, is_id_byte};
 
+use crate::limits::ID_BYTES;
 use crate::{Memory, TryCopy};
 use std::cmp::Ordering;
 use std::marker::Model;
-
-const LONGEST: usize = 64;
 
 /// The id of a row: 1 to 64 bytes of `0-9 A-Z a-z _ -`, held in place and ordered by its bytes.
 #[derive(Copy, Clone)]
 pub struct Id {
     len: usize,
-    bytes: [u8; LONGEST],
+    bytes: [u8; ID_BYTES],
 }
 
 /// Why bytes are no id.
@@ -73,7 +72,7 @@ impl Id {
         if text.is_empty() {
             return Err(IdFault::Empty);
         }
-        if text.len() > LONGEST {
+        if text.len() > ID_BYTES {
             return Err(IdFault::TooLong);
         }
         if let Some(place) = first_bad(text) {
@@ -86,7 +85,7 @@ impl Id {
         requires { IsId text.now }
         ensures { result ≡ text.now }
     {
-        let mut bytes = [0u8; LONGEST];
+        let mut bytes = [0u8; ID_BYTES];
         bytes[..text.len()].copy_from_slice(text);
         Id {
             len: text.len(),
@@ -100,6 +99,17 @@ impl Id {
         ensures id { IsId self.now }
     {
         &self.bytes[..self.len]
+    }
+
+    /// The id as a text.
+    #[tactic(auto, using(crate::proofs::IdLemmas::id_is_utf8))]
+    pub fn as_str(&self) -> &str
+        ensures { result.now ≡ self.now }
+    {
+        match std::str::from_utf8(self.as_slice()) {
+            Ok(text) => text,
+            Err(_) => unreachable!(),
+        }
     }
 }
 

@@ -3,7 +3,6 @@ pub mod DemandLemmas
 pub mod FieldLemmas
 pub mod FreshNeeds
 pub mod Halts
-pub mod IdTexts
 pub mod KeptLemmas
 pub mod KeyLemmas
 pub mod LackLemmas

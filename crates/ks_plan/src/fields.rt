@@ -3,7 +3,6 @@ ghost use Rattle.std.specs.Prelude.{◌≡◌, ◌++◌, [], OnOk};
 ghost use Rattle.std.specs.Option.{option_copied};
 ghost use Rattle.ks_machine.specs.Targets.{field, given, given_truth};
 
-use crate::paths::id_text;
 use ks_base::{FieldList, Id, Memory, Text};
 use std::alloc::Global;
 use std::marker::Model;
@@ -61,7 +60,7 @@ impl Fields {
     pub fn put_id(&mut self, name: &str, id: &Id) -> Result<(), Memory>
         ensures { OnOk result (self.new ≡ self.old ++ field name.now id.now) }
     {
-        self.put_word(name, id_text(id))
+        self.put_word(name, id.as_str())
     }
 
     /// The same, where there is an id.

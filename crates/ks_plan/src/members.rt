@@ -9,7 +9,7 @@ ghost use Rattle.ks_plan.specs.Plans.{Passes, Plans, outcome_of};
 
 use crate::checks::{row, standing_group, standing_role, standing_user};
 use crate::names::{titled_role, titled_roles};
-use crate::paths::{id_text, joined};
+use crate::paths::joined;
 use crate::standing::{is_among, is_implication, is_joined};
 use crate::{Halt, Plan};
 use ks_auth::Tables;
@@ -93,7 +93,7 @@ pub fn groups_of(alloc: Global, tables: &Tables, user: &Id) -> Result<Plan, Halt
 {
     let _user = standing_user(tables, user)?;
     let rows = groups_found(alloc, tables, user)?;
-    let path = joined(alloc, "/v3/users/", id_text(user), "/groups")?;
+    let path = joined(alloc, "/v3/users/", user.as_str(), "/groups")?;
     Ok(Plan::tells(BodyOut::Many(Kind::Group, rows, path)))
 }
 
@@ -104,7 +104,7 @@ pub fn members_of(alloc: Global, tables: &Tables, group: &Id) -> Result<Plan, Ha
 {
     let _group = standing_group(tables, group)?;
     let rows = users_found(alloc, tables, group)?;
-    let path = joined(alloc, "/v3/groups/", id_text(group), "/users")?;
+    let path = joined(alloc, "/v3/groups/", group.as_str(), "/users")?;
     Ok(Plan::tells(BodyOut::Many(Kind::User, rows, path)))
 }
 

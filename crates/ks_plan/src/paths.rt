@@ -5,17 +5,6 @@ ghost use Rattle.ks_machine.specs.Members.{actor_path, grants_path, target_path}
 use ks_base::{Actor, Id, Memory, Target, Text};
 use std::alloc::Global;
 
-/// An id as a text.
-#[tactic(auto, using(crate::proofs::IdTexts::id_is_utf8))]
-pub fn id_text(id: &Id) -> &str
-    ensures { result.now ≡ id.now }
-{
-    match std::str::from_utf8(id.as_slice()) {
-        Ok(text) => text,
-        Err(_) => unreachable!(),
-    }
-}
-
 fn put(out: &mut String, text: &str) -> Result<(), Memory>
     ensures { OnOk result (string_bytes out.new ≡ string_bytes out.old ++ text.now) }
 {
@@ -40,11 +29,11 @@ fn put_target(out: &mut String, at: &Target) -> Result<(), Memory>
     match at {
         Target::Project(id) => {
             put(out, "/projects/")?;
-            put(out, id_text(id))
+            put(out, id.as_str())
         }
         Target::Domain(id) => {
             put(out, "/domains/")?;
-            put(out, id_text(id))
+            put(out, id.as_str())
         }
         Target::System => put(out, "/system"),
     }
@@ -56,11 +45,11 @@ fn put_actor(out: &mut String, who: &Actor) -> Result<(), Memory>
     match who {
         Actor::User(id) => {
             put(out, "/users/")?;
-            put(out, id_text(id))
+            put(out, id.as_str())
         }
         Actor::Group(id) => {
             put(out, "/groups/")?;
-            put(out, id_text(id))
+            put(out, id.as_str())
         }
     }
 }

@@ -22,7 +22,7 @@ use crate::filters::value_in;
 use crate::in_order::in_order;
 use crate::named::role_in;
 use crate::names::titled_roles;
-use crate::paths::{id_text, joined};
+use crate::paths::joined;
 use crate::{Caller, Halt, Plan};
 use ks_auth::{Tables, roles_at};
 use ks_base::limits::REDELEGATIONS;
@@ -366,6 +366,6 @@ pub fn roles_of_trust(alloc: Global, tables: &Tables, id: &Id) -> Result<Plan, H
 {
     let trust = standing_trust(tables, id)?;
     let roles = roles_among(alloc, tables.roles.roles(), &trust.roles)?;
-    let path = joined(alloc, "/v3/OS-TRUST/trusts/", id_text(id), "/roles")?;
+    let path = joined(alloc, "/v3/OS-TRUST/trusts/", id.as_str(), "/roles")?;
     Ok(Plan::tells(BodyOut::TrustRoles(roles, path)))
 }

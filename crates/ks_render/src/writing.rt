@@ -13,16 +13,6 @@ use ks_base::{Id, Text};
 use ks_time::time_digits;
 use std::alloc::AllocError;
 
-/// The text of an id.
-fn id_text(id: &Id) -> &str
-    ensures { result.now ≡ id.now }
-{
-    let Ok(text) = std::str::from_utf8(id.as_slice()) else {
-        unreachable!();
-    };
-    text
-}
-
 /// Appends to a text.
 pub fn push(text: &mut String, more: &str) -> Result<(), AllocError>
     ensures { OnOk result (string_bytes text.new ≡ string_bytes text.old ++ more.now) }
@@ -35,7 +25,7 @@ pub fn push(text: &mut String, more: &str) -> Result<(), AllocError>
 pub fn push_id(text: &mut String, id: &Id) -> Result<(), AllocError>
     ensures { OnOk result (string_bytes text.new ≡ string_bytes text.old ++ id.now) }
 {
-    push(text, id_text(id))
+    push(text, id.as_str())
 }
 
 pub fn write_str(out: &mut Writer, name: &str, text: &str) -> Result<(), AllocError>
@@ -54,7 +44,7 @@ pub fn write_text(out: &mut Writer, name: &str, text: &Text) -> Result<(), Alloc
 pub fn write_id(out: &mut Writer, name: &str, id: &Id) -> Result<(), AllocError>
     ensures { OnOk result (Enters out.old out.new ((name.now, string id.now) ∷ [])) }
 {
-    write_str(out, name, id_text(id))
+    write_str(out, name, id.as_str())
 }
 
 pub fn write_flag(out: &mut Writer, name: &str, flag: bool) -> Result<(), AllocError>

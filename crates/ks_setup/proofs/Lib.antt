@@ -6,7 +6,6 @@ pub mod EntryLemmas
 pub mod FolderLemmas
 pub mod FolderWordLemmas
 pub mod FrontLemmas
-pub mod IdLemmas
 pub mod KeyLemmas
 pub mod LentLemmas
 pub mod NameLemmas

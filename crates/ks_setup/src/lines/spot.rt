@@ -118,20 +118,10 @@ pub(crate) fn quoted(alloc: Global, text: &str) -> Result<String, Memory>
     Ok(made)
 }
 
-#[tactic(auto, using(crate::proofs::IdLemmas::id_is_utf8))]
-fn id_text(id: &Id) -> &str
-    ensures { result.now ≡ id.now }
-{
-    match std::str::from_utf8(id.as_slice()) {
-        Ok(text) => text,
-        Err(_) => unreachable!(),
-    }
-}
-
 pub(crate) fn id_quoted(alloc: Global, id: &Id) -> Result<String, Memory>
     ensures { IfOk result (λ made. string_bytes made ≡ quoted id.now) }
 {
-    quoted(alloc, id_text(id))
+    quoted(alloc, id.as_str())
 }
 
 /// The path of a row.
