@@ -1,7 +1,8 @@
 use crate::{Memory, TryCopy};
+use std::fmt;
 
 /// The random bytes that a request drew.
-#[derive(Clone, Copy, Debug, PartialEq, Eq)]
+#[derive(Clone, Copy, PartialEq, Eq)]
 pub enum Drawn {
     /// It drew none.
     Unused,
@@ -9,6 +10,17 @@ pub enum Drawn {
     Bytes([u8; 64]),
     /// The draw failed.
     Failed,
+}
+
+/// No printing shows the bytes: keys and salts are made of them.
+impl fmt::Debug for Drawn {
+    fn fmt<W: fmt::Write>(&self, f: &mut fmt::Formatter<W>) -> fmt::Result {
+        f.write_str(match self {
+            Drawn::Unused => "Unused",
+            Drawn::Bytes(_) => "Bytes(..)",
+            Drawn::Failed => "Failed",
+        })
+    }
 }
 
 /// What is noted of a request that was answered: enough to answer it again in the same way.

@@ -1,5 +1,5 @@
 //! Tests of what no table of cases can say: sources and sinks that falter in mid-stream, what the objects in memory give
-//! and take, and real folders, sockets, clocks and random bytes.
+//! and take, what is printed of secrets, and real folders, sockets, clocks and random bytes.
 #![tactic(auto)]
 
 #[cfg(test)]
@@ -12,5 +12,7 @@ mod falters;
 mod folders;
 #[cfg(test)]
 mod links;
+#[cfg(test)]
+mod printing;
 #[cfg(test)]
 mod sockets;
