@@ -148,6 +148,17 @@ def cut(port):
         status_of("behind connections that were cut, on the other worker", other.ask("GET", "/v3"), 200)
 
 
+def a_body_that_is_too_long(port):
+    """Its refusal comes, though more was sent than is read."""
+    sent = 500_000
+    head = f"POST /v3/auth/tokens HTTP/1.1\r\nHost: {HOST}\r\nContent-Length: {sent}\r\n\r\n"
+    for _ in range(20):
+        with Connection(port) as connection:
+            connection.send(head.encode() + b"x" * sent)
+            status_of("a body that is too long", connection.response("POST"), 413)
+            require(connection.socket.recv(1) == b"", "a body that is too long: the connection goes on")
+
+
 def statuses(program, folder, port):
     """How the program ends where it does not serve."""
     for address in (f"{HOST}:{port}", "no address", "192.0.2.1:5000"):
@@ -196,6 +207,7 @@ def tried(program):
         with Server(program, O1, folder, 2) as server:
             two_at_once(server.port)
             cut(server.port)
+            a_body_that_is_too_long(server.port)
             statuses(program, folder, server.port)
             waits(server.port)
             require(server.process.poll() is None, f"the server ended with status {server.process.poll()}")

@@ -74,11 +74,12 @@ impl<R: Clock + RandomSource> Desk for RealDesk<'_, R> {
         }
     }
 
-    /// Closes the connection.
+    /// Closes the connection, in stages: what its client still sends is passed over for a while, so that it does not
+    /// lose the last response.
     fn give_back(&mut self, link: TcpLink)
         ensures exact { self.new ≡ self.old }
     {
-        drop(link);
+        link.close();
     }
 
     /// The clock, or the last reading again, at first 0, where it can't be read or stands before 1970.

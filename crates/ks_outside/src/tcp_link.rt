@@ -8,11 +8,19 @@ use crate::real_source::read_uninterrupted;
 use crate::{Failed, Sink, Source, Stream};
 use std::io;
 use std::marker::Model;
-use std::net::TcpStream;
+use std::net::{Shutdown, TcpStream};
 use std::time::Duration;
 
 /// How many seconds a client has for the first byte of a request.
 const IDLE_SECONDS: u64 = 5;
+
+/// How many seconds a client has, once it may send no more, to close its side or to send what it had begun.
+const CLOSING_SECONDS: u64 = 1;
+
+/// How many pieces of what it still sends are passed over then, and how long they are at most.
+const CLOSING_PIECES: u32 = 256;
+
+const PIECE: usize = 4_096;
 
 /// How many seconds a client has for each further piece of a request, and to take a piece of a response.
 const STALLED_SECONDS: u64 = 30;
@@ -36,7 +44,7 @@ impl Awaited {
 }
 
 /// A link over a TCP connection. It does not tell what came and what was written, and counts its faults.
-/// The counts stand still at 2^64 - 1. The connection closes when the link is dropped.
+/// The counts stand still at 2^64 - 1. The connection is let go when the link is dropped.
 ///
 /// A read waits for 5 seconds where nothing was read since the link was made or last written to, since the
 /// client may have nothing more to ask, and else for 30. How long a write waits the link leaves to the
@@ -100,6 +108,31 @@ impl TcpLink {
             self.awaited = Awaited::Rest;
         }
         Ok(count)
+    }
+
+    /// Closes the connection in stages (RFC 9112, 9.6): no more is written; what the client still sends is passed
+    /// over, at most 1 MiB with at most a second between two pieces; and then the connection is let go. A connection
+    /// that is let go with bytes unread is reset, and the client might lose the response to a request that was
+    /// refused before all of it came.
+    pub(crate) fn close(self) {
+        if self.stream.shutdown(Shutdown::Write).is_err() {
+            return;
+        }
+        let closing = Some(Duration::from_secs(CLOSING_SECONDS));
+        if self.stream.set_read_timeout(closing).is_ok() {
+            pass_over(self.stream);
+        }
+    }
+}
+
+/// Reads what still comes, until the end, a fault or the last piece.
+fn pass_over(mut stream: TcpStream) {
+    let mut piece = [0; PIECE];
+    for _ in 0..CLOSING_PIECES {
+        match read_uninterrupted(&mut stream, &mut piece) {
+            Ok(0) | Err(Failed) => return,
+            Ok(_) => {}
+        }
     }
 }
 
