@@ -6,7 +6,7 @@ use Rattle.std.specs.List.{AllByRecursion}
 use Rattle.std.proofs.lemmas.Bool.Decides.{nat_tests}
 use Rattle.serde_json.specs.Data.{Data, Items, no_items, item}
 use Rattle.serde_json.specs.Find.{as_number, as_u64}
-use Rattle.ks_base.specs.declared.limits.TheConstants.{DESCRIPTION_BYTES, NAME_BYTES}
+use Rattle.ks_base.specs.declared.limits.TheConstants.{DESCRIPTION_BYTES, NAME_BYTES, OPENING_BYTES}
 use Rattle.ks_base.specs.declared.shapes.ShapeFault.{ShapeFault}
 use Rattle.ks_machine.specs.declared.settings.Settings.{Settings}
 use Rattle.ks_machine.specs.Ranges.{AreRounds, IsDescription, IsDomainInRange, IsGroupInRange, IsName, IsProjectInRange, IsRoleInRange, IsSettings, IsUserInRange}
@@ -17,54 +17,16 @@ use Rattle.ks_shape.specs.Fields.{FieldType, if_given, judged, needed, needed_va
 use Rattle.ks_shape.specs.Places.{Place, entry_at, names, path_at}
 use Rattle.ks_shape.specs.Readings.{◌>>=◌, found, need}
 use Rattle.ks_shape.specs.Types.{any_text, description_text, id_text, list_of, name_text, password_text, text_of, truth, whole}
+use Rattle.ks_shape.proofs.PropertyLemmas.{If, needed_in, optional_in, skip, step, weaken}
 use Rattle.ks_setup.specs.declared.written.Written.{Written}
 use Rattle.ks_setup.specs.declared.written.WrittenUser.{WrittenUser}
-use Rattle.ks_setup.specs.Entries.{Entry, entries, entries_from, if_listed, listed, most_bytes}
+use Rattle.ks_setup.specs.Entries.{Entry, entries, entries_from, if_listed, listed}
 use Rattle.ks_setup.specs.Openings.{password_row, users_from}
 use Rattle.ks_setup.specs.Ranges.{OpensInRange}
 use Rattle.ks_setup.specs.Written.{default_domain, default_settings, document_of, domain_in, file_of, grant_in, group_in, implication_in, is_folder, keys_of, member_in, project_in, role_in, settings_at, settings_in, settings_of, user_in, written_in}
 use Rattle.ks_setup.proofs.BoundLemmas.{in_range}
 
--- what is read behind a reading has a property where it has it whatever that reading gives, and where what it gives has another
-skip : {A B F : Type 0} (Q : B → Type 0) (r : Result A F) (f : A → Result B F) → ((a : A) → IfOk (f a) Q) → IfOk (r >>= f) Q
-skip Q (Ok a) f on = on a
-skip Q (Err fault) f on = tt
-
-step : {A B F : Type 0} (Q : B → Type 0) (P : A → Type 0) (r : Result A F) (f : A → Result B F)
-    → IfOk r P → ((a : A) → P a → IfOk (f a) Q) → IfOk (r >>= f) Q
-step Q P (Ok a) f is on = on a is
-step Q P (Err fault) f is on = tt
-
-weaken : {A F : Type 0} (Q P : A → Type 0) (r : Result A F) → IfOk r P → ((a : A) → P a → Q a) → IfOk r Q
-weaken Q P (Ok a) is on = on a is
-weaken Q P (Err fault) is on = tt
-
 -- fields
-
-judged_in : {A : Type 0} (P : A → Type 0) (path : List ℕ) (r : Result A Misfit) → IfOk r P → IfOk (judged path r) P
-judged_in P path (Ok a) is = is
-judged_in P path (Err misfit) is = tt
-
-needed_in : {A : Type 0} (P : A → Type 0) (type : FieldType A) → ((value : Data) → IfOk (type value) P)
-    → (names : List (List ℕ)) (place : Place) → IfOk (needed type names place) P
-unfolding needed
-needed_in P type each names place =
-    skip P (needed_value names place) _ (λ value. judged_in P (path_at names place) (type value) (each value))
-
-abbrev If : {A : Type 0} → (A → Type 0) → Option A → Type 0
-If P value = IfSome value P
-
-given_in : {A : Type 0} (P : A → Type 0) (type : FieldType A) → ((value : Data) → IfOk (type value) P)
-    → (value : Option Data) → IfOk (if_given type value) (If P)
-given_in P type each None = tt
-given_in P type each (Some value) = step (If P) P (type value) (λ a. Ok (Some a)) (each value) (λ a is. is)
-
-optional_in : {A : Type 0} (P : A → Type 0) (type : FieldType A) → ((value : Data) → IfOk (type value) P)
-    → (names : List (List ℕ)) (place : Place) → IfOk (optional type names place) (If P)
-unfolding optional
-optional_in P type each names place =
-    skip (If P) (optional_value names place) _
-    (λ value. judged_in (If P) (path_at names place) (if_given type value) (given_in P type each value))
 
 -- what stands for an absent field has the property too
 or_else : {A : Type 0} (P : A → Type 0) (value : Option A) (other : A) → IfSome value P → P other → P (unwrap_or value other)
@@ -206,7 +168,7 @@ listed_in : {A : Type 0} (P : A → Type 0) (entry : Entry A) → ((place : Plac
     → (names : List (List ℕ)) (file : Place) → IfOk (listed entry names file) (If (Are P))
 unfolding listed
 listed_in P entry each names file =
-    skip (If (Are P)) (optional (list_of most_bytes) names file) _ (λ items. if_in P entry each names file items)
+    skip (If (Are P)) (optional (list_of OPENING_BYTES) names file) _ (λ items. if_in P entry each names file items)
 
 entries_in : {A : Type 0} (P : A → Type 0) (entry : Entry A) → ((place : Place) → IfOk (entry place) P)
     → (names : List (List ℕ)) (file : Place) → IfOk (entries entry names file) (Are P)

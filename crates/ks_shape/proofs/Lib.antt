@@ -4,6 +4,7 @@ pub mod ListLemmas
 pub mod MomentLemmas
 pub mod NameLemmas
 pub mod PlaceLemmas
+pub mod PropertyLemmas
 pub mod RangeLemmas
 pub mod RefusalLemmas
 pub mod TimeLemmas

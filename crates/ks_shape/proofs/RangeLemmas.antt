@@ -39,48 +39,10 @@ use Rattle.ks_shape.specs.Times.{time_of}
 use Rattle.ks_shape.specs.Trusts.{limits_of, roles_at, trust_of}
 use Rattle.ks_shape.specs.Types.{affirmation, any_text, count_of, description_text, falsehood, id_text, list_of, name_text, one_method, password_text, text_of, time_text, truth, whole}
 use Rattle.ks_shape.proofs.MomentLemmas.{last_moment}
+use Rattle.ks_shape.proofs.PropertyLemmas.{If, judged_in, needed_in, optional_in, skip, step, weaken}
 use Rattle.ks_shape.proofs.TimeLemmas.{in_range_from, time_is}
 
--- what is read behind a reading has a property where it has it whatever that reading gives, and where what it gives has another
-skip : {A B F : Type 0} (Q : B → Type 0) (r : Result A F) (f : A → Result B F) → ((a : A) → IfOk (f a) Q) → IfOk (r >>= f) Q
-skip Q (Ok a) f on = on a
-skip Q (Err fault) f on = tt
-
-step : {A B F : Type 0} (Q : B → Type 0) (P : A → Type 0) (r : Result A F) (f : A → Result B F)
-    → IfOk r P → ((a : A) → P a → IfOk (f a) Q) → IfOk (r >>= f) Q
-step Q P (Ok a) f is on = on a is
-step Q P (Err fault) f is on = tt
-
-weaken : {A F : Type 0} (Q P : A → Type 0) (r : Result A F) → IfOk r P → ((a : A) → P a → Q a) → IfOk r Q
-weaken Q P (Ok a) is on = on a is
-weaken Q P (Err fault) is on = tt
-
 -- fields
-
-judged_in : {A : Type 0} (P : A → Type 0) (path : List ℕ) (r : Result A Misfit) → IfOk r P → IfOk (judged path r) P
-judged_in P path (Ok a) is = is
-judged_in P path (Err misfit) is = tt
-
-needed_in : {A : Type 0} (P : A → Type 0) (type : FieldType A) → ((value : Data) → IfOk (type value) P)
-    → (names : List (List ℕ)) (place : Place) → IfOk (needed type names place) P
-unfolding needed
-needed_in P type each names place =
-    skip P (needed_value names place) _ (λ value. judged_in P (path_at names place) (type value) (each value))
-
-abbrev If : {A : Type 0} → (A → Type 0) → Option A → Type 0
-If P value = IfSome value P
-
-given_in : {A : Type 0} (P : A → Type 0) (type : FieldType A) → ((value : Data) → IfOk (type value) P)
-    → (value : Option Data) → IfOk (if_given type value) (If P)
-given_in P type each None = tt
-given_in P type each (Some value) = step (If P) P (type value) (λ a. Ok (Some a)) (each value) (λ a is. is)
-
-optional_in : {A : Type 0} (P : A → Type 0) (type : FieldType A) → ((value : Data) → IfOk (type value) P)
-    → (names : List (List ℕ)) (place : Place) → IfOk (optional type names place) (If P)
-unfolding optional
-optional_in P type each names place =
-    skip (If P) (optional_value names place) _
-    (λ value. judged_in (If P) (path_at names place) (if_given type value) (given_in P type each value))
 
 -- texts of so many bytes
 

@@ -6,6 +6,7 @@ pub mod MakeLemmas
 pub mod OpenLemmas
 pub mod PlanLemmas
 pub mod ReplyLemmas
+pub mod SendLemmas
 pub mod SettleLemmas
 pub mod StandLemmas
 pub mod TellLemmas

@@ -5,7 +5,6 @@ pub mod KeyFolderLemmas
 pub mod OpeningLemmas
 pub mod TalkLemmas
 pub mod RunLemmas
-pub mod SendLemmas
 pub mod ServeLemmas
 pub mod LawLemmas
 pub mod JournalLemmas

@@ -3,7 +3,7 @@ use denote.Param.Send.{sendable}
 use Rattle.ks_policy.specs.Openings.{plain}
 use Rattle.ks_server.specs.Workers.{Place}
 use Rattle.ks_state.specs.Standing.{StandsWithAllKept, first_front}
-use Rattle.ks_top.proofs.SendLemmas.{identity_send}
+use Rattle.ks_state.proofs.SendLemmas.{identity_send}
 use Rattle.ks_top.proofs.ServeLemmas.{Left, appended, at_first, had_no_room, left_all, joined, left_length, grown}
 use Rattle.ks_top.proofs.TalkLemmas.{first_is}
 use Rattle.ks_turn.specs.Passes.{Ends}

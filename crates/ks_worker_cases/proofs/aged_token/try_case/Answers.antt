@@ -1,5 +1,5 @@
 use denote.Param.Send.{sendable}
-use Rattle.ks_worker_cases.proofs.SendLemmas.{identity_send}
+use Rattle.ks_state.proofs.SendLemmas.{identity_send}
 use Rattle.ks_worker_cases.proofs.aged_token.try_case.Goals as goal
 
 pub beside-replies-requires-send-I : goal.beside-replies-requires-send-I

@@ -1,5 +1,5 @@
 use denote.Param.Send.{sendable}
-use Rattle.ks_worker_cases.proofs.SendLemmas.{identity_send}
+use Rattle.ks_state.proofs.SendLemmas.{identity_send}
 use Rattle.ks_worker_cases.proofs.desks.serve_both.Goals as goal
 
 pub serve-served-requires-send-I : goal.serve-served-requires-send-I

@@ -1,5 +1,5 @@
 use denote.Param.Send.{sendable}
-use Rattle.ks_worker_cases.proofs.SendLemmas.{identity_send}
+use Rattle.ks_state.proofs.SendLemmas.{identity_send}
 use Rattle.ks_worker_cases.proofs.old_password.try_case.Goals as goal
 
 pub beside-pass-requires-send-I : goal.beside-pass-requires-send-I
