@@ -25,34 +25,17 @@ pub fn try_case<N: First + Send + Sync, R: Threads + Wait + Sync>(
     requires own { pass.turn ≡ turn }
     requires weight { pass.weight ≡ 1000000 }
 {
-    let (pass, reply) = make(
-        alloc,
-        rt,
-        &turn,
-        pass,
-        &log_in(alloc, BOB, "hunter2", 1)?,
-        &Open,
-    );
+    let call = log_in(alloc, BOB, "hunter2", 1)?;
+    let (pass, reply) = make(alloc, rt, &turn, pass, &call, &Open);
     let subject = token_of(reply)?;
-    let (pass, reply) = make(
-        alloc,
-        rt,
-        &turn,
-        pass,
-        &log_in(alloc, ANN, "secret", 2)?,
-        &Open,
-    );
+    let call = log_in(alloc, ANN, "secret", 2)?;
+    let (pass, reply) = make(alloc, rt, &turn, pass, &call, &Open);
     let caller = token_of(reply)?;
-    let (pass, reply) = make(alloc, rt, &turn, pass, &rotate(&caller, 3)?, &Open);
+    let call = rotate(&caller, 3)?;
+    let (pass, reply) = make(alloc, rt, &turn, pass, &call, &Open);
     ensure!(are_keys(&reply, &[0, 1, 2]), "the first rotation fails");
-    let (pass, reply) = make(
-        alloc,
-        rt,
-        &turn,
-        pass,
-        &log_in(alloc, ANN, "secret", 4)?,
-        &Open,
-    );
+    let call = log_in(alloc, ANN, "secret", 4)?;
+    let (pass, reply) = make(alloc, rt, &turn, pass, &call, &Open);
     let caller = token_of(reply)?;
     let held = validate(&caller, &subject)?;
     let (pass, reply) = make(alloc, rt, &turn, pass, &held, &Open);
