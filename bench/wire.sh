@@ -207,9 +207,11 @@ END
 run
 program=$PWD/out/wire_bench
 
-# once WORD N: a run that does it so often, of which `said` is what it wrote and `counts` what callgrind counted.
+# once WORD N: a run that does it so often, of which `said` is what it wrote and `counts` what callgrind counted, of the
+# function `inside` alone where there is one.
+inside=
 once() {
-    valgrind --tool=callgrind --callgrind-out-file="$work/counts" "$program" "$1" "$2" \
+    valgrind --tool=callgrind --callgrind-out-file="$work/counts" ${inside:+"--toggle-collect=$inside"} "$program" "$1" "$2" \
         < "$work/$1.$2" > "$work/said" 2> "$work/log"
     [ "$(cut -d' ' -f1 "$work/said")" = "$2" ] || { echo "wire: not each $1 came out" >&2; exit 1; }
 }
@@ -240,6 +242,7 @@ each() {
 
 echo "from the bytes of a login's request to its command: $(each login)"
 echo "the response to a login: $(each response)"
+echo "of that, its body, behind the two pieces of room for it: $(inside=ks_render::bodies::write_body; each response)"
 echo "from the bytes of a validation's request to its response: $(each validation)"
 
 # Times, which callgrind does not tell. Each body has 497 bytes.

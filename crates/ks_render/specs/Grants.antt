@@ -1,5 +1,5 @@
 -- What is told of the roles that are granted.
-use Rattle.std.specs.Prelude.{ℕ, Bool, true, false, List, [], ◌∷◌, ◌++◌, codes}
+use Rattle.std.specs.Prelude.{Bool, true, false, List, [], ◌∷◌, ◌++◌, codes}
 use Rattle.serde_json.specs.Data.{Data, string}
 use Rattle.ks_base.specs.declared.grants.Actor.{Actor}
 use Rattle.ks_base.specs.declared.grants.Actor.TheVariants as actor

@@ -1,10 +1,10 @@
 -- The bodies that list rows.
-use Rattle.std.specs.Prelude.{ℕ, Bool, true, false, List, [], ◌∷◌, ◌++◌, map, codes}
+use Rattle.std.specs.Prelude.{ℕ, List, [], ◌∷◌, ◌++◌, map, codes}
 use Rattle.serde_json.specs.Data.{Data, null, number, unsigned, string}
 use Rattle.ks_base.specs.declared.kinds.Kind.{Kind}
 use Rattle.ks_base.specs.declared.kinds.Kind.TheVariants as kind
 use Rattle.ks_machine.specs.declared.body_out.Titled.{Titled}
-use Rattle.ks_render.specs.Values.{Entry, array_of, object_of}
+use Rattle.ks_render.specs.Values.{array_of, object_of}
 use Rattle.ks_render.specs.Named.{titled_value}
 
 -- the listing is whole; PATH is the path of its request

@@ -23,6 +23,9 @@ use std::alloc::{AllocError, Global};
 /// Room for a body without a list.
 const ROOM: usize = 512;
 
+/// Room for the texts that are made on the way, of which a link with an id is the longest, under most URLs.
+const LINK_ROOM: usize = 256;
+
 /// Room for most bodies with a list of this length, so that their text seldom moves while it grows.
 fn room_for(count: usize) -> usize {
     ROOM + count.min(4096) * 256
@@ -119,8 +122,10 @@ pub fn body_text(alloc: Global, reply: &Reply, url: &Text) -> Result<Bytes, Memo
     ensures text { IfOk result (λ made. made ≡ text_of (body_of reply.now url.now)) }
     ensures reads_back { IfOk result (λ made. tokens made ≡ tokens_of (body_of reply.now url.now)) }
 {
-    let mut out = Writer::new(Vec::with_capacity(alloc, room(reply))?);
-    let mut link = String::new(alloc);
+    let room = room(reply);
+    let mut out = Writer::new(Vec::with_capacity(alloc, room)?);
+    // Where there is no body, no text is made either.
+    let mut link = String::with_capacity(alloc, LINK_ROOM.min(room))?;
     write_body(&mut out, reply, url, &mut link)?;
     Ok(Bytes::from_vec(out.into_inner()))
 }
