@@ -22,6 +22,8 @@ from served import Connection, Failure, Server, exchange, login, project_scope, 
 O1 = os.path.join(TOP, "examples", "o1.json")
 WORKERS = (1, 4)
 TOKENS, ROUNDS = 1000, 10_000
+# How many requests a client that does not wait for each response sends at once.
+DEPTH = 16
 
 # A script of wrk: each thread sends the requests of a file, from a place of its own on.
 SCRIPT = """
@@ -76,27 +78,27 @@ def by_wrk(work, port, workers, requests, seconds):
     return count / micros * 1e6, half / 1000, most / 1000
 
 
-def client(port, requests, start, until, results):
-    """Sends requests in turn over one connection, and hands on how long each took."""
+def client(port, requests, depth, start, until, results):
+    """Sends requests in turn over one connection, so many in each piece, and hands on how long each piece took."""
     taken, place = [], start
     try:
         with Connection(port) as connection:
             while time.time() < until:
                 began = time.perf_counter()
                 connection.send(requests[place % len(requests)])
-                status = connection.response().status
+                statuses = [connection.response().status for _ in range(depth)]
                 taken.append(time.perf_counter() - began)
-                require(status < 300, f"a request is answered with {status}")
+                require(max(statuses) < 300, f"a request is answered with {max(statuses)}")
                 place += 1
         results.put(taken)
     except (Failure, OSError) as why:
         results.put(str(why))
 
 
-def by_python(port, workers, requests, seconds):
+def by_python(port, workers, requests, depth, seconds):
     """The same, by a process for each connection."""
     results, until = multiprocessing.Queue(), time.time() + seconds
-    clients = [multiprocessing.Process(target=client, args=(port, requests, number * 251, until, results)) for number in range(workers)]
+    clients = [multiprocessing.Process(target=client, args=(port, requests, depth, number * 251, until, results)) for number in range(workers)]
     for each in clients:
         each.start()
     told = [results.get(timeout=seconds + 60) for _ in clients]
@@ -105,7 +107,7 @@ def by_python(port, workers, requests, seconds):
     for part in told:
         require(not isinstance(part, str), part)
     taken = sorted(each for part in told for each in part)
-    return len(taken) / seconds, taken[len(taken) // 2] * 1000, taken[len(taken) * 99 // 100] * 1000
+    return depth * len(taken) / seconds, taken[len(taken) // 2] * 1000, taken[len(taken) * 99 // 100] * 1000
 
 
 def opening(work):
@@ -120,7 +122,7 @@ def opening(work):
 
 
 def loads(port, project):
-    """The rows: what each is, and its requests."""
+    """The rows: what each is, its pieces, and how many requests each piece has."""
     password = login("ann", "secret", project_scope("demo"))
     with Connection(port) as connection:
         first = connection.ask("POST", "/v3/auth/tokens", password).fields["X-Subject-Token"]
@@ -132,11 +134,13 @@ def loads(port, project):
     for place in range(0, TOKENS, 100):
         body = {"project": {"description": f"change {place}"}}
         mixed[place] = request("PATCH", f"/v3/projects/{project}", body, tokens[place])
+    at_once = [b"".join(validations[place:place + DEPTH]) for place in range(0, TOKENS - DEPTH, DEPTH)]
     return [
-        ("GET /v3", [request("GET", "/v3")]),
-        (f"validations of {TOKENS:,} tokens", validations),
-        (f"logins with {ROUNDS:,} rounds", [request("POST", "/v3/auth/tokens", password)]),
-        ("validations with a change in a hundred", mixed),
+        ("GET /v3", [request("GET", "/v3")], 1),
+        (f"validations of {TOKENS:,} tokens", validations, 1),
+        (f"such validations, {DEPTH} sent at once", at_once, DEPTH),
+        (f"logins with {ROUNDS:,} rounds", [request("POST", "/v3/auth/tokens", password)], 1),
+        ("validations with a change in a hundred", mixed, 1),
     ]
 
 
@@ -154,17 +158,21 @@ def measure(program, seconds, work):
     print("the load is " + ("wrk" if has_wrk else "a client in Python for each connection"), flush=True)
     for workers in WORKERS:
         with Server(program, file, folder, workers) as server:
-            for what, requests in loads(server.port, project):
+            for what, requests, depth in loads(server.port, project):
+                began, worked = time.monotonic(), server.seconds()
                 if has_wrk:
                     rate, half, most = by_wrk(work, server.port, workers, requests, seconds)
                 else:
-                    rate, half, most = by_python(server.port, workers, requests, seconds)
-                rates[what, workers] = rate
-                print(f"{what}, {named(workers)}: {rate:,.0f} a second, p50 {half:.3f} ms, p99 {most:.3f} ms, "
+                    rate, half, most = by_python(server.port, workers, requests, depth, seconds)
+                cores = (server.seconds() - worked) / (time.monotonic() - began)
+                rates[what, workers] = rate, rate / cores
+                print(f"{what}, {named(workers)}: {rate:,.0f} a second with {cores:.2f} cores, p50 {half:.3f} ms, p99 {most:.3f} ms, "
                       f"{server.memory() / 1024:.1f} MiB resident", flush=True)
     least, most = WORKERS
     for what in dict.fromkeys(what for what, _ in rates):
-        print(f"{what}: {named(most)} do {rates[what, most] / rates[what, least]:.2f} times what {named(least)} does")
+        (few, few_each), (many, many_each) = rates[what, least], rates[what, most]
+        print(f"{what}: {named(most)} do {many / few:.2f} times what {named(least)} does, and {many_each / few_each:.2f} times as many "
+              f"a core, of which each does {many_each:,.0f}")
 
 
 def main():

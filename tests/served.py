@@ -106,6 +106,12 @@ class Server:
         self.reader.join()
         self.process.stderr.close()
 
+    def seconds(self):
+        """The processor time that it has taken, in seconds."""
+        with open(f"/proc/{self.process.pid}/stat", encoding="ascii") as file:
+            fields = file.read().rpartition(")")[2].split()
+        return sum(map(int, fields[11:13])) / os.sysconf("SC_CLK_TCK")
+
     def memory(self):
         """How many KiB of it are resident."""
         with open(f"/proc/{self.process.pid}/status", encoding="ascii") as file:
