@@ -1,6 +1,7 @@
 -- Ids: 1 to 64 bytes of digits, ASCII letters, '_' and '-'.
 use Rattle.std.specs.Prelude.{◌≡◌, ℕ, ◌<◌, ◌≤◌, Bool, true, not, ◌&&◌, ◌||◌, ◌==◌, nat_le, List, length, Some}
 use Rattle.std.specs.List.{list_all, position}
+use Rattle.ks_base.specs.declared.limits.TheConstants.{ID_BYTES}
 
 abbrev pub is_between : ℕ → ℕ → ℕ → Bool
 is_between low high b = nat_le low b && nat_le b high
@@ -10,7 +11,7 @@ abbrev pub is_id_byte : ℕ → Bool
 is_id_byte b = is_between 48 57 b || (is_between 65 90 b || (is_between 97 122 b || ((b == 95) || (b == 45))))
 
 abbrev pub IsId : List ℕ → Type 0
-IsId text = (0 < length text) × (length text ≤ 64) × (list_all is_id_byte text ≡ true)
+IsId text = (0 < length text) × (length text ≤ ID_BYTES) × (list_all is_id_byte text ≡ true)
 
 -- the first byte that no id may hold is the one at this place
 abbrev pub IsFirstBadByte : List ℕ → ℕ → Type 0

@@ -22,6 +22,12 @@ pub const TRUSTS: usize = 65_536;
 pub const EVENTS: usize = 262_144;
 /// Keys that may be held.
 pub const KEYS: usize = 32;
+/// The fewest keys that a rotation may be told to leave: the primary one, and the staged.
+pub const FEWEST_KEYS: u32 = 2;
+/// The keys that a rotation leaves where nothing else is said.
+pub const DEFAULT_KEYS: u32 = 3;
+/// The highest index of a key.
+pub const LAST_KEY_INDEX: u32 = 999_999_999;
 /// Entries of the journal that an identity keeps.
 pub const ENTRIES: usize = 65_536;
 
@@ -42,6 +48,35 @@ pub const NAME_BYTES: usize = 255;
 pub const DESCRIPTION_BYTES: usize = 4_096;
 /// Bytes of a password.
 pub const PASSWORD_BYTES: usize = 4_096;
+/// Characters of a token.
+pub const TOKEN_BYTES: usize = 1_024;
+/// Rules of a policy, the default ones among them.
+pub const POLICY_RULES: usize = 1_024;
+/// Bytes of a rule of a policy.
+pub const RULE_BYTES: usize = 4_096;
+/// How deep a rule may be nested.
+pub const RULE_DEPTH: u8 = 64;
+/// Bytes of an opening file: 16 MiB.
+pub const OPENING_BYTES: usize = 16_777_216;
+
+/// Bytes of a request's first line and fields, with the empty line behind them.
+pub const HEAD_BYTES: usize = 16_384;
+/// Fields of a request.
+pub const HEAD_FIELDS: usize = 64;
+/// Bytes of a request's body: what an object with the longest texts takes.
+pub const BODY_BYTES: usize = 114_688;
+/// Requests that one connection carries; it is closed behind the last.
+pub const CONNECTION_REQUESTS: u64 = 1_000_000;
+/// Bytes of a line of `check`, without its line feed.
+pub const CHECK_LINE_BYTES: usize = 1_100;
+/// Lines of `check`.
+pub const CHECK_LINES: u64 = 1_048_576;
+/// Workers that may serve.
+pub const WORKERS: u32 = 32;
+/// Workers that serve where nothing else is said.
+pub const DEFAULT_WORKERS: u32 = 4;
+/// Connections after which a server may be told to stop.
+pub const CONNECTIONS: u32 = 1_000_000;
 
 /// The shortest life of a token, in seconds.
 pub const SHORTEST_LIFE: u64 = 60;
@@ -51,6 +86,8 @@ pub const LONGEST_LIFE: u64 = 604_800;
 pub const DEFAULT_LIFE: u64 = 3_600;
 /// Rounds of a derived password.
 pub const ROUNDS: u32 = 100_000;
+/// Rounds where nothing else is set.
+pub const DEFAULT_ROUNDS: u32 = 10_000;
 /// The last second of the year 9999, in seconds since 1970-01-01T00:00:00Z: no later moment has a text.
 pub const LAST_SECOND: u64 = 253_402_300_799;
 /// The last reading of the clock that counts: a year before the last second, so that each expiry has a text.

@@ -2,6 +2,7 @@
 use Rattle.std.specs.Prelude.{◌≡◌, ◌≢◌, ℕ, ◌-◌, ◌%◌, ◌^◌, ◌<◌, ◌≤◌, ◌==◌, ◌&&◌, nat_lt, nat_le, Bool, true, false, IsSome, if◌then◌else◌, List, ◌∷◌, ◌++◌, length, take, drop, slice_index, Option, Some, None}
 use Rattle.std.specs.Option.{option_and_then}
 use Rattle.std.specs.Int.{w64, to_be_bytes, from_be_bytes}
+use Rattle.ks_base.specs.declared.limits.TheConstants.{TOKEN_BYTES}
 use Rattle.ks_fernet.specs.declared.envelope.Envelope.{Envelope}
 use Rattle.ks_fernet.specs.declared.envelope.EnvelopeFault.{EnvelopeFault}
 use Rattle.ks_fernet.specs.declared.envelope.EnvelopeFault.TheVariants.{NotText, Length, Version, Memory}
@@ -13,13 +14,13 @@ token_bytes e = 0x80 ∷ (to_be_bytes w64 e.time ++ (e.iv ++ (e.ciphertext ++ e.
 
 -- a text of at most 1,024 characters that spells these bytes
 pub record IsTextOf (text bytes : List ℕ) : Type 0 where
-  pub short : length text ≤ 1024
+  pub short : length text ≤ TOKEN_BYTES
   pub spelled : Spells text bytes
   pub are_bytes : AreBytes bytes
 
 -- the text is a token of these parts
 pub record IsToken (text : List ℕ) (e : Envelope) : Type 0 where
-  pub short : length text ≤ 1024
+  pub short : length text ≤ TOKEN_BYTES
   pub spelled : Spells text (token_bytes e)
   pub time_fits : e.time < 2 ^ 64
   pub iv_long : length e.iv ≡ 16
@@ -65,7 +66,7 @@ envelope_in bytes =
 
 -- the parts of which the text is a token, if there are any
 unfoldable pub envelope_of : List ℕ → Option Envelope
-envelope_of text = if nat_le (length text) 1024 then option_and_then envelope_in (bytes_of text) else None
+envelope_of text = if nat_le (length text) TOKEN_BYTES then option_and_then envelope_in (bytes_of text) else None
 
 -- why bytes are no token's
 abbrev pub IsFaultIn : List ℕ → EnvelopeFault → Type 0

@@ -1,9 +1,11 @@
 ghost use Rattle.std.specs.Prelude.{◌≡◌, ◌≢◌, ◌↔◌, ◌<◌, ◌≤◌, length, slice_index, take, IfOk, IfErr, IfSome, IfNone, IsSome, Some, None};
+ghost use Rattle.ks_base.specs.declared.limits.TheConstants.{TOKEN_BYTES};
 ghost use Rattle.ks_fernet.specs.Base64Url.{bytes_of};
 ghost use Rattle.ks_fernet.specs.Opening.{signed_bytes};
 ghost use Rattle.ks_fernet.specs.Token.{IsToken, IsNoText, HasOtherLength, HasOtherVersion, IsFaultIn, envelope_in, envelope_of, is_token_length, parts_of};
 
 use crate::base64_url::read_bytes;
+use ks_base::limits::TOKEN_BYTES;
 use ks_base::{Bytes, Memory};
 use std::alloc::Global;
 
@@ -30,9 +32,6 @@ pub enum EnvelopeFault {
     /// There was no memory for the ciphertext.
     Memory,
 }
-
-/// The characters of the longest text that is read.
-const LONGEST: usize = 1024;
 
 /// The bytes that so many characters may spell.
 pub(crate) const ROOM: usize = 768;
@@ -81,11 +80,11 @@ impl Envelope {
 /// Writes the bytes that a text of at most 1,024 characters spells to the front of `out`, and returns
 /// their number.
 pub(crate) fn read_text(text: &[u8], out: &mut [u8; ROOM]) -> Option<usize>
-    ensures read { IfSome result (λ n. (length text.now ≤ 1024) × (bytes_of text.now ≡ Some (take n out.new))) }
+    ensures read { IfSome result (λ n. (length text.now ≤ TOKEN_BYTES) × (bytes_of text.now ≡ Some (take n out.new))) }
     ensures within { IfSome result (λ n. n ≤ length out.new) }
     ensures none { IfNone result (IsNoText text.now × (envelope_of text.now ≡ None)) }
 {
-    if text.len() > LONGEST {
+    if text.len() > TOKEN_BYTES {
         return None;
     }
     read_bytes(text, out)

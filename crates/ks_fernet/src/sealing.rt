@@ -1,4 +1,5 @@
 ghost use Rattle.std.specs.Prelude.{◌≡◌, ◌≤◌, length, IfOk};
+ghost use Rattle.ks_base.specs.declared.limits.TheConstants.{TOKEN_BYTES};
 ghost use Rattle.ks_fernet.specs.declared.opening.OpenAnswer.TheVariants.{Yes};
 ghost use Rattle.ks_fernet.specs.Base64Url.{AreBytes};
 ghost use Rattle.ks_fernet.specs.Opening.{open_of, signed_bytes, token_text};
@@ -22,7 +23,7 @@ pub fn seal(
     requires { length plain.now ≤ 640 }
     ensures text { IfOk result (λ t. t ≡ token_text key.now time iv.now plain.now) }
     ensures opens { IfOk result (λ t. open_of key.now t ≡ Yes time plain.now) }
-    ensures short { IfOk result (λ t. length t ≤ 1024) }
+    ensures short { IfOk result (λ t. length t ≤ TOKEN_BYTES) }
 {
     let ciphertext = cbc_seal(alloc, &key.encryption, iv, plain)?;
     let mut bytes = signed_bytes(alloc, time, iv, ciphertext.as_slice())?;

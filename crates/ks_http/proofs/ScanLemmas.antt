@@ -6,10 +6,11 @@ use Rattle.std.proofs.lemmas.List.{append-nil, take_all, take-append-le}
 use Rattle.std.proofs.Math.Seq.{take-append-add}
 use Rattle.std.proofs.lemmas.Bool.{cases_lt}
 use Rattle.std.proofs.lemmas.Bool.Decides.{nat_tests}
+use Rattle.ks_base.specs.declared.limits.TheConstants.{HEAD_BYTES}
 use Rattle.ks_http.specs.declared.cause.HttpCause.{HttpCause}
 use Rattle.ks_http.specs.declared.lines.Place.{Place}
 use Rattle.ks_http.specs.declared.lines.Place.TheVariants.{Start, Fields, Refused}
-use Rattle.ks_http.specs.Lines.{Reached, start, behind_byte, behind_line, reached, cut_at, most, may_go_on, full_cause, cause_behind, settled_cause}
+use Rattle.ks_http.specs.Lines.{Reached, start, behind_byte, behind_line, reached, cut_at, may_go_on, full_cause, cause_behind, settled_cause}
 use Rattle.ks_http.proofs.Cuts.{cut_some, cut_none}
 
 abbrev pub at : Place → List ℕ → Reached
@@ -55,22 +56,22 @@ stays_refused cause r [] e = e
 stays_refused cause r (b ∷ bytes) e =
     stays_refused cause (behind_byte r b) bytes (ap (λ p. (behind_byte (at p r.line) b).place) e ∙ refused_byte cause r.line b (b == 10) refl)
 
-pub full_short : (count : ℕ) (place : Place) (line : List ℕ) → count < most → full_cause count place line ≡ None
+pub full_short : (count : ℕ) (place : Place) (line : List ℕ) → count < HEAD_BYTES → full_cause count place line ≡ None
 unfolding full_cause
-full_short count place line lt = let t : nat_lt count most ≡ true = grind (arith, nat_tests) in rw t refl
+full_short count place line lt = let t : nat_lt count HEAD_BYTES ≡ true = grind (arith, nat_tests) in rw t refl
 
-pub short_refused : (count : ℕ) (place : Place) (line : List ℕ) (cause : HttpCause) → count < most → cause_behind count place line ≡ Some cause → place ≡ Refused cause
+pub short_refused : (count : ℕ) (place : Place) (line : List ℕ) (cause : HttpCause) → count < HEAD_BYTES → cause_behind count place line ≡ Some cause → place ≡ Refused cause
 unfolding cause_behind
 short_refused count Start line cause lt e = let n = full_short count Start line lt in cc
 short_refused count (Fields k) line cause lt e = let n = full_short count (Fields k) line lt in cc
 short_refused count (Refused c) line cause lt e = cc
 
-full_some : (place : Place) (line : List ℕ) (b : Bool) → may_go_on place line ≡ b → (full_cause most place line ≡ None → ⊥)
+full_some : (place : Place) (line : List ℕ) (b : Bool) → may_go_on place line ≡ b → (full_cause HEAD_BYTES place line ≡ None → ⊥)
 unfolding full_cause
 full_some place line true e n = let f = rw e at n in cc
 full_some place line false e n = let f = rw e at n in cc
 
-never_none : (place : Place) (line : List ℕ) → cause_behind most place line ≡ None → ⊥
+never_none : (place : Place) (line : List ℕ) → cause_behind HEAD_BYTES place line ≡ None → ⊥
 unfolding cause_behind
 never_none Start line n = full_some Start line (may_go_on Start line) refl n
 never_none (Fields k) line n = full_some (Fields k) line (may_go_on (Fields k) line) refl n
@@ -80,16 +81,16 @@ refused_behind : (count : ℕ) (line : List ℕ) (cause : HttpCause) → cause_b
 unfolding cause_behind
 refused_behind count line cause = refl
 
-pub settled_is : (bytes : List ℕ) → length bytes ≤ most → settled_cause bytes ≡ cause_behind (length bytes) (reached bytes).place (reached bytes).line
+pub settled_is : (bytes : List ℕ) → length bytes ≤ HEAD_BYTES → settled_cause bytes ≡ cause_behind (length bytes) (reached bytes).place (reached bytes).line
 unfolding settled_cause
-settled_is bytes short = ap (λ w. cause_behind (length w) (reached w).place (reached w).line) (take_all most bytes short)
+settled_is bytes short = ap (λ w. cause_behind (length w) (reached w).place (reached w).line) (take_all HEAD_BYTES bytes short)
 
 -- fewer bytes than a head may have were not refused, or no cause is settled
-pub unsettled_short : (bytes : List ℕ) → length bytes ≤ most → settled_cause bytes ≡ None → length bytes < most
-unsettled_short bytes short e = elim (cases_lt (length bytes) most) [
+pub unsettled_short : (bytes : List ℕ) → length bytes ≤ HEAD_BYTES → settled_cause bytes ≡ None → length bytes < HEAD_BYTES
+unsettled_short bytes short e = elim (cases_lt (length bytes) HEAD_BYTES) [
   | inl lt ↦ lt
   | inr le ↦
-      let full : length bytes ≡ most = omega arith in
+      let full : length bytes ≡ HEAD_BYTES = omega arith in
       absurd (never_none (reached bytes).place (reached bytes).line
       (ap (λ n. cause_behind n (reached bytes).place (reached bytes).line) (sym full) ∙ (sym (settled_is bytes short) ∙ e)))
 ]
@@ -97,20 +98,20 @@ unsettled_short bytes short e = elim (cases_lt (length bytes) most) [
 sum_is : (m n : ℕ) → n ≤ m → m ≡ n + (m - n)
 sum_is m n le = omega arith
 
-pub settled_stays : (bytes more : List ℕ) (cause : HttpCause) → length bytes ≤ most → settled_cause bytes ≡ Some cause → settled_cause (bytes ++ more) ≡ Some cause
+pub settled_stays : (bytes more : List ℕ) (cause : HttpCause) → length bytes ≤ HEAD_BYTES → settled_cause bytes ≡ Some cause → settled_cause (bytes ++ more) ≡ Some cause
 unfolding settled_cause
-settled_stays bytes more cause short e = elim (cases_lt (length bytes) most) [
+settled_stays bytes more cause short e = elim (cases_lt (length bytes) HEAD_BYTES) [
   | inl lt ↦
       let same = sym (settled_is bytes short) ∙ e in
       let refused = short_refused (length bytes) (reached bytes).place (reached bytes).line cause lt same in
-      let front : take most (bytes ++ more) ≡ bytes ++ take (most - length bytes) more =
-      ap (λ n. take n (bytes ++ more)) (sum_is most (length bytes) short) ∙ take-append-add bytes more (most - length bytes) in
-      let kept : (reached (take most (bytes ++ more))).place ≡ Refused cause =
-      ap (λ w. (reached w).place) front ∙ (ap (λ r. r.place) (fold-append behind_byte start bytes (take (most - length bytes) more))
-      ∙ stays_refused cause (reached bytes) (take (most - length bytes) more) refused) in
-      ap (λ p. cause_behind (length (take most (bytes ++ more))) p (reached (take most (bytes ++ more))).line) kept
-      ∙ refused_behind (length (take most (bytes ++ more))) (reached (take most (bytes ++ more))).line cause
+      let front : take HEAD_BYTES (bytes ++ more) ≡ bytes ++ take (HEAD_BYTES - length bytes) more =
+      ap (λ n. take n (bytes ++ more)) (sum_is HEAD_BYTES (length bytes) short) ∙ take-append-add bytes more (HEAD_BYTES - length bytes) in
+      let kept : (reached (take HEAD_BYTES (bytes ++ more))).place ≡ Refused cause =
+      ap (λ w. (reached w).place) front ∙ (ap (λ r. r.place) (fold-append behind_byte start bytes (take (HEAD_BYTES - length bytes) more))
+      ∙ stays_refused cause (reached bytes) (take (HEAD_BYTES - length bytes) more) refused) in
+      ap (λ p. cause_behind (length (take HEAD_BYTES (bytes ++ more))) p (reached (take HEAD_BYTES (bytes ++ more))).line) kept
+      ∙ refused_behind (length (take HEAD_BYTES (bytes ++ more))) (reached (take HEAD_BYTES (bytes ++ more))).line cause
   | inr le ↦
-      let same : take most (bytes ++ more) ≡ take most bytes = take-append-le most bytes more le in
+      let same : take HEAD_BYTES (bytes ++ more) ≡ take HEAD_BYTES bytes = take-append-le HEAD_BYTES bytes more le in
       ap (λ w. cause_behind (length w) (reached w).place (reached w).line) same ∙ e
 ]

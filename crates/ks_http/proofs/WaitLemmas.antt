@@ -6,10 +6,11 @@ use Rattle.std.proofs.lemmas.List.{length-append, get_or_at, get_or-append_right
 use Rattle.std.proofs.Math.Seq.{take-append_seam}
 use Rattle.std.proofs.lemmas.List.Sums.{fold-append}
 use Rattle.httparse.specs.Grammar.{HasNoRequest, print_request}
+use Rattle.ks_base.specs.declared.limits.TheConstants.{HEAD_BYTES}
 use Rattle.ks_http.specs.declared.cause.HttpCause.{HttpCause}
 use Rattle.ks_http.specs.declared.lines.Place.{Place}
 use Rattle.ks_http.specs.declared.lines.Place.TheVariants.{Start, Fields, Refused}
-use Rattle.ks_http.specs.Lines.{Reached, start, behind_byte, reached, most, cause_behind, settled_cause, full_cause}
+use Rattle.ks_http.specs.Lines.{Reached, start, behind_byte, reached, cause_behind, settled_cause, full_cause}
 use Rattle.ks_http.specs.Next.{HasNoHead, IsCut, in_head}
 use Rattle.ks_http.specs.steps.Buffers.{IsUndecided}
 use Rattle.ks_http.proofs.ScanLemmas.{clear_line, stays_refused, short_refused, full_short, settled_is}
@@ -21,7 +22,7 @@ front_of bytes more head after same short =
     sym (take-append-drop (length head) bytes) ∙ ap (λ l. l ++ drop (length head) bytes) front
 
 -- where the place behind the bytes refuses them, no head comes
-pub none_settled : (bytes more : List ℕ) (cause : HttpCause) → length bytes < most → HasNoRequest bytes → settled_cause bytes ≡ Some cause → HasNoHead (bytes ++ more)
+pub none_settled : (bytes more : List ℕ) (cause : HttpCause) → length bytes < HEAD_BYTES → HasNoRequest bytes → settled_cause bytes ≡ Some cause → HasNoHead (bytes ++ more)
 none_settled bytes more cause short none settled = λ head after begins.
     elim (cases_lt (length bytes) (length (print_request head))) [
       | inl lt ↦
@@ -71,13 +72,13 @@ no_head_more front fresh none clear = λ head after begins.
     ]
 
 -- nor is one more line refused
-still_none : (count more : ℕ) (place : Place) (line longer : List ℕ) → cause_behind count place line ≡ None → more < most → cause_behind more place longer ≡ None
+still_none : (count more : ℕ) (place : Place) (line longer : List ℕ) → cause_behind count place line ≡ None → more < HEAD_BYTES → cause_behind more place longer ≡ None
 unfolding cause_behind
 still_none count more Start line longer none lt = full_short more Start longer lt
 still_none count more (Fields k) line longer none lt = full_short more (Fields k) longer lt
 still_none count more (Refused cause) line longer none lt = cc
 
-unsettled_more : (front fresh : List ℕ) → settled_cause front ≡ None → All (λ b. (b == 10) ≡ false) fresh → length (front ++ fresh) < most → settled_cause (front ++ fresh) ≡ None
+unsettled_more : (front fresh : List ℕ) → settled_cause front ≡ None → All (λ b. (b == 10) ≡ false) fresh → length (front ++ fresh) < HEAD_BYTES → settled_cause (front ++ fresh) ≡ None
 unsettled_more front fresh none clear short =
     let n = length-append front fresh in
     let r = reached front in

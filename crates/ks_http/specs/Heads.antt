@@ -3,6 +3,7 @@ use Rattle.std.specs.Prelude.{ℕ, ◌==◌, nat_lt, Bool, if◌then◌else◌, 
 use Rattle.std.specs.Str.{is_utf8, bytes_eq}
 use Rattle.httparse.specs.Grammar.{RequestHead}
 use Rattle.httparse.specs.Spans.{name_and_value}
+use Rattle.ks_base.specs.declared.limits.TheConstants.{BODY_BYTES}
 use Rattle.ks_base.specs.declared.method.Method.{Method}
 use Rattle.ks_base.specs.declared.method.Method.TheVariants.{Get, Head, Post, Patch, Put, Delete, Other}
 use Rattle.ks_http.specs.declared.cause.HttpCause.{HttpCause}
@@ -64,7 +65,7 @@ announced (value ∷ other ∷ values) = Err Malformed
 
 -- a body does not come in chunks, and has at most 114,688 bytes
 unfoldable pub allowed : Bool → ℕ → Result ℕ HttpCause
-allowed chunked length = if chunked then Err Chunked else if nat_lt 114688 length then Err TooLarge else Ok length
+allowed chunked length = if chunked then Err Chunked else if nat_lt BODY_BYTES length then Err TooLarge else Ok length
 
 unfoldable pub body_length : List Named → Result ℕ HttpCause
 body_length fields = behind (allowed (is_chunked fields)) (announced (values_of (codes "Content-Length") fields))

@@ -7,6 +7,7 @@ use Rattle.std.specs.Prelude.{nat_eq}
 use Rattle.std.specs.Char.{is_ascii_digit}
 use Rattle.std.specs.Option.{option_map}
 use Rattle.httparse.specs.Grammar.{is_token, is_uri_byte, is_value_byte}
+use Rattle.ks_base.specs.declared.limits.TheConstants.{HEAD_BYTES, HEAD_FIELDS}
 use Rattle.ks_http.specs.declared.cause.HttpCause.{HttpCause}
 use Rattle.ks_http.specs.declared.cause.HttpCause.TheVariants.{Malformed, HeadTooLarge, Version}
 use Rattle.ks_http.specs.declared.lines.Place.{Place}
@@ -74,7 +75,7 @@ is_field_line line = is_name_and_value (cut_at 58 line)
 unfoldable pub behind_field : ℕ → List ℕ → Place
 behind_field count line =
     if is_field_line line
-    then (if nat_lt count 64 then Fields (count + 1) else Refused HeadTooLarge)
+    then (if nat_lt count HEAD_FIELDS then Fields (count + 1) else Refused HeadTooLarge)
     else Refused Malformed
 
 -- behind one more line, which is given without its line feed
@@ -124,14 +125,10 @@ may_go_on Start line = is_begun_first line (cut_at 32 line)
 may_go_on (Fields count) line = is_begun_field line
 may_go_on (Refused cause) line = false
 
--- a head has at most 16,384 bytes
-abbrev pub most : ℕ
-most = 16384
-
 -- so many bytes that end no head: as many as a head may have, or more are awaited
 unfoldable pub full_cause : ℕ → Place → List ℕ → Option HttpCause
 full_cause count place line =
-    if nat_lt count most then None
+    if nat_lt count HEAD_BYTES then None
     else if may_go_on place line then Some HeadTooLarge
     else Some Malformed
 
@@ -142,4 +139,4 @@ cause_behind count (Fields fields) line = full_cause count (Fields fields) line
 
 -- the cause that these bytes have however they go on, where they begin with no whole head
 unfoldable pub settled_cause : List ℕ → Option HttpCause
-settled_cause bytes = cause_behind (length (take most bytes)) (reached (take most bytes)).place (reached (take most bytes)).line
+settled_cause bytes = cause_behind (length (take HEAD_BYTES bytes)) (reached (take HEAD_BYTES bytes)).place (reached (take HEAD_BYTES bytes)).line

@@ -1,6 +1,7 @@
 -- The requests of a stream of bytes (RFC 9112).
 use Rattle.std.specs.Prelude.{◌≡◌, ◌≢◌, ◌≤◌, ◌<◌, ◌⊎◌, ◌+◌, ℕ, true, false, List, [], ◌∷◌, ◌++◌, length, take, drop, Option, Some, None, Result, Ok, Err, ⊤}
 use Rattle.httparse.specs.Grammar.{RequestHead, ReadsRequest, print_request}
+use Rattle.ks_base.specs.declared.limits.TheConstants.{CONNECTION_REQUESTS, HEAD_BYTES, HEAD_FIELDS}
 use Rattle.ks_http.specs.declared.cause.HttpCause.{HttpCause}
 use Rattle.ks_http.specs.declared.cause.HttpCause.TheVariants.{Malformed}
 use Rattle.ks_http.specs.declared.ending.Ending.{Ending}
@@ -15,8 +16,8 @@ use Rattle.ks_http.specs.Lines.{settled_cause}
 -- the bytes are a head of at most 16,384 bytes and 64 fields, and then `after`
 pub record BeginsWith (bytes : List ℕ) (head : RequestHead) (after : List ℕ) : Type 0 where
   pub reads : ReadsRequest bytes head after
-  pub short : length (print_request head) ≤ 16384
-  pub few : length head.fields ≤ 64
+  pub short : length (print_request head) ≤ HEAD_BYTES
+  pub few : length head.fields ≤ HEAD_FIELDS
 
 abbrev pub HasNoHead : List ℕ → Type 0
 HasNoHead bytes = (head : RequestHead) (after : List ℕ) → BeginsWith bytes head after → ⊥
@@ -113,7 +114,7 @@ pub data Requests : ℕ → List ℕ → List Request → Close → Type 0 where
   closes : (count : ℕ) (bytes rest : List ℕ) (request : Request) → IsFirst bytes request rest
       → request.close ≡ true → Requests count bytes (request ∷ []) asked
   fills : (count : ℕ) (bytes rest : List ℕ) (request : Request) → IsFirst bytes request rest
-      → request.close ≡ false → count + 1 ≡ 1000000 → Requests count bytes (request ∷ []) last
+      → request.close ≡ false → count + 1 ≡ CONNECTION_REQUESTS → Requests count bytes (request ∷ []) last
   goes_on : (count : ℕ) (bytes rest : List ℕ) (request : Request) (requests : List Request) (close : Close)
-      → IsFirst bytes request rest → request.close ≡ false → count + 1 < 1000000
+      → IsFirst bytes request rest → request.close ≡ false → count + 1 < CONNECTION_REQUESTS
       → Requests (count + 1) rest requests close → Requests count bytes (request ∷ requests) close

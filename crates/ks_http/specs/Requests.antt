@@ -1,5 +1,6 @@
 -- The requests at the front of a stream of bytes.
 use Rattle.std.specs.Prelude.{◌≡◌, ◌<◌, ◌+◌, ℕ, false, List, [], ◌∷◌}
+use Rattle.ks_base.specs.declared.limits.TheConstants.{CONNECTION_REQUESTS}
 use Rattle.ks_http.specs.declared.request.Request.{Request}
 use Rattle.ks_http.specs.Next.{IsFirst}
 
@@ -7,5 +8,5 @@ use Rattle.ks_http.specs.Next.{IsFirst}
 abbrev pub AreFirst : ℕ → List ℕ → List Request → List ℕ → Type 0
 AreFirst count bytes [] rest = bytes ≡ rest
 AreFirst count bytes (request ∷ requests) rest =
-    (behind : List ℕ) × IsFirst bytes request behind × (request.close ≡ false) × (count + 1 < 1000000)
+    (behind : List ℕ) × IsFirst bytes request behind × (request.close ≡ false) × (count + 1 < CONNECTION_REQUESTS)
     × AreFirst (count + 1) behind requests rest

@@ -4,12 +4,11 @@ use crate::backlog::Backlog;
 use crate::cause::HttpCause;
 use crate::ending::Ending;
 use crate::fields::Fields;
-use crate::lines::MOST_FIELDS;
 use crate::look::{Look, look_for_head};
 use crate::opening::Opening;
 use crate::request::Request;
-use crate::scan::LONGEST_HEAD;
 use httparse::spans::{EMPTY_HEADER_SPAN, HeaderSpan, RequestSpans};
+use ks_base::limits::{HEAD_BYTES, HEAD_FIELDS};
 use ks_base::{Bytes, Memory};
 use ks_outside::Source;
 use std::alloc::Global;
@@ -36,6 +35,7 @@ impl Buffer {
     ghost use Rattle.std.specs.Prelude.{◌≡◌, ◌≢◌, ◌+◌, ◌<◌, ◌≤◌, ◌++◌, ℕ, List, [], Some, length, take, drop, IfOk, OnOk, OnErr, IsErrOf, All, ◌==◌, false};
     ghost use Rattle.httparse.specs.Grammar.{RequestHead};
     ghost use Rattle.httparse.specs.Spans.{IsRequestWithin, IsRequestAt};
+    ghost use Rattle.ks_base.specs.declared.limits.TheConstants.{HEAD_BYTES};
     ghost use Rattle.ks_outside.specs.Streams.{OnlyReads};
     ghost use Rattle.ks_http.specs.steps.Buffers.{Fills, FillsTo, IsUndecided, Looks, Glances, FindsWithin, FindsHead, OpensAt, TakesBody};
     ghost use Rattle.ks_http.specs.Heads.{opening_of};
@@ -53,11 +53,11 @@ impl Buffer {
 
     /// The bytes that a head may stand in.
     fn window(&self) -> &[u8]
-        ensures window { result.now ≡ take 16384 self.now }
-        ensures short { length result.now ≤ 16384 }
+        ensures window { result.now ≡ take HEAD_BYTES self.now }
+        ensures short { length result.now ≤ HEAD_BYTES }
     {
         let bytes = self.bytes.as_slice();
-        bytes.split_at(LONGEST_HEAD.min(bytes.len())).0
+        bytes.split_at(HEAD_BYTES.min(bytes.len())).0
     }
 
     /// Reads a piece behind the bytes in hand, and says how many bytes came.
@@ -89,20 +89,20 @@ impl Buffer {
     }
 
     /// Looks for a head at the front of the bytes in hand.
-    fn look(&self, headers: &mut [HeaderSpan; MOST_FIELDS]) -> Look
+    fn look(&self, headers: &mut [HeaderSpan; HEAD_FIELDS]) -> Look
         ensures looks { Looks self.now headers.new result }
-        ensures within { FindsWithin (take 16384 self.now) headers.new result }
+        ensures within { FindsWithin (take HEAD_BYTES self.now) headers.new result }
     {
         look_for_head(self.window(), headers)
     }
 
     /// Whether a look can find a head or a refusal that was not there when there were so many bytes.
     fn is_worth_a_look(&self, before: usize) -> bool
-        ensures short { result ≡ false → length self.now < 16384 }
+        ensures short { result ≡ false → length self.now < HEAD_BYTES }
         ensures clear { result ≡ false → All (λ b. (b == 10) ≡ false) (drop before self.now) }
     {
         let window = self.window();
-        if window.len() == LONGEST_HEAD {
+        if window.len() == HEAD_BYTES {
             return true;
         }
         let fresh = window.split_at(before.min(window.len())).1;
@@ -110,9 +110,9 @@ impl Buffer {
     }
 
     /// Looks where a look is worth it.
-    fn glance(&self, before: usize, headers: &mut [HeaderSpan; MOST_FIELDS]) -> Look
+    fn glance(&self, before: usize, headers: &mut [HeaderSpan; HEAD_FIELDS]) -> Look
         ensures glances { Glances self.now before headers.new result }
-        ensures within { FindsWithin (take 16384 self.now) headers.new result }
+        ensures within { FindsWithin (take HEAD_BYTES self.now) headers.new result }
     {
         if self.is_worth_a_look(before) {
             return self.look(headers);
@@ -121,9 +121,9 @@ impl Buffer {
     }
 
     /// The head in the bytes behind which the input ended.
-    fn last_head(&self, headers: &mut [HeaderSpan; MOST_FIELDS]) -> Result<RequestSpans, Ending>
+    fn last_head(&self, headers: &mut [HeaderSpan; HEAD_FIELDS]) -> Result<RequestSpans, Ending>
         ensures told { FindsHead self.now self.now (Some []) headers.new result }
-        ensures within { IfOk result (λ head. IsRequestWithin (take 16384 self.now) headers.new head) }
+        ensures within { IfOk result (λ head. IsRequestWithin (take HEAD_BYTES self.now) headers.new head) }
         ensures fault { ¬ (IsErrOf result Ending.ReadFault) }
     {
         match self.look(headers) {
@@ -137,10 +137,10 @@ impl Buffer {
     fn head<S: Source>(
         &mut self,
         source: &mut S,
-        headers: &mut [HeaderSpan; MOST_FIELDS],
+        headers: &mut [HeaderSpan; HEAD_FIELDS],
     ) -> Result<RequestSpans, Ending>
         ensures told { (left : List ℕ) → (S.stream source.old).left ≡ Some left → FindsHead (self.old ++ left) self.new (S.stream source.new).left headers.new result }
-        ensures within { IfOk result (λ head. IsRequestWithin (take 16384 self.new) headers.new head) }
+        ensures within { IfOk result (λ head. IsRequestWithin (take HEAD_BYTES self.new) headers.new head) }
         ensures reads { OnlyReads (IsErrOf result Ending.ReadFault) (S.stream source.old) (S.stream source.new) }
     {
         let mut before = 0;
@@ -194,10 +194,10 @@ impl Buffer {
         &self,
         alloc: Global,
         head: RequestSpans,
-        headers: &[HeaderSpan; MOST_FIELDS],
+        headers: &[HeaderSpan; HEAD_FIELDS],
     ) -> Result<Opening, Ending>
-        requires { IsRequestWithin (take 16384 self.now) headers.now head }
-        ensures says { (h : RequestHead) → IsRequestAt (take 16384 self.now) headers.now head h → Says (opening_of h) result }
+        requires { IsRequestWithin (take HEAD_BYTES self.now) headers.now head }
+        ensures says { (h : RequestHead) → IsRequestAt (take HEAD_BYTES self.now) headers.now head h → Says (opening_of h) result }
         ensures fault { ¬ (IsErrOf result Ending.ReadFault) }
     {
         let bytes = self.window();
@@ -215,7 +215,7 @@ impl Buffer {
         ensures told { (left : List ℕ) → (S.stream source.old).left ≡ Some left → OpensAt (self.old ++ left) self.new (S.stream source.new).left result }
         ensures reads { OnlyReads (IsErrOf result Ending.ReadFault) (S.stream source.old) (S.stream source.new) }
     {
-        let mut headers = [EMPTY_HEADER_SPAN; MOST_FIELDS];
+        let mut headers = [EMPTY_HEADER_SPAN; HEAD_FIELDS];
         let head = self.head(source, &mut headers)?;
         let opening = self.said(alloc, head, &headers)?;
         self.bytes.advance(head.len);

@@ -6,9 +6,7 @@ ghost use Rattle.ks_http.specs.Lines.{cut_at, without_return, is_word, is_versio
 
 use crate::cause::HttpCause;
 use httparse::{is_header_value_token, is_token, is_uri_token};
-
-/// How many fields a head may have.
-pub const MOST_FIELDS: usize = 64;
+use ks_base::limits::HEAD_FIELDS;
 
 /// Where the lines of a head have come to.
 #[derive(Clone, Copy, Debug, PartialEq, Eq)]
@@ -184,7 +182,7 @@ fn behind_field(count: usize, line: &[u8]) -> Place
     if !is_field_line(line) {
         return Place::Refused(HttpCause::Malformed);
     }
-    if count >= MOST_FIELDS {
+    if count >= HEAD_FIELDS {
         return Place::Refused(HttpCause::HeadTooLarge);
     }
     Place::Fields(count + 1)

@@ -1,11 +1,10 @@
 ghost use Rattle.std.specs.Prelude.{◌≡◌, ◌≤◌, length};
-ghost use Rattle.ks_http.specs.Lines.{most, reached, full_cause, cause_behind, settled_cause};
+ghost use Rattle.ks_base.specs.declared.limits.TheConstants.{HEAD_BYTES};
+ghost use Rattle.ks_http.specs.Lines.{reached, full_cause, cause_behind, settled_cause};
 
 use crate::cause::HttpCause;
 use crate::lines::{Place, cut, may_go_on};
-
-/// How many bytes a head may have.
-pub const LONGEST_HEAD: usize = 16_384;
+use ks_base::limits::HEAD_BYTES;
 
 /// Where the lines of some bytes have come to, and the line that has begun there.
 #[derive(Clone, Copy)]
@@ -31,7 +30,7 @@ fn reach(bytes: &[u8]) -> Begun<'_>
 fn full_cause(count: usize, place: Place, line: &[u8]) -> Option<HttpCause>
     ensures { result ≡ full_cause count place line.now }
 {
-    if count < LONGEST_HEAD {
+    if count < HEAD_BYTES {
         return None;
     }
     if may_go_on(place, line) {
@@ -52,7 +51,7 @@ fn cause_behind(count: usize, place: Place, line: &[u8]) -> Option<HttpCause>
 
 /// The cause that these bytes have however they go on, where they begin with no whole head.
 pub fn settled_cause(bytes: &[u8]) -> Option<HttpCause>
-    requires { length bytes.now ≤ most }
+    requires { length bytes.now ≤ HEAD_BYTES }
     ensures { result ≡ settled_cause bytes.now }
 {
     let begun = reach(bytes);

@@ -11,9 +11,7 @@ use crate::cause::HttpCause;
 use crate::ending::Ending;
 use crate::lines::cut;
 use httparse::is_space_or_tab;
-
-/// How many bytes a body may have.
-const LONGEST_BODY: usize = 114_688;
+use ks_base::limits::BODY_BYTES;
 
 /// The two are the same text but for the case of letters.
 pub fn is_named(name: &[u8], text: &[u8]) -> bool
@@ -28,7 +26,7 @@ pub fn capped_number(digits: &[u8]) -> usize
 {
     let mut number = 0;
     for digit in digits {
-        number = (number * 10 + usize::from(digit.saturating_sub(b'0'))).min(LONGEST_BODY + 1);
+        number = (number * 10 + usize::from(digit.saturating_sub(b'0'))).min(BODY_BYTES + 1);
     }
     number
 }
@@ -112,7 +110,7 @@ pub fn allowed(chunked: bool, length: usize) -> Result<usize, Ending>
     if chunked {
         return Err(Ending::Bad(HttpCause::Chunked));
     }
-    if length > LONGEST_BODY {
+    if length > BODY_BYTES {
         return Err(Ending::Bad(HttpCause::TooLarge));
     }
     Ok(length)

@@ -4,6 +4,7 @@ use Rattle.std.specs.Prelude.{◌≡◌, ℕ, ◌≤◌, ◌==◌, nat_le, nat_l
 use Rattle.ks_base.specs.declared.faults.KeysFault.{KeysFault}
 use Rattle.ks_base.specs.declared.faults.KeysFault.TheVariants.{Failed, NoKeys, BadKey, TooMany, AlreadySet, IndexEnd, Memory}
 use Rattle.ks_base.specs.declared.key.Key.{Key}
+use Rattle.ks_base.specs.declared.limits.TheConstants.{KEYS}
 use Rattle.ks_fernet.specs.KeyText.{key_of}
 use Rattle.ks_outside.specs.Files.{AreIndices, KeyFile}
 
@@ -31,7 +32,7 @@ keys_in (file ∷ files) = with_key file.0 (key_in_file file.1) (keys_in files)
 unfoldable pub folder_of : List KeyFile → Result (List (ℕ × Key)) KeysFault
 folder_of files =
     if length files == 0 then Err NoKeys
-    else if nat_lt 32 (length files) then Err TooMany
+    else if nat_lt KEYS (length files) then Err TooMany
     else keys_in files
 
 -- a reading of a folder that is this, a fault of the folder and want of memory apart
@@ -43,7 +44,7 @@ ReadsAs folder (Err fault) = folder ≡ Err fault
 
 -- keys that a folder may hold, told or not: 1 to 32 by rising index
 abbrev pub AreFolderKeys : List (ℕ × Key) → Type 0
-AreFolderKeys keys = (1 ≤ length keys) × (length keys ≤ 32) × AreIndices 0 (map (λ entry. entry.0) keys)
+AreFolderKeys keys = (1 ≤ length keys) × (length keys ≤ KEYS) × AreIndices 0 (map (λ entry. entry.0) keys)
 
 -- the faults of a reading
 abbrev pub IsReadingFault : KeysFault → Type 0

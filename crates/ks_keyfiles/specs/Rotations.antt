@@ -6,6 +6,7 @@ use Rattle.std.specs.declared.alloc.Global.{Global}
 use Rattle.ks_base.specs.declared.faults.KeysFault.{KeysFault}
 use Rattle.ks_base.specs.declared.faults.KeysFault.TheVariants.{Failed, NoKeys, BadKey, TooMany, AlreadySet, IndexEnd, Memory}
 use Rattle.ks_base.specs.declared.key.Key.{Key}
+use Rattle.ks_base.specs.declared.limits.TheConstants.{LAST_KEY_INDEX}
 use Rattle.ks_base.specs.Refusals.{fault_if, first_of}
 use Rattle.ks_outside.specs.Files.{AreIndices, KeyFile, content_at, indices_of, with_file, without}
 use Rattle.ks_keyfiles.specs.Setups.{IsOneOf, key_text}
@@ -57,7 +58,7 @@ rotated new most files = removed (excess most (staged_anew new files)) (staged_a
 
 -- the first cause for which a folder with these indices is not rotated
 abbrev pub rotation_fault : List ℕ → Option KeysFault
-rotation_fault indices = first_of (fault_if (length indices == 0) NoKeys ∷ fault_if (highest indices == 999999999) IndexEnd ∷ [])
+rotation_fault indices = first_of (fault_if (length indices == 0) NoKeys ∷ fault_if (highest indices == LAST_KEY_INDEX) IndexEnd ∷ [])
 
 -- what a rotation that was interrupted leaves: the folder as it was or, where nothing refuses the rotation, as after one of the steps
 abbrev pub IsRotating : Key → ℕ → List KeyFile → Option (List KeyFile) → Type 0

@@ -4,13 +4,11 @@ ghost use Rattle.ks_outside.specs.Files.{KeyFile, OnlyLooks, AreIndices, indices
 ghost use Rattle.ks_keyfiles.specs.Folders.{ReadsAs, AreFolderKeys, IsReadingFault, folder_of, keys_in, key_in_file, line_of};
 ghost use Rattle.ks_keyfiles.specs.Readings.{IsCallFault, key_at};
 
+use ks_base::limits::KEYS;
 use ks_base::{Key, KeyList, KeysFault};
 use ks_fernet::{KeyText, read_key};
 use ks_outside::{DirFault, KeyDir};
 use std::alloc::Global;
-
-/// How many keys a folder may hold.
-const MOST_KEYS: usize = 32;
 
 /// The keys of the folder, by rising index.
 ///
@@ -31,7 +29,7 @@ pub fn read_dir<D: KeyDir>(dir: &mut D) -> Result<KeyList, KeysFault>
     if indices.is_empty() {
         return Err(KeysFault::NoKeys);
     }
-    if indices.len() > MOST_KEYS {
+    if indices.len() > KEYS {
         return Err(KeysFault::TooMany);
     }
     let alloc = *indices.allocator();

@@ -1,6 +1,7 @@
 //! The key files of a folder are rotated, as `keystone-manage fernet_rotate` does it.
 ghost use Rattle.std.specs.Prelude.{◌≡◌, ◌+◌, ◌≤◌, ◌<◌, ◌++◌, [], ◌∷◌, List, Some, None, Err, length, IfOk, IfErr, OnOk};
 ghost use Rattle.ks_base.specs.declared.faults.KeysFault.TheVariants as faults;
+ghost use Rattle.ks_base.specs.declared.limits.TheConstants.{LAST_KEY_INDEX};
 ghost use Rattle.ks_outside.specs.Counts.{Counts};
 ghost use Rattle.ks_outside.specs.Files.{KeyFile, Changes, AreIndices, indices_of};
 ghost use Rattle.ks_keyfiles.specs.Readings.{IsCallFault};
@@ -8,12 +9,10 @@ ghost use Rattle.ks_keyfiles.specs.Rotations.{AreRotated, IsRotationFault, Rotat
 ghost use Rattle.ks_keyfiles.specs.steps.Removals.{AreOldest, Removes, promoted_indices};
 
 use crate::writing::{list, remove, rename, write};
+use ks_base::limits::LAST_KEY_INDEX;
 use ks_base::{Key, KeysFault, Memory};
 use ks_outside::KeyDir;
 use std::alloc::Global;
-
-/// The last index that a file may have.
-const LAST_INDEX: u32 = 999_999_999;
 
 /// Rotates the keys of a folder: the staged key becomes primary, so its file gets the index next to the
 /// highest; the new key is staged under 0; and then the oldest go, one by one, until at most `max` are left.
@@ -63,14 +62,14 @@ fn followed_by(mut indices: Vec<u32>, others: &[u32]) -> Result<Vec<u32>, Memory
 /// The index next to the highest.
 fn next_index(indices: &[u32]) -> Result<u32, KeysFault>
     requires { AreIndices 0 indices.now }
-    ensures ok { IfOk result (λ next. (rotation_fault indices.now ≡ None) × (next ≡ highest indices.now + 1) × (next ≤ 999999999)) }
+    ensures ok { IfOk result (λ next. (rotation_fault indices.now ≡ None) × (next ≡ highest indices.now + 1) × (next ≤ LAST_KEY_INDEX)) }
     ensures err { IfErr result (λ fault. rotation_fault indices.now ≡ Some fault) }
     ensures causes { IfErr result IsRotationFault }
 {
     let Some((highest, _)) = indices.split_last() else {
         return Err(KeysFault::NoKeys);
     };
-    if *highest == LAST_INDEX {
+    if *highest == LAST_KEY_INDEX {
         return Err(KeysFault::IndexEnd);
     }
     Ok(*highest + 1)
@@ -80,7 +79,7 @@ fn next_index(indices: &[u32]) -> Result<u32, KeysFault>
 fn promote<D: KeyDir>(dir: &mut D, indices: &mut Vec<u32>, next: u32) -> Result<(), KeysFault>
     requires rising { AreIndices 0 indices.old.items }
     requires some { 0 < length indices.old.items }
-    requires next { (next ≡ highest indices.old.items + 1) × (next ≤ 999999999) }
+    requires next { (next ≡ highest indices.old.items + 1) × (next ≤ LAST_KEY_INDEX) }
     requires listed { (files : List KeyFile) → (D.dir dir.old).files ≡ Some files → indices.old.items ≡ indices_of files }
     ensures indices { OnOk result (indices.new.items ≡ promoted_indices indices.old.items) }
     ensures told { (files : List KeyFile) → (D.dir dir.old).files ≡ Some files → Changes files (promoted files) (D.dir dir.new).files result }

@@ -2,6 +2,7 @@
 use Rattle.std.specs.Prelude.{ℕ, Bool, true, false, not, nat_lt, List, reverse, map}
 use Rattle.ks_base.specs.declared.faults.KeysFault.TheVariants as keys
 use Rattle.ks_base.specs.declared.key.Key.{Key}
+use Rattle.ks_base.specs.declared.limits.TheConstants.{LAST_KEY_INDEX}
 use Rattle.ks_base.specs.declared.receipt.Drawn.{Drawn}
 use Rattle.ks_machine.specs.declared.body_out.BodyOut.{BodyOut}
 use Rattle.ks_machine.specs.declared.body_out.BodyOut.TheVariants as body
@@ -22,7 +23,7 @@ told_keys ring = body.Keys (reverse (map (λ held. held.index) ring.held)) (high
 unfoldable pub rotate_keys : State → Drawn → Attempt Cause Outcome
 rotate_keys S drawn = do
   _ ← need (not S.settings.folder) cause.KeyMode
-  _ ← need (nat_lt (highest S.ring.held) 999999999) (cause.Keys keys.IndexEnd)
+  _ ← need (nat_lt (highest S.ring.held) LAST_KEY_INDEX) (cause.Keys keys.IndexEnd)
   Go (changes (change.Rotate (key drawn)) (told_keys (rotate_of S.ring (key drawn) S.settings.max_keys)))
 
 -- the folder failed, or was not read

@@ -6,6 +6,7 @@ use Rattle.ks_base.specs.declared.grants.Actor.TheVariants as actor
 use Rattle.ks_base.specs.declared.grants.GrantRow.{GrantRow}
 use Rattle.ks_base.specs.declared.grants.Target.{Target}
 use Rattle.ks_base.specs.declared.grants.Target.TheVariants as target
+use Rattle.ks_base.specs.declared.limits.TheConstants.{LAST_KEY_INDEX}
 use Rattle.ks_base.specs.declared.trusts.TrustRow.{TrustRow}
 use Rattle.ks_base.specs.Rows.{Rows, domain_of, group_of, project_of, role_of, trust_of, user_of}
 use Rattle.ks_base.specs.Trusts.{FollowsParent, creation_fault, use_fault}
@@ -102,7 +103,7 @@ Fits S moment (change.UseTrust id) =
     (trust : TrustRow) × (trust_of id S.rows.trusts ≡ Some trust) × (use_fault S.rows.trusts id trust.trustee moment ≡ None)
     × IsStanding trust.remaining
 Fits S moment (change.RevokeToken audit) = length audit ≡ 16
-Fits S moment (change.Rotate key) = (S.settings.folder ≡ false) × (highest S.ring.held < 999999999) × TakesKeys S.ring
+Fits S moment (change.Rotate key) = (S.settings.folder ≡ false) × (highest S.ring.held < LAST_KEY_INDEX) × TakesKeys S.ring
 Fits S moment (change.Load keys) = (S.settings.folder ≡ true) × (refusal_of keys ≡ None) × TakesKeys S.ring
 
 -- changes one after the other, from a state and behind a moment: each has its number, is not before the last, fits, and has room

@@ -2,6 +2,7 @@
 -- index.
 use Rattle.std.specs.Prelude.{◌≡◌, ℕ, ◌+◌, ◌≤◌, nat_lt, nat_le, ◌==◌, List, [], ◌∷◌, ◌++◌, length, take, map, filter, find, Option, Some, None, Result, Ok, Err, ◌⊎◌, if◌then◌else◌}
 use Rattle.std.specs.Option.{option_map}
+use Rattle.ks_base.specs.declared.limits.TheConstants.{LAST_KEY_INDEX}
 use Rattle.ks_outside.specs.Counts.{Counts}
 
 -- an index and its content
@@ -21,7 +22,7 @@ pub record OnlyLooks (failed : Type 0) (old new : DirState) : Type 0 where
   pub faults : Counts failed old.faults new.faults
 
 abbrev pub IsIndex : ℕ → Type 0
-IsIndex index = index ≤ 999999999
+IsIndex index = index ≤ LAST_KEY_INDEX
 
 -- indices from the lowest on, rising and each once
 abbrev pub AreIndices : ℕ → List ℕ → Type 0

@@ -6,6 +6,7 @@ ghost use Rattle.ks_outside.specs.Real.{untold_dir};
 use crate::files::{indices, put};
 use crate::real_source::read_uninterrupted;
 use crate::{DirFault, Failed, KeyDir};
+use ks_base::limits::LAST_KEY_INDEX;
 use ks_base::{Bytes, Memory};
 use std::alloc::Global;
 use std::fs::{File, OpenFile, OpenOptions};
@@ -14,8 +15,6 @@ use std::marker::Model;
 use std::os::unix::fs::OpenOptionsExt;
 use std::rt::Files;
 use std::{fs, io};
-
-const LAST_INDEX: u32 = 999_999_999;
 
 /// The mode of a new key file: its owner reads and writes it.
 const OWNER_ALONE: u32 = 0o600;
@@ -125,7 +124,7 @@ fn read<R: Files + AllocGlobal>(
 ) -> Result<Option<usize>, DirFault>
     ensures { IfOk result (λ found. IfSome found (λ n. n ≤ 64)) }
 {
-    if index > LAST_INDEX {
+    if index > LAST_KEY_INDEX {
         return Ok(None);
     }
     let mut file = match File::open(rt, name_of(rt.alloc(), path, index)?.as_str()) {
@@ -165,7 +164,7 @@ fn write_new<R: Files + AllocGlobal>(
 ) -> Result<(), DirFault> {
     let name = name_of(rt.alloc(), path, index)?;
     let fresh = fresh_name(rt.alloc(), name.as_str())?;
-    if index > LAST_INDEX || stands(rt, name.as_str())? {
+    if index > LAST_KEY_INDEX || stands(rt, name.as_str())? {
         return Err(DirFault::Failed);
     }
     let mut file = made_anew(rt, fresh.as_str())?;
@@ -197,7 +196,7 @@ fn made_anew<R: Files>(rt: &R, name: &str) -> Result<R::File, DirFault> {
 fn rename<R: Files + AllocGlobal>(rt: &R, path: &str, from: u32, to: u32) -> Result<(), DirFault> {
     let old = name_of(rt.alloc(), path, from)?;
     let new = name_of(rt.alloc(), path, to)?;
-    if from > LAST_INDEX || to > LAST_INDEX || stands(rt, new.as_str())? {
+    if from > LAST_KEY_INDEX || to > LAST_KEY_INDEX || stands(rt, new.as_str())? {
         return Err(DirFault::Failed);
     }
     fs::rename(rt, old.as_str(), new.as_str())?;
@@ -206,7 +205,7 @@ fn rename<R: Files + AllocGlobal>(rt: &R, path: &str, from: u32, to: u32) -> Res
 
 fn remove<R: Files + AllocGlobal>(rt: &R, path: &str, index: u32) -> Result<(), DirFault> {
     let name = name_of(rt.alloc(), path, index)?;
-    if index > LAST_INDEX {
+    if index > LAST_KEY_INDEX {
         return Err(DirFault::Failed);
     }
     fs::remove_file(rt, name.as_str())?;
@@ -254,7 +253,7 @@ fn index_named(name: &[u8]) -> Option<u32>
             .checked_mul(10)?
             .checked_add(u32::from(*digit - b'0'))?;
     }
-    if index <= LAST_INDEX {
+    if index <= LAST_KEY_INDEX {
         Some(index)
     } else {
         None

@@ -4,6 +4,7 @@ use Rattle.std.specs.List.{list_all}
 use Rattle.std.specs.Int.{w64, from_be_bytes}
 use Rattle.hex.specs.Hex.{encode_lower}
 use Rattle.ks_base.specs.Ids.{is_id_byte}
+use Rattle.ks_base.specs.declared.limits.TheConstants.{ID_BYTES}
 use Rattle.ks_payload.specs.IdFields.{is_hex_id}
 use Rattle.ks_payload.specs.Payloads.{has_domain, has_project, has_trust, has_credential, last_expiry}
 use Rattle.ks_payload.specs.declared.payload.Payload.{Payload}
@@ -25,7 +26,7 @@ take_bytes n bytes =
 -- an id of n bytes that is not 32 lower hex digits, and the rest
 unfoldable pub take_plain_id : ℕ → List ℕ → Option (List ℕ × List ℕ)
 take_plain_id n bytes =
-    if nat_le n (length bytes) && (nat_lt 0 n && (nat_le n 64 && (list_all is_id_byte (take n bytes) && not (is_hex_id (take n bytes)))))
+    if nat_le n (length bytes) && (nat_lt 0 n && (nat_le n ID_BYTES && (list_all is_id_byte (take n bytes) && not (is_hex_id (take n bytes)))))
     then Some (take n bytes, drop n bytes) else None
 
 -- the id whose digits are those of 16 bytes, and the rest

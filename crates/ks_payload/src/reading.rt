@@ -7,6 +7,7 @@ use crate::Payload;
 use crate::hex_id::{is_hex_id, unpacked};
 use crate::payload::VERSION;
 use ks_base::Id;
+use ks_base::limits::LAST_SECOND;
 
 const DOMAIN: u8 = 1;
 
@@ -20,8 +21,6 @@ const CREDENTIAL: u8 = 5;
 const OLD_VERSION: u8 = 1;
 
 const MOST_METHODS: u8 = 15;
-
-const LAST_EXPIRY: u64 = 253_402_300_799;
 
 /// The ids that a payload of some kind is scoped to.
 #[derive(Clone, Copy)]
@@ -196,7 +195,7 @@ fn take_expiry(bytes: &[u8]) -> Option<(u64, &[u8])>
         return None;
     };
     let expires = u64::from_be_bytes(*field);
-    if expires > LAST_EXPIRY {
+    if expires > LAST_SECOND {
         return None;
     }
     Some((expires, rest))

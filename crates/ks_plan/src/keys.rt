@@ -4,6 +4,7 @@ ghost use Rattle.std.specs.Option.{option_copied};
 ghost use Rattle.ks_auth.specs.Answers.{Tells};
 ghost use Rattle.ks_base.specs.declared.receipt.Drawn.TheVariants as drawns;
 ghost use Rattle.ks_base.specs.declared.faults.KeysFault.TheVariants as faults;
+ghost use Rattle.ks_base.specs.declared.limits.TheConstants.{LAST_KEY_INDEX};
 ghost use Rattle.ks_machine.specs.Attempts.{need};
 ghost use Rattle.ks_machine.specs.declared.cause.Cause.TheVariants as causes;
 ghost use Rattle.ks_machine.specs.Fit.{IsFolder};
@@ -17,13 +18,11 @@ use crate::checks::need;
 use crate::draws::key;
 use crate::{Halt, Plan};
 use ks_auth::Tables;
+use ks_base::limits::LAST_KEY_INDEX;
 use ks_base::{IndexList, KeyList, KeysFault, Memory};
 use ks_machine::{BodyOut, Cause, Change, FolderRead};
 use ks_ring::{HeldKey, Ring};
 use std::alloc::{AllocError, Global};
-
-/// The highest index that a rotation may leave behind.
-const LAST_INDEX: u32 = 999_999_999;
 
 /// What is told of keys with these indices, which fall.
 fn told_of(alloc: Global, falling: &[u32]) -> Result<BodyOut, Memory>
@@ -74,7 +73,7 @@ fn staged(held: &[HeldKey]) -> Option<&HeldKey>
 
 /// The index of a staged key once it is promoted: that above the highest.
 fn index_promoted(alloc: Global, held: &[HeldKey]) -> Result<Vec<u32>, AllocError>
-    requires { highest held.now < 999_999_999 }
+    requires { highest held.now < LAST_KEY_INDEX }
     ensures { IfOk result (λ list. list.items ≡ indices_of (promoted_to (suc (highest held.now)) (find is_staged held.now))) }
 {
     match staged(held) {
@@ -86,7 +85,7 @@ fn index_promoted(alloc: Global, held: &[HeldKey]) -> Result<Vec<u32>, AllocErro
 /// The indices once a staged key is promoted.
 #[tactic(auto, using(crate::proofs::KeyLemmas::promoted_indices))]
 fn indices_promoted(alloc: Global, held: &[HeldKey]) -> Result<Vec<u32>, AllocError>
-    requires { highest held.now < 999_999_999 }
+    requires { highest held.now < LAST_KEY_INDEX }
     ensures { IfOk result (λ list. list.items ≡ indices_of (promoted held.now)) }
 {
     let mut indices = index_promoted(alloc, held)?;
@@ -97,7 +96,7 @@ fn indices_promoted(alloc: Global, held: &[HeldKey]) -> Result<Vec<u32>, AllocEr
 
 /// The indices after a rotation.
 fn indices_rotated(alloc: Global, held: &[HeldKey], most: u32) -> Result<IndexList, Memory>
-    requires { highest held.now < 999_999_999 }
+    requires { highest held.now < LAST_KEY_INDEX }
     ensures { IfOk result (λ list. list ≡ indices_rotated held.now most) }
 {
     let mut indices = indices_promoted(alloc, held)?;
@@ -108,9 +107,9 @@ fn indices_rotated(alloc: Global, held: &[HeldKey], most: u32) -> Result<IndexLi
 
 /// Goes on while there is an index above the highest.
 fn is_below_end(tables: &Tables) -> Result<(), Halt>
-    ensures { Passes result (need (nat_lt (highest tables.now.ring.now.held) 999_999_999) (causes.Keys faults.IndexEnd)) }
+    ensures { Passes result (need (nat_lt (highest tables.now.ring.now.held) LAST_KEY_INDEX) (causes.Keys faults.IndexEnd)) }
 {
-    let is_below = tables.ring.primary().index < LAST_INDEX;
+    let is_below = tables.ring.primary().index < LAST_KEY_INDEX;
     need(is_below, Cause::Keys(KeysFault::IndexEnd))
 }
 

@@ -1,18 +1,20 @@
 ghost use Rattle.std.specs.Prelude.{◌≡◌, ◌<◌, ◌⊎◌, ◌↔◌, ℕ, true, false, length, MatchOption, IsTrue};
+ghost use Rattle.ks_base.specs.declared.limits.TheConstants.{POLICY_RULES};
 ghost use Rattle.ks_rule.specs.Trees.{tree_of};
 ghost use Rattle.ks_machine.specs.Rules.{tree_at};
 ghost use Rattle.ks_policy.specs.Cycles.{Means, Leads, Reaches, HasNoCycle, IsFirstCycle};
 ghost use Rattle.ks_policy.specs.Marks.{IsMarked, Grows, AllMarked};
 
-use crate::table::{MOST, RuleTable};
+use crate::table::RuleTable;
+use ks_base::limits::POLICY_RULES;
 use ks_rule::Rule;
 
 /// A mark for the place of each rule.
-pub type Marks = [bool; MOST];
+pub type Marks = [bool; POLICY_RULES];
 
 /// Marks a place and says whether it had no mark.
 pub fn mark(marks: &mut Marks, at: usize) -> bool
-    requires { at < 1024 }
+    requires { at < POLICY_RULES }
     ensures grows { Grows result marks.old marks.new }
     ensures marked { IsMarked marks.new at }
     ensures only { (i : ℕ) → IsMarked marks.new i → IsMarked marks.old i ⊎ (i ≡ at) }
@@ -86,9 +88,9 @@ impl RuleTable {
         requires { from < length self.now }
         ensures { IsTrue result ↔ Reaches self.now from from }
     {
-        let mut marks = [false; MOST];
+        let mut marks = [false; POLICY_RULES];
         let _new = self.mark_meant(self.rule_at(from), &mut marks);
-        let mut walked = [false; MOST];
+        let mut walked = [false; POLICY_RULES];
         'walks: while self.mark_steps(from, &mut marks, &mut walked) {}
         marks[from]
     }

@@ -4,8 +4,9 @@ ghost use Rattle.ks_policy.specs.Allowed.{holds_at};
 ghost use Rattle.ks_policy.specs.Needs.{AreNeeds};
 
 use crate::cycles::Marks;
-use crate::table::{MOST, RuleTable};
+use crate::table::RuleTable;
 use ks_base::Text;
+use ks_base::limits::POLICY_RULES;
 use ks_rule::{Attributes, Credentials, NamedRules};
 
 /// Which rules hold, by their places.
@@ -45,7 +46,7 @@ impl RuleTable {
     {
         let mut known = Holding {
             rules: self,
-            marks: [false; MOST],
+            marks: [false; POLICY_RULES],
         };
         for place in needs {
             let place = usize::from(*place);

@@ -1,6 +1,7 @@
 ghost use Rattle.std.specs.Prelude.{◌≡◌, ◌≤◌, length, IfOk};
 ghost use Rattle.serde_json.specs.View.{view, members_view};
 ghost use Rattle.ks_base.specs.Tables.{id_cmp, IsAscending};
+ghost use Rattle.ks_base.specs.declared.limits.TheConstants.{POLICY_RULES};
 ghost use Rattle.ks_policy.specs.Defaults.{defaults};
 ghost use Rattle.ks_policy.specs.Loading.{over, texts_of, AreRules, Merges, Loads};
 
@@ -8,9 +9,10 @@ use crate::defaults::default_rules;
 use crate::fault::PolicyFault;
 use crate::named::NamedRule;
 use crate::rules::Rules;
-use crate::table::{MOST, RuleTable};
+use crate::table::RuleTable;
 use crate::texts::{RuleText, owned, put};
 use ks_base::Memory;
+use ks_base::limits::POLICY_RULES;
 use ks_rule::Rule;
 use serde_json::{Map, Value};
 use std::alloc::Global;
@@ -45,13 +47,13 @@ fn merged(alloc: Global, members: &Map<String, Value>) -> Result<Vec<RuleText>, 
 fn read_texts(alloc: Global, file: &Value) -> Result<Vec<RuleText>, PolicyFault>
     ensures texts { Merges (texts_of (view file.now)) result }
     ensures ascending { IfOk result (λ texts. IsAscending id_cmp (λ row. row.name) texts.items) }
-    ensures few { IfOk result (λ texts. length texts.items ≤ 1024) }
+    ensures few { IfOk result (λ texts. length texts.items ≤ POLICY_RULES) }
 {
     let Some(members) = file.as_object() else {
         return Err(PolicyFault::NotObject);
     };
     let texts = merged(alloc, members)?;
-    if texts.len() > MOST {
+    if texts.len() > POLICY_RULES {
         return Err(PolicyFault::TooMany);
     }
     Ok(texts)

@@ -1,10 +1,12 @@
 ghost use Rattle.std.specs.Prelude.{◌≡◌, ◌<◌, ◌≤◌, ◌⊎◌, ℕ, length, IfOk};
+ghost use Rattle.ks_base.specs.declared.limits.TheConstants.{POLICY_RULES};
 ghost use Rattle.ks_policy.specs.Cycles.{Leads, Reaches};
 ghost use Rattle.ks_policy.specs.Marks.{IsMarked, AllMarked};
 ghost use Rattle.ks_policy.specs.Needs.{IsWholeOrder, AreNeeds, AreAllNeeds};
 
 use crate::cycles::Marks;
-use crate::table::{MOST, RuleTable};
+use crate::table::RuleTable;
+use ks_base::limits::POLICY_RULES;
 use ks_base::{ListOf, Memory};
 use std::alloc::Global;
 
@@ -27,12 +29,12 @@ impl RuleTable {
     fn reached(&self, from: usize, order: &[u16]) -> Marks
         requires within { from < length self.now }
         requires whole { IsWholeOrder self.now order.now }
-        ensures long { length result ≡ 1024 }
+        ensures long { length result ≡ POLICY_RULES }
         ensures only { (i : ℕ) → IsMarked result i → Reaches self.now from i }
         ensures all { AllMarked self.now result from }
         ensures closed { (i : ℕ) → i < length self.now → IsMarked result i → AllMarked self.now result i }
     {
-        let mut marks = [false; MOST];
+        let mut marks = [false; POLICY_RULES];
         let _new = self.mark_meant(self.rule_at(from), &mut marks);
         for k in (0..order.len()).rev() {
             self.mark_on(usize::from(order[k]), &mut marks);
@@ -43,7 +45,7 @@ impl RuleTable {
     /// The places that the rule at this one reaches, in this order.
     fn needs_of(&self, alloc: Global, at: usize, order: &[u16]) -> Result<ListOf<u16>, Memory>
         requires within { at < length self.now }
-        requires few { length self.now ≤ 1024 }
+        requires few { length self.now ≤ POLICY_RULES }
         requires whole { IsWholeOrder self.now order.now }
         ensures { IfOk result (λ needs. AreNeeds self.now at needs) }
     {

@@ -5,8 +5,9 @@ ghost use Rattle.ks_policy.specs.Marks.{mark_at, IsMarked, Grows, LacksOne, IsSt
 ghost use Rattle.ks_policy.specs.Needs.{IsWholeOrder};
 
 use crate::cycles::{Marks, mark};
-use crate::table::{MOST, RuleTable};
+use crate::table::RuleTable;
 use ks_base::Memory;
+use ks_base::limits::POLICY_RULES;
 use ks_rule::Rule;
 use std::alloc::Global;
 
@@ -82,7 +83,7 @@ impl RuleTable {
         ensures { IfOk result (λ found. MatchOption found (HasNoCycle self.now → ⊥) (λ order. IsWholeOrder self.now order.items)) }
     {
         let mut order = Vec::with_capacity(alloc, self.len())?;
-        let mut placed = [false; MOST];
+        let mut placed = [false; POLICY_RULES];
         'passes: loop {
             let put = self.put_each(&mut order, &mut placed)?;
             if !put {

@@ -1,5 +1,6 @@
 ghost use Rattle.std.specs.Prelude.{◌≡◌, ◌<◌, ◌≤◌, length, IfSome, Some, option_map, slice_get};
 ghost use Rattle.ks_base.specs.Tables.{id_cmp, IsAscending};
+ghost use Rattle.ks_base.specs.declared.limits.TheConstants.{POLICY_RULES};
 ghost use Rattle.ks_rule.specs.Trees.{tree_of};
 ghost use Rattle.ks_machine.specs.Rules.{place_of, place_named, tree_at};
 
@@ -8,9 +9,6 @@ use crate::place::{Named, place};
 use ks_base::Text;
 use ks_rule::Rule;
 use std::marker::Model;
-
-/// How many rules a policy may have, the default ones among them.
-pub const MOST: usize = 1024;
 
 /// The name of the rule that stands for those that are not there.
 const DEFAULT: &[u8] = b"default";
@@ -27,6 +25,7 @@ impl Model for RuleTable {
     ghost use Rattle.ks_machine.specs.Openings.{NamedRule};
     ghost use Rattle.ks_policy.specs.Codes.{rule_code};
     ghost use Rattle.ks_base.specs.Tables.{id_cmp, IsAscending};
+    ghost use Rattle.ks_base.specs.declared.limits.TheConstants.{POLICY_RULES};
 
     ghost Value = { List NamedRule };
 
@@ -34,13 +33,13 @@ impl Model for RuleTable {
 
     ghost view = { λ r. r.rules.items };
 
-    ghost invariant = { λ r. IsAscending id_cmp (λ rule. rule.name) r.rules.items × (length r.rules.items ≤ 1024) };
+    ghost invariant = { λ r. IsAscending id_cmp (λ rule. rule.name) r.rules.items × (length r.rules.items ≤ POLICY_RULES) };
 }
 
 impl RuleTable {
     pub fn of(rules: Vec<NamedRule>) -> RuleTable
         requires ascending { IsAscending id_cmp (λ rule. rule.name) rules.items }
-        requires few { length rules.items ≤ 1024 }
+        requires few { length rules.items ≤ POLICY_RULES }
         ensures { result ≡ rules.items }
     {
         RuleTable { rules }
@@ -49,7 +48,7 @@ impl RuleTable {
     /// How many rules there are.
     pub fn len(&self) -> usize
         ensures rules { result ≡ length self.now }
-        ensures few { result ≤ 1024 }
+        ensures few { result ≤ POLICY_RULES }
     {
         self.rules.len()
     }
@@ -58,7 +57,7 @@ impl RuleTable {
     pub fn rule_at(&self, at: usize) -> &Rule
         requires { at < length self.now }
         ensures tree { tree_of result.now ≡ tree_at self.now at }
-        ensures few { at < 1024 }
+        ensures few { at < POLICY_RULES }
     {
         self.rules[at].rule()
     }
@@ -74,7 +73,7 @@ impl RuleTable {
     /// The place of the rule with this name.
     pub fn place_of(&self, name: &[u8]) -> Option<usize>
         ensures place { result ≡ place_of self.now name.now }
-        ensures within { IfSome result (λ at. (at < length self.now) × (at < 1024)) }
+        ensures within { IfSome result (λ at. (at < length self.now) × (at < POLICY_RULES)) }
     {
         match place(self.rules.as_slice(), name) {
             Ok(at) => Some(at),
@@ -86,7 +85,7 @@ impl RuleTable {
     #[tactic(auto, unfolding(ks_machine::specs::Rules::place_named))]
     pub fn place_named(&self, name: &Text) -> Option<usize>
         ensures place { result ≡ place_named self.now name.now }
-        ensures within { IfSome result (λ at. (at < length self.now) × (at < 1024)) }
+        ensures within { IfSome result (λ at. (at < length self.now) × (at < POLICY_RULES)) }
     {
         match self.place_of(name.as_slice()) {
             Some(at) => Some(at),

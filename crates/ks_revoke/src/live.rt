@@ -5,17 +5,14 @@ ghost use Rattle.ks_base.specs.Revocation.{is_live, live};
 ghost use Rattle.ks_revoke.specs.Holding.{AreInOrder};
 
 use ks_base::EventRow;
+use ks_base::limits::EVENT_GRACE;
 use std::collections::VecDeque;
-
-/// How long an event is kept past the life of the tokens that it revokes, in seconds: the two days for which an
-/// expired token may still be asked for, and half an hour more.
-const KEPT_FOR: u64 = 174_600;
 
 /// Whether the event is live at this moment, which may be any.
 pub(crate) fn is_live(life: u64, high: u64, event: &EventRow) -> bool
     ensures { result ≡ is_live life high event.now }
 {
-    high.saturating_sub(event.moment).saturating_sub(life) <= KEPT_FOR
+    high.saturating_sub(event.moment).saturating_sub(life) <= EVENT_GRACE
 }
 
 /// Takes the events that are past at this moment from the front. It takes no memory.

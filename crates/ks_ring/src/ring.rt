@@ -1,4 +1,5 @@
 ghost use Rattle.std.specs.Prelude.{◌≡◌, ◌-◌, ◌^◌, ◌<◌, ◌≤◌, ◌↔◌, ◌==◌, ◌∷◌, List, find, option_copied, OnOk, OnErr};
+ghost use Rattle.ks_base.specs.declared.limits.TheConstants.{LAST_KEY_INDEX};
 ghost use Rattle.ks_ring.specs.Rings.{IsRing, refusal_of, new_of, load_of, loaded_unless, rotate_of, highest};
 
 use crate::HeldKey;
@@ -21,6 +22,7 @@ pub struct Ring {
 }
 
 impl Model for Ring {
+    ghost use Rattle.ks_base.specs.declared.limits.TheConstants.{LAST_KEY_INDEX};
     ghost use Rattle.ks_ring.specs.Rings.{RingState, IsRing};
 
     ghost Value = { RingState };
@@ -76,7 +78,7 @@ impl Ring {
     pub fn rotate(&mut self, new: Key, max: u32)
         requires least { 2 ≤ max }
         requires most { max ≤ 32 }
-        requires index { highest self.old.held < 999_999_999 }
+        requires index { highest self.old.held < LAST_KEY_INDEX }
         requires number { self.old.next < 2 ^ 64 - 32 }
         ensures { self.new ≡ rotate_of self.old new max }
     {

@@ -1,5 +1,6 @@
 ghost use Rattle.std.specs.Prelude.{◌≡◌, ◌<◌, ◌≤◌, find, option_copied};
 ghost use Rattle.arrayvec.specs.ArrayVec.{array_vec_len};
+ghost use Rattle.ks_base.specs.declared.limits.TheConstants.{LAST_KEY_INDEX};
 ghost use Rattle.ks_ring.specs.Rings.{promoted, active, highest, is_staged};
 
 use crate::HeldKey;
@@ -23,7 +24,7 @@ fn drop_staged(held: &mut ArrayVec<HeldKey, 32>)
 pub fn promote(held: &mut ArrayVec<HeldKey, 32>)
     requires some { 0 < array_vec_len held.old }
     requires most { array_vec_len held.old ≤ 32 }
-    requires index { highest held.old.items < 999_999_999 }
+    requires index { highest held.old.items < LAST_KEY_INDEX }
     ensures { held.new.items ≡ promoted held.old.items }
 {
     let above = held.as_slice()[0].index + 1;

@@ -3,6 +3,7 @@ use Rattle.std.specs.Prelude.{ℕ, Bool, true, false, not, ◌&&◌, ◌||◌, �
 use Rattle.std.specs.List.{list_all, slice_split}
 use Rattle.std.specs.Str.{bytes_eq}
 use Rattle.ks_base.specs.Ids.{is_id_byte}
+use Rattle.ks_base.specs.declared.limits.TheConstants.{ID_BYTES}
 
 -- the segments of a text: what stands between its slashes, before the first and behind the last
 abbrev pub segments : List ℕ → List (List ℕ)
@@ -23,7 +24,7 @@ pattern_of text = map part_of (segments text)
 
 -- 1 to 64 bytes of 0-9, A-Z, a-z, _ and -
 abbrev pub is_id : List ℕ → Bool
-is_id segment = nat_lt 0 (length segment) && (nat_le (length segment) 64 && list_all is_id_byte segment)
+is_id segment = nat_lt 0 (length segment) && (nat_le (length segment) ID_BYTES && list_all is_id_byte segment)
 
 -- the segment is one that the part stands for
 abbrev pub takes : Part → List ℕ → Bool

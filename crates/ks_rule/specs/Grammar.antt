@@ -1,6 +1,7 @@
 -- Which tree a text has.
 use Rattle.std.specs.Prelude.{◌≡◌, ◌⊎◌, ℕ, zero, suc, ◌≤◌, List, [], ◌∷◌, ◌++◌, length, fold, flat_map, Some, IsUtf8}
 use Rattle.std.specs.List.{AllByRecursion}
+use Rattle.ks_base.specs.declared.limits.TheConstants.{RULE_BYTES, RULE_DEPTH}
 use Rattle.ks_rule.specs.Trees.{Tree, always, never, negated, both, either}
 use Rattle.ks_rule.specs.Tokens.{Token, opening, closing, not_word, and_word, or_word, check, tokens}
 use Rattle.ks_rule.specs.Checks.{check_of}
@@ -53,12 +54,12 @@ abbrev pub IsOrRule : ℕ → Form
 IsOrRule depth = OrOf (IsNotRule depth)
 
 abbrev pub IsWithinLimits : List ℕ → Type 0
-IsWithinLimits text = length text ≤ 4096
+IsWithinLimits text = length text ≤ RULE_BYTES
 
 -- the text in UTF-8 parses as this tree
 abbrev pub Parses : List ℕ → Tree → Type 0
 Parses text tree =
-    IsUtf8 text × IsWithinLimits text × (((text ≡ []) × (tree ≡ always)) ⊎ IsOrRule 64 (tokens text) tree)
+    IsUtf8 text × IsWithinLimits text × (((text ≡ []) × (tree ≡ always)) ⊎ IsOrRule RULE_DEPTH (tokens text) tree)
 
 -- the tree of a text: the one that it parses as, or `never` where it parses as none
 abbrev pub IsRule : List ℕ → Tree → Type 0

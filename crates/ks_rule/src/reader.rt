@@ -8,11 +8,9 @@ use crate::check::read_check;
 use crate::rule::Rule;
 use crate::stop::Stop;
 use crate::tokens::{End, Token, Tokens};
+use ks_base::limits::RULE_DEPTH;
 use std::alloc::Global;
 use std::marker::Model;
-
-/// How many `not` and parentheses may be open at one place.
-const DEEPEST: u8 = 64;
 
 /// Reads a rule from the front of a text's tokens.
 #[derive(Drop)]
@@ -158,7 +156,7 @@ pub fn read_rule(alloc: Global, text: &[u8]) -> Result<Rule, Stop>
     ensures { ReadsWhole (IsOrRule 64) (tokens text.now) result }
 {
     let mut reader = Reader::of(alloc, text);
-    let rule = reader.or_rule(DEEPEST)?;
+    let rule = reader.or_rule(RULE_DEPTH)?;
     if !reader.is_at_end() {
         return Err(Stop::Unreadable);
     }

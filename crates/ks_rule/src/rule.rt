@@ -6,11 +6,9 @@ ghost use Rattle.ks_rule.specs.Writing.{text_of};
 use crate::reader::read_rule;
 use crate::stop::Stop;
 use crate::writer::write;
+use ks_base::limits::RULE_BYTES;
 use ks_base::{Memory, Text};
 use std::alloc::Global;
-
-/// How many bytes the text of a rule may have.
-const LONGEST: usize = 4096;
 
 /// A rule as a tree. Contracts see it as its `tree_of`.
 #[derive(Drop)]
@@ -43,7 +41,7 @@ impl Rule {
         if text.is_empty() {
             return Ok(Rule::Always);
         }
-        if text.len() > LONGEST || !is_utf8(text) {
+        if text.len() > RULE_BYTES || !is_utf8(text) {
             return Ok(Rule::Never);
         }
         match read_rule(alloc, text) {

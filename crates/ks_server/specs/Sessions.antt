@@ -1,6 +1,7 @@
 -- The session of a connection: the responses to its requests, and how it ends (RFC 9112).
 use Rattle.std.specs.Prelude.{◌≡◌, ◌⊎◌, ℕ, ◌+◌, ◌≤◌, ◌==◌, Bool, true, false, ◌||◌, List, [], ◌∷◌, ◌++◌, length, Option, Some}
 use Rattle.std.specs.List.{AllByRecursion}
+use Rattle.ks_base.specs.declared.limits.TheConstants.{CONNECTION_REQUESTS}
 use Rattle.ks_base.specs.declared.method.Method.{Method}
 use Rattle.ks_base.specs.declared.method.Method.TheVariants as method
 use Rattle.ks_http.specs.declared.cause.HttpCause.{HttpCause}
@@ -27,7 +28,7 @@ is_head method.Other = false
 
 -- the connection ends with a request that asks for it, and with the 1,000,000th
 abbrev pub ends_with : ℕ → Request → Bool
-ends_with count request = request.close || (count + 1 == 1000000)
+ends_with count request = request.close || (count + 1 == CONNECTION_REQUESTS)
 
 -- the response in the exchange behind `count` others
 abbrev pub response : Front → ℕ → Exchange → List ℕ

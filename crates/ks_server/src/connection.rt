@@ -4,10 +4,10 @@ ghost use Rattle.ks_server.specs.Work.{Serves};
 
 use crate::closed::Closed;
 use crate::number::RequestNumber;
-use crate::requests::MOST_REQUESTS;
 use crate::respond::{give_up, refuse_bytes};
 use crate::server::Server;
 use ks_base::Text;
+use ks_base::limits::CONNECTION_REQUESTS;
 use ks_http::{Next, Reader};
 use ks_outside::{Desk, Gate, KeyDir, Sink, Source};
 use ks_routes::Routes;
@@ -77,7 +77,7 @@ pub fn serve_connection<
                     return (next, Closed::Asked);
                 }
                 count += 1;
-                if count == MOST_REQUESTS {
+                if count == CONNECTION_REQUESTS {
                     return (next, Closed::Last);
                 }
                 pass = next;

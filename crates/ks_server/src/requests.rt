@@ -1,13 +1,12 @@
 //! What the server reads off a request.
 ghost use Rattle.std.specs.Prelude.{◌≡◌, ◌<◌};
+ghost use Rattle.ks_base.specs.declared.limits.TheConstants.{CONNECTION_REQUESTS};
 ghost use Rattle.ks_server.specs.Sessions.{ends_with, is_head};
 
+use ks_base::limits::CONNECTION_REQUESTS;
 use ks_base::{Drawn, Method};
 use ks_http::Request;
 use ks_machine::{Call, Command, FolderRead};
-
-/// How many requests a connection may have.
-pub const MOST_REQUESTS: u64 = 1_000_000;
 
 /// Whether the response has no body.
 pub fn is_head(method: Method) -> bool
@@ -18,10 +17,10 @@ pub fn is_head(method: Method) -> bool
 
 /// Whether the connection ends with the request behind `count` others.
 pub fn is_last(request: &Request, count: u64) -> bool
-    requires { count < 1000000 }
+    requires { count < CONNECTION_REQUESTS }
     ensures { result ≡ ends_with count request.now }
 {
-    request.close || count + 1 == MOST_REQUESTS
+    request.close || count + 1 == CONNECTION_REQUESTS
 }
 
 /// The call of a command, with the tokens of its request.

@@ -1,4 +1,5 @@
 ghost use Rattle.std.specs.Prelude.{◌≡◌, ◌<◌};
+ghost use Rattle.ks_base.specs.declared.limits.TheConstants.{CONNECTION_REQUESTS};
 ghost use Rattle.ks_outside.specs.Files.{DirState};
 ghost use Rattle.ks_routes.specs.declared.routed.Routed.TheVariants as routed;
 ghost use Rattle.ks_routes.specs.Routes.{command_of};
@@ -49,7 +50,7 @@ impl<I: Decides, N: First, R: Wait, G: Gate> Server<'_, I, N, R, G> {
     ) -> (Pass<N>, Result<(), Closed<I::Fault>>)
         requires own { pass.turn ≡ self.now.turn.now }
         requires url { self.now.url.now ≡ pass.seen.opening.settings.url }
-        requires few { number.request < 1000000 }
+        requires few { number.request < CONNECTION_REQUESTS }
         ensures links { KeepsLinks (P.desk desk.old) (P.desk desk.new) }
         ensures answers { Answers pass result.0 (P.desk desk.old) (P.desk desk.new) (D.dir dir.old) (D.dir dir.new) number request (K.stream sink.old) (K.stream sink.new) result.1 }
     {

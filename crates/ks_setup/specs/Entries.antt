@@ -1,6 +1,7 @@
 -- Lists of an opening file, whose entries are read one after the other.
 use Rattle.std.specs.Prelude.{ℕ, suc, List, [], ◌∷◌, Option, Some, None, Result, Ok, unwrap_or}
 use Rattle.serde_json.specs.Data.{Items, no_items, item}
+use Rattle.ks_base.specs.declared.limits.TheConstants.{OPENING_BYTES}
 use Rattle.ks_base.specs.declared.shapes.ShapeFault.{ShapeFault}
 use Rattle.ks_shape.specs.Places.{Place, entry_at}
 use Rattle.ks_shape.specs.Fields.{optional}
@@ -10,10 +11,6 @@ use Rattle.ks_shape.specs.Readings.{◌>>=◌}
 -- what an entry is read as
 abbrev pub Entry : Type 0 → Type 0
 Entry A = Place → Result A ShapeFault
-
--- the most bytes of an opening file, and so more than the entries of any list in one
-abbrev pub most_bytes : ℕ
-most_bytes = 16_777_216
 
 -- the entries from this number on, of the list that these names lead to
 unfoldable pub entries_from : {A : Type 0} → Entry A → List (List ℕ) → Place → ℕ → Items → Result (List A) ShapeFault
@@ -32,7 +29,7 @@ if_listed entry names file (Some items) = do
 -- the entries of a list, where it is given
 unfoldable pub listed : {A : Type 0} → Entry A → List (List ℕ) → Place → Result (Option (List A)) ShapeFault
 listed entry names file = do
-  items ← optional (list_of most_bytes) names file
+  items ← optional (list_of OPENING_BYTES) names file
   if_listed entry names file items
 
 -- an absent list is empty

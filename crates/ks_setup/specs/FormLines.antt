@@ -1,6 +1,7 @@
 -- The line that a person reads for each fault of an opening file: where it is, and what is wrong there.
 use Rattle.std.specs.Prelude.{ℕ, ◌==◌, Bool, if◌then◌else◌, List, [], ◌∷◌, codes, decimal, Result, Ok, Err}
 use Rattle.std.specs.List.{concat, ends_with, list_any, starts_with}
+use Rattle.ks_base.specs.declared.limits.TheConstants.{OPENING_BYTES}
 use Rattle.ks_base.specs.declared.shapes.ShapeFault.{ShapeFault}
 use Rattle.ks_base.specs.declared.shapes.ShapeFault.TheVariants as fault
 use Rattle.ks_machine.specs.declared.settings.OpenFault.{OpenFault}
@@ -9,7 +10,6 @@ use Rattle.ks_policy.specs.declared.fault.PolicyFault.TheVariants as policy
 use Rattle.ks_setup.specs.declared.opening.OpeningFault.{OpeningFault}
 use Rattle.ks_setup.specs.declared.opening.OpeningFault.TheVariants.{Shape, Policy, BadKey, Random, Memory}
 use Rattle.ks_setup.specs.declared.written.Written.{Written}
-use Rattle.ks_setup.specs.Entries.{most_bytes}
 use Rattle.ks_setup.specs.RowLines.{row_line}
 use Rattle.ks_setup.specs.Spots.{quoted}
 use Rattle.ks_setup.specs.Written.{file_of}
@@ -78,7 +78,7 @@ abbrev pub wanted_at : List ℕ → List ℕ → List ℕ
 wanted_at path fault = at_path path (concat (fault ∷ codes "; " ∷ wanted path ∷ codes " is wanted" ∷ []))
 
 abbrev pub range_line : List ℕ → List ℕ
-range_line [] = concat (codes "more than " ∷ decimal most_bytes ∷ codes " bytes" ∷ [])
+range_line [] = concat (codes "more than " ∷ decimal OPENING_BYTES ∷ codes " bytes" ∷ [])
 range_line (b ∷ path) = wanted_at (b ∷ path) (codes "out of its limits")
 
 unfoldable pub shape_line : ShapeFault → List ℕ

@@ -2,6 +2,7 @@
 use Rattle.std.specs.Prelude.{◌≡◌, ◌≤◌, ◌<◌, ℕ, ◌*◌, List, [], length, Option, Some, None, Result, Ok, Err}
 use Rattle.serde_json.specs.Data.{Data}
 use Rattle.ks_base.specs.declared.key.Key.{Key}
+use Rattle.ks_base.specs.declared.limits.TheConstants.{KEYS}
 use Rattle.ks_base.specs.declared.shapes.ShapeRefusal.{ShapeRefusal}
 use Rattle.ks_base.specs.declared.shapes.ShapeRefusal.TheVariants as refusal
 use Rattle.ks_base.specs.declared.users.PasswordRow.{PasswordRow}
@@ -52,7 +53,7 @@ of_derive derive.Memory = Memory
 -- the list of a file has 32 texts at most
 abbrev pub AreFew : KeysFrom → Type 0
 AreFew Folder = Unit {0}
-AreFew (File texts) = length texts ≤ 32
+AreFew (File texts) = length texts ≤ KEYS
 
 -- the keys of these texts, of which the first has this number, or the place of the first that is no key
 abbrev pub ReadsKeys : List (List ℕ) → Result (List (ℕ × Key)) RingFault → Type 0

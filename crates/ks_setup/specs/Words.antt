@@ -7,6 +7,7 @@ use Rattle.std.specs.Str.{bytes_eq}
 use Rattle.std.specs.Str.Parse.{digits_value, without_leading_plus}
 use Rattle.clap.specs.Kinds.{Kinds}
 use Rattle.clap.specs.Words.{App, Row, Rule, fault_of, first_of, matches_of, new_app, new_rule, with_rule}
+use Rattle.ks_base.specs.declared.limits.TheConstants.{KEYS, FEWEST_KEYS, DEFAULT_KEYS, WORKERS, DEFAULT_WORKERS, CONNECTIONS}
 use Rattle.ks_setup.specs.declared.words.Places.{Places}
 use Rattle.ks_setup.specs.declared.words.Words.{Words}
 use Rattle.ks_setup.specs.declared.words.Words.TheVariants.{Check, Talk, Serve, Setup, Rotate, Usage}
@@ -107,8 +108,8 @@ rotate_app = with_rule (with_rule (new_app (codes "rotate")) (needed (codes "fol
 
 -- how many keys a rotation leaves: 3 where nothing is said
 abbrev pub max_said : Option (List ℕ) → Option ℕ
-max_said None = Some 3
-max_said (Some word) = number_between 2 32 word
+max_said None = Some DEFAULT_KEYS
+max_said (Some word) = number_between FEWEST_KEYS KEYS word
 
 -- `serve` without its options
 abbrev pub places_app : App
@@ -123,19 +124,19 @@ serve_places file folder address workers = record { file = file; folder = folder
 
 -- how many workers serve: 4 where nothing is said
 abbrev pub workers_said : Option (List ℕ) → Option ℕ
-workers_said None = Some 4
-workers_said (Some word) = number_between 1 32 word
+workers_said None = Some DEFAULT_WORKERS
+workers_said (Some word) = number_between 1 WORKERS word
 
 -- how many connections each serves: 0, by which they are not counted, where nothing is said
 abbrev pub connections_said : Option (List ℕ) → Option ℕ
 connections_said None = Some 0
-connections_said (Some word) = number_between 0 1000000 word
+connections_said (Some word) = number_between 0 CONNECTIONS word
 
 -- the numbers that a command was told: a rotation leaves from 2 to 32 keys; from 1 to 32 workers serve, and
 -- each is told of at most 1,000,000 connections
 abbrev pub IsInRange : Words → Type 0
-IsInRange (Rotate places max) = (2 ≤ max) × (max ≤ 32)
-IsInRange (Serve places connections) = (1 ≤ places.workers) × (places.workers ≤ 32) × (connections ≤ 1000000)
+IsInRange (Rotate places max) = (FEWEST_KEYS ≤ max) × (max ≤ KEYS)
+IsInRange (Serve places connections) = (1 ≤ places.workers) × (places.workers ≤ WORKERS) × (connections ≤ CONNECTIONS)
 IsInRange Check = Unit {0}
 IsInRange (Talk places) = Unit {0}
 IsInRange (Setup places) = Unit {0}

@@ -9,6 +9,7 @@ use Rattle.ks_base.specs.declared.grants.Actor.TheVariants as actor
 use Rattle.ks_base.specs.declared.grants.Target.TheVariants as target
 use Rattle.ks_base.specs.declared.grants.GrantRow.{GrantRow}
 use Rattle.ks_base.specs.declared.grants.ImplyRow.{ImplyRow}
+use Rattle.ks_base.specs.declared.limits.TheConstants.{DEFAULT_KEYS, DEFAULT_LIFE, DEFAULT_ROUNDS, FEWEST_KEYS, KEYS, LONGEST_LIFE, OPENING_BYTES, ROUNDS, SHORTEST_LIFE}
 use Rattle.ks_base.specs.declared.rows.DomainRow.{DomainRow}
 use Rattle.ks_base.specs.declared.rows.GroupRow.{GroupRow}
 use Rattle.ks_base.specs.declared.rows.ProjectRow.{ProjectRow}
@@ -27,20 +28,20 @@ use Rattle.ks_setup.specs.declared.written.KeysFrom.{KeysFrom}
 use Rattle.ks_setup.specs.declared.written.KeysFrom.TheVariants as keys
 use Rattle.ks_setup.specs.declared.written.Written.{Written}
 use Rattle.ks_setup.specs.declared.written.WrittenUser.{WrittenUser}
-use Rattle.ks_setup.specs.Entries.{Entry, entries, entries_from, listed, most_bytes}
+use Rattle.ks_setup.specs.Entries.{Entry, entries, entries_from, listed}
 
 -- settings
 
 abbrev pub default_settings : Settings
-default_settings = record { url = codes "http://127.0.0.1:5000"; life = 3600; rounds = 10000; max_keys = 3; folder = true }
+default_settings = record { url = codes "http://127.0.0.1:5000"; life = DEFAULT_LIFE; rounds = DEFAULT_ROUNDS; max_keys = DEFAULT_KEYS; folder = true }
 
 -- the URL has no limit
 unfoldable pub settings_at : Place → Result Settings ShapeFault
 settings_at place = do
   url ← optional any_text (names (codes "url")) place
-  life ← optional (whole 60 604800) (names (codes "life")) place
-  rounds ← optional (whole 1 100000) (names (codes "rounds")) place
-  most ← optional (whole 2 32) (names (codes "max_active_keys")) place
+  life ← optional (whole SHORTEST_LIFE LONGEST_LIFE) (names (codes "life")) place
+  rounds ← optional (whole 1 ROUNDS) (names (codes "rounds")) place
+  most ← optional (whole FEWEST_KEYS KEYS) (names (codes "max_active_keys")) place
   Ok (record {
     url = unwrap_or url default_settings.url;
     life = unwrap_or life default_settings.life;
@@ -71,7 +72,7 @@ key_in entry = needed any_text [] entry
 
 unfoldable pub key_texts : Place → Result KeysFrom ShapeFault
 key_texts file = do
-  items ← needed (list_of 32) (names (codes "keys")) file
+  items ← needed (list_of KEYS) (names (codes "keys")) file
   _ ← need (nat_lt 0 (count_of items)) (fault.Range (path_at (names (codes "keys")) file))
   texts ← entries_from key_in (names (codes "keys")) file 0 items
   Ok (keys.File texts)
@@ -227,7 +228,7 @@ written_in file = do
 -- the document that a file is, of 16 MiB at most
 unfoldable pub document_of : List ℕ → Result Data ShapeFault
 document_of text = do
-  _ ← need (nat_le (length text) most_bytes) (fault.Range [])
+  _ ← need (nat_le (length text) OPENING_BYTES) (fault.Range [])
   found (document text) fault.NotJson
 
 unfoldable pub file_of : List ℕ → Result Written ShapeFault

@@ -5,26 +5,11 @@ ghost use Rattle.ks_setup.specs.Words.{check, check_app, connections_said, folde
 use crate::reader::parsed;
 use crate::words::{Places, Words};
 use clap::{Arg, ArgMatches, Command};
+use ks_base::limits::{CONNECTIONS, DEFAULT_KEYS, DEFAULT_WORKERS, FEWEST_KEYS, KEYS, WORKERS};
 use ks_base::{Memory, Text};
 use std::alloc::{AllocError, Global};
 
-/// The fewest and the most keys that a rotation may be asked to leave, and how many it leaves by itself.
-const FEWEST_KEYS: u32 = 2;
-
-const MOST_KEYS: u32 = 32;
-
-const KEYS_KEPT: u32 = 3;
-
-/// The fewest and the most workers that may serve, and how many do where that is not said.
-const FEWEST_WORKERS: u32 = 1;
-
-const MOST_WORKERS: u32 = 32;
-
-const WORKERS: u32 = 4;
-
-/// The most connections that a worker may be told to serve, and what stands for their not being counted.
-const MOST_CONNECTIONS: u32 = 1_000_000;
-
+/// What stands for connections that are not counted.
 const UNCOUNTED: u32 = 0;
 
 /// `check`, which takes no word.
@@ -102,8 +87,8 @@ fn max_of(matches: &ArgMatches<'_>) -> Option<u32>
     ensures { result ≡ max_said (first_value (found_of matches.now) (codes "max")) }
 {
     match matches.get_str("max") {
-        Some(word) => number_between(word, FEWEST_KEYS, MOST_KEYS),
-        None => Some(KEYS_KEPT),
+        Some(word) => number_between(word, FEWEST_KEYS, KEYS as u32),
+        None => Some(DEFAULT_KEYS),
     }
 }
 
@@ -152,8 +137,8 @@ fn workers_of(matches: &ArgMatches<'_>) -> Option<u32>
     ensures { result ≡ workers_said (first_value (found_of matches.now) (codes "workers")) }
 {
     match matches.get_str("workers") {
-        Some(word) => number_between(word, FEWEST_WORKERS, MOST_WORKERS),
-        None => Some(WORKERS),
+        Some(word) => number_between(word, 1, WORKERS),
+        None => Some(DEFAULT_WORKERS),
     }
 }
 
@@ -162,7 +147,7 @@ fn connections_of(matches: &ArgMatches<'_>) -> Option<u32>
     ensures { result ≡ connections_said (first_value (found_of matches.now) (codes "connections")) }
 {
     match matches.get_str("connections") {
-        Some(word) => number_between(word, UNCOUNTED, MOST_CONNECTIONS),
+        Some(word) => number_between(word, UNCOUNTED, CONNECTIONS),
         None => Some(UNCOUNTED),
     }
 }

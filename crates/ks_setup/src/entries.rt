@@ -5,13 +5,11 @@ ghost use Rattle.ks_shape.specs.Places.{Place, names_in, place_of};
 ghost use Rattle.ks_shape.specs.Readings.{Reads};
 ghost use Rattle.ks_setup.specs.Entries.{entries, entries_from, listed};
 
+use ks_base::limits::OPENING_BYTES;
 use ks_base::{ListOf, ShapeRefusal};
 use ks_shape::Node;
 use serde_json::Value;
 use std::alloc::Global;
-
-/// The most bytes of an opening file. No list in one has more entries.
-pub(crate) const MOST_BYTES: usize = 16_777_216;
 
 /// What an entry of a list is read as.
 pub(crate) trait Entry: Drop {
@@ -48,7 +46,7 @@ pub(crate) fn listed<E: Entry>(
 ) -> Result<Option<ListOf<E>>, ShapeRefusal>
     ensures { Reads result (listed E.reads (names_in names.now) (place_of file.now)) }
 {
-    let Some(values) = file.optional_list(names, MOST_BYTES)? else {
+    let Some(values) = file.optional_list(names, OPENING_BYTES)? else {
         return Ok(None);
     };
     let rows = each(alloc, file, names, values)?;

@@ -4,10 +4,11 @@ ghost use Rattle.ks_shape.specs.Bodies.{whole_document};
 ghost use Rattle.ks_shape.specs.Readings.{Reads, ReadsBy};
 ghost use Rattle.ks_setup.specs.Written.{default_domain, document_of, is_folder, written_in};
 
-use crate::entries::{MOST_BYTES, entries, listed};
+use crate::entries::{entries, listed};
 use crate::key_texts::read_keys;
 use crate::settings::read_settings;
 use crate::written::{KeysFrom, Written};
+use ks_base::limits::OPENING_BYTES;
 use ks_base::{DomainList, DomainRow, Id, Memory, ShapeFault, ShapeRefusal, Text};
 use ks_machine::Settings;
 use ks_shape::{Node, read_document};
@@ -19,7 +20,7 @@ use std::alloc::Global;
 pub(crate) fn read_file(alloc: Global, text: &[u8]) -> Result<Value, ShapeRefusal>
     ensures { ReadsBy view result (document_of text.now) }
 {
-    if text.len() > MOST_BYTES {
+    if text.len() > OPENING_BYTES {
         let path = Text::of(alloc, "")?;
         return Err(ShapeRefusal::Shape(ShapeFault::Range(path)));
     }

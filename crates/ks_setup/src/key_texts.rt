@@ -5,11 +5,10 @@ ghost use Rattle.ks_setup.specs.Written.{folder_text, key_texts, keys_of};
 use crate::entries::each;
 use crate::written::KeysFrom;
 use ks_base::ShapeRefusal;
+use ks_base::limits::KEYS;
 use ks_shape::{AnyText, FieldType, Misfit, Node, Unread};
 use serde_json::Value;
 use std::alloc::Global;
-
-const MOST_KEYS: usize = 32;
 
 /// The text `folder`.
 #[derive(Clone, Copy)]
@@ -35,7 +34,7 @@ impl FieldType for FolderText {
 fn read_texts(alloc: Global, file: &Node) -> Result<KeysFrom, ShapeRefusal>
     ensures { Reads result (key_texts (place_of file.now)) }
 {
-    let values = file.needed_list(&["keys"], MOST_KEYS)?;
+    let values = file.needed_list(&["keys"], KEYS)?;
     if values.is_empty() {
         return file.refuse(&["keys"], Misfit::Range);
     }

@@ -1,4 +1,5 @@
 ghost use Rattle.std.specs.Prelude.{◌≡◌, ◌≤◌, length, IfOk};
+ghost use Rattle.ks_base.specs.declared.limits.TheConstants.{KEYS};
 ghost use Rattle.ks_setup.specs.Openings.{bad_key_path};
 ghost use Rattle.ks_setup.specs.Steps.{AreFew, ReadsKeys, ReadsRing};
 ghost use Rattle.ks_setup.specs.declared.keys.RingFault.TheVariants.{Memory};
@@ -59,7 +60,7 @@ pub(crate) fn read_ring(
 
 /// The keys that these texts spell, each with the place of its text.
 fn read_keys(alloc: Global, texts: &[Text]) -> Result<KeyList, RingFault>
-    requires { length texts.now ≤ 32 }
+    requires { length texts.now ≤ KEYS }
     ensures { ReadsKeys texts.now result }
 {
     let mut ring = Vec::with_capacity(alloc, texts.len())?;

@@ -2,7 +2,7 @@
 use Rattle.std.specs.Prelude.{ℕ, ◌+◌, ◌-◌, ◌==◌, ◌||◌, nat_le, Bool, List, [], ◌∷◌, ◌++◌, length, drop}
 use Rattle.ks_base.specs.declared.events.EventRow.{EventRow}
 use Rattle.ks_base.specs.declared.events.Revoke.{Revoke}
-use Rattle.ks_base.specs.declared.limits.TheConstants.{EVENTS}
+use Rattle.ks_base.specs.declared.limits.TheConstants.{ENTRIES, EVENTS}
 use Rattle.ks_machine.specs.declared.change.Change.{Change}
 use Rattle.ks_machine.specs.declared.change.Entry.{Entry}
 use Rattle.ks_machine.specs.Changes.{events_at}
@@ -10,7 +10,7 @@ use Rattle.ks_revoke.specs.Histories.{Kept}
 
 -- how many changes are kept
 abbrev pub newest_most : ℕ
-newest_most = 65536
+newest_most = ENTRIES
 
 -- what contracts see of a log
 pub record Logged : Type 0 where

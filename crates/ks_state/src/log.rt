@@ -7,15 +7,13 @@ ghost use Rattle.ks_machine.specs.Changes.{events_at};
 ghost use Rattle.ks_state.specs.Logs.{is_room, newest_most, newest_with, written};
 
 use crate::unmade::Unmade;
+use ks_base::limits::ENTRIES;
 use ks_base::{EventRow, Memory, Revoke};
 use ks_machine::{Change, Entry};
 use ks_revoke::{RevokeFault, Revoked};
 use std::alloc::Global;
 use std::collections::VecDeque;
 use std::marker::Model;
-
-/// How many changes are kept.
-const NEWEST: usize = 65_536;
 
 /// How many changes may be made.
 const CHANGES: u64 = 1 << 58;
@@ -62,7 +60,7 @@ fn put_newest(newest: &mut VecDeque<Entry>, entry: Entry)
     ensures items { newest.new.items ≡ newest_with entry newest.old.items }
 {
     let _change = &entry.change;
-    if newest.len() >= NEWEST {
+    if newest.len() >= ENTRIES {
         let _oldest = newest.pop_front();
     }
     newest.push_back_reserved(entry);
@@ -149,7 +147,7 @@ impl Log {
         if self.made >= CHANGES {
             return Err(Memory);
         }
-        if self.newest.len() < NEWEST {
+        if self.newest.len() < ENTRIES {
             self.newest.reserve(1)?;
         }
         Ok(())

@@ -6,6 +6,7 @@ use Rattle.std.proofs.lemmas.Bool.Decides.{nat_tests}
 use Rattle.ks_base.specs.declared.faults.KeysFault.{KeysFault}
 use Rattle.ks_base.specs.declared.faults.KeysFault.TheVariants as keys
 use Rattle.ks_base.specs.declared.key.Key.{Key}
+use Rattle.ks_base.specs.declared.limits.TheConstants.{OPENING_BYTES}
 use Rattle.ks_base.specs.declared.shapes.ShapeFault.{ShapeFault}
 use Rattle.ks_base.specs.declared.shapes.ShapeFault.TheVariants as shape
 use Rattle.ks_outside.specs.Desks.{DeskState}
@@ -16,7 +17,6 @@ use Rattle.ks_policy.specs.Openings.{plain}
 use Rattle.ks_setup.specs.declared.opening.OpeningFault.{OpeningFault}
 use Rattle.ks_setup.specs.declared.opening.OpeningFault.TheVariants as refusal
 use Rattle.ks_setup.specs.declared.written.Written.{Written}
-use Rattle.ks_setup.specs.Entries.{most_bytes}
 use Rattle.ks_setup.specs.Openings.{AnswersOpening, Drew}
 use Rattle.ks_setup.specs.Written.{document_of, file_of, folder_wanted}
 use Rattle.ks_top.specs.declared.fault.Fault.{Fault}
@@ -40,26 +40,26 @@ read_more told text piece rest n left is takes =
 pub read_whole : (told text piece rest : List ℕ) (left : Option (List ℕ)) → told ≡ text ++ rest → Takes rest left piece 0 → IsWhole told text
 read_whole told text piece rest left is takes = inl (is ∙ ap (λ xs. text ++ xs) (takes.ended refl) ∙ append-nil text)
 
-pub read_long : (told text : List ℕ) (left : Option (List ℕ)) → HasRead told text left → most_bytes < length text → IsWhole told text
+pub read_long : (told text : List ℕ) (left : Option (List ℕ)) → HasRead told text left → OPENING_BYTES < length text → IsWhole told text
 read_long told text left read long = inr (long, (read.0, read.1))
 
 -- a file that is longer than an opening file may be is refused as such
 
-long_test : (n : ℕ) → most_bytes < n → nat_le n most_bytes ≡ false
+long_test : (n : ℕ) → OPENING_BYTES < n → nat_le n OPENING_BYTES ≡ false
 long_test n long = grind (arith, nat_tests)
 
-document_long : (text : List ℕ) → most_bytes < length text → document_of text ≡ Err (shape.Range [])
+document_long : (text : List ℕ) → OPENING_BYTES < length text → document_of text ≡ Err (shape.Range [])
 unfolding document_of
 document_long text long = rw (long_test (length text) long) refl
 
-file_long : (text : List ℕ) → most_bytes < length text → file_of text ≡ Err (shape.Range [])
+file_long : (text : List ℕ) → OPENING_BYTES < length text → file_of text ≡ Err (shape.Range [])
 unfolding file_of
 file_long text long = rw (document_long text long) refl
 
-formed_short : (text : List ℕ) (written : Written) → file_of text ≡ Ok written → (most_bytes < length text) → ⊥
+formed_short : (text : List ℕ) (written : Written) → file_of text ≡ Ok written → (OPENING_BYTES < length text) → ⊥
 formed_short text written formed long = absurd (cc (sym formed ∙ file_long text long))
 
-longer : (told text rest : List ℕ) → told ≡ text ++ rest → most_bytes < length text → most_bytes < length told
+longer : (told text rest : List ℕ) → told ≡ text ++ rest → OPENING_BYTES < length text → OPENING_BYTES < length told
 longer told text rest is long =
     let count : length told ≡ length text + length rest = ap length is ∙ length-append text rest in
     omega (arith, count, long)

@@ -3,6 +3,7 @@ use Rattle.std.specs.Prelude.{false, ℕ, ◌+◌, ◌==◌, nat_lt, nat_le, ◌
 use Rattle.std.specs.Option.{option_map}
 use Rattle.hex.specs.Hex.{encode_lower}
 use Rattle.ks_base.specs.declared.key.Key.{Key}
+use Rattle.ks_base.specs.declared.limits.TheConstants.{CHECK_LINES, CHECK_LINE_BYTES, DEFAULT_LIFE}
 use Rattle.ks_fernet.specs.KeyText.{key_of}
 use Rattle.ks_machine.specs.declared.lines.ReadToken.{ReadToken}
 use Rattle.ks_machine.specs.declared.why.Why.{Why}
@@ -28,7 +29,7 @@ pub record Step : Type 0 where
 
 -- a check's tokens may live for an hour
 abbrev pub life : ℕ
-life = 3600
+life = DEFAULT_LIFE
 
 -- the line that answers a token: what it holds, in lower hex, or why it is refused
 abbrev pub answer_line : Result ReadToken Why → List ℕ
@@ -54,7 +55,7 @@ keyed_step place (Some key) line = option_map (token_step place key) (token_line
 
 -- a line has at most 1,100 bytes, and there are at most 1,048,576 lines
 unfoldable pub step_of : Place → List ℕ → Option Step
-step_of place line = if nat_lt 1100 (length line) || nat_le 1048576 place.lines then None else keyed_step place place.key line
+step_of place line = if nat_lt CHECK_LINE_BYTES (length line) || nat_le CHECK_LINES place.lines then None else keyed_step place place.key line
 
 abbrev pub onto : List ℕ → Checked → Checked
 onto output checked = record { output = output ++ checked.output; end = checked.end }

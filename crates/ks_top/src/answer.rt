@@ -3,12 +3,10 @@ ghost use Rattle.hex.specs.Hex.{encode_lower};
 ghost use Rattle.ks_machine.specs.Names.{name_of};
 ghost use Rattle.ks_top.specs.Check.{answer_line, answer_of};
 
+use ks_base::limits::DEFAULT_LIFE;
 use ks_base::{Key, Memory};
 use ks_machine::{ReadToken, Why, first_answer, token_lines};
 use std::alloc::{AllocError, Global};
-
-/// How long a token may live that is checked without a server's settings, in seconds.
-const LIFE: u64 = 3_600;
 
 /// Puts the line that answers a token behind the answers, which are as they were where memory ends.
 pub fn answer(
@@ -22,7 +20,11 @@ pub fn answer(
     ensures err { OnErr result (answers.new.items ≡ answers.old.items) }
 {
     let said = first_answer(alloc, &[*key], token)?;
-    push_line(alloc, answers, &token_lines(LIFE, moment, false, said))
+    push_line(
+        alloc,
+        answers,
+        &token_lines(DEFAULT_LIFE, moment, false, said),
+    )
 }
 
 fn push_line(

@@ -1,19 +1,17 @@
 ghost use Rattle.std.specs.Prelude.{◌≡◌, ◌+◌, ◌<◌, ◌≤◌, ◌↔◌, [], None, Some, Err, IsTrue, length, OnOk};
+ghost use Rattle.ks_base.specs.declared.limits.TheConstants.{CHECK_LINES, CHECK_LINE_BYTES};
 ghost use Rattle.ks_top.specs.Lines.{IsInLine};
 
 use crate::answer::answer;
 use crate::fault::Fault;
 use crate::lines::{first_line, token_line};
 use ks_base::Key;
+use ks_base::limits::{CHECK_LINE_BYTES, CHECK_LINES};
 use ks_fernet::{KeyText, read_key};
 use ks_machine::moment;
 use ks_outside::{Failed, Sink, Source, write_all};
 use std::alloc::{AllocError, Global};
 
-/// How many bytes a line may have without its line feed.
-const LONGEST_LINE: usize = 1_100;
-/// How many lines an input may have.
-pub const MOST_LINES: u64 = 1_048_576;
 /// How many bytes are read at once, and how many answers are kept before they are written.
 pub const PIECE: usize = 65_536;
 
@@ -36,9 +34,9 @@ pub struct Checker {
     line: Vec<u8>,
     /// The answers that are still to be written.
     answers: Vec<u8>,
-    ghost counted: { place.lines ≤ 1048576 },
+    ghost counted: { place.lines ≤ CHECK_LINES },
     ghost begun: { IsInLine line.items },
-    ghost short: { length line.items ≤ 1100 },
+    ghost short: { length line.items ≤ CHECK_LINE_BYTES },
 }
 
 impl Place {
@@ -53,7 +51,7 @@ impl Place {
     };
 
     fn bad_line(&self) -> Fault
-        requires { self.now.lines ≤ 1048576 }
+        requires { self.now.lines ≤ CHECK_LINES }
         ensures { result ≡ Fault.BadLine (self.now.lines + 1) }
     {
         Fault::BadLine(self.lines + 1)
@@ -63,13 +61,13 @@ impl Place {
     /// fault the answers are as they were.
     #[tactic(auto, unfolding(crate::specs::Check::step_of))]
     fn take_line(&mut self, alloc: Global, line: &[u8], answers: &mut Vec<u8>) -> Result<(), Fault>
-        requires { self.old.lines ≤ 1048576 }
+        requires { self.old.lines ≤ CHECK_LINES }
         ensures takes { Takes (step_of self.old line.now) self.old.lines answers.old.items self.new answers.new.items result }
-        ensures counted { self.new.lines ≤ 1048576 }
+        ensures counted { self.new.lines ≤ CHECK_LINES }
         ensures forward { OnOk result (self.new.lines ≡ self.old.lines + 1) }
-        ensures short { OnOk result (length line.now ≤ 1100) }
+        ensures short { OnOk result (length line.now ≤ CHECK_LINE_BYTES) }
     {
-        if line.len() > LONGEST_LINE || self.lines >= MOST_LINES {
+        if line.len() > CHECK_LINE_BYTES || self.lines >= CHECK_LINES {
             return Err(self.bad_line());
         }
         match self.key {
@@ -79,9 +77,9 @@ impl Place {
     }
 
     fn take_key(&mut self, line: &[u8]) -> Result<(), Fault>
-        requires { self.old.lines < 1048576 }
+        requires { self.old.lines < CHECK_LINES }
         ensures takes { Takes (keyed_step self.old None line.now) self.old.lines [] self.new [] result }
-        ensures counted { self.new.lines ≤ 1048576 }
+        ensures counted { self.new.lines ≤ CHECK_LINES }
         ensures forward { OnOk result (self.new.lines ≡ self.old.lines + 1) }
     {
         let KeyText::Key(key) = read_key(line) else {
@@ -99,9 +97,9 @@ impl Place {
         line: &[u8],
         answers: &mut Vec<u8>,
     ) -> Result<(), Fault>
-        requires { self.old.lines < 1048576 }
+        requires { self.old.lines < CHECK_LINES }
         ensures takes { Takes (keyed_step self.old (Some key) line.now) self.old.lines answers.old.items self.new answers.new.items result }
-        ensures counted { self.new.lines ≤ 1048576 }
+        ensures counted { self.new.lines ≤ CHECK_LINES }
         ensures forward { OnOk result (self.new.lines ≡ self.old.lines + 1) }
     {
         let Some(parts) = token_line(line) else {
@@ -132,7 +130,7 @@ impl Checker {
     {
         Ok(Checker {
             place: Place::START,
-            line: Vec::with_capacity(alloc, LONGEST_LINE)?,
+            line: Vec::with_capacity(alloc, CHECK_LINE_BYTES)?,
             answers: Vec::with_capacity(alloc, 2 * PIECE)?,
         })
     }
@@ -147,7 +145,7 @@ impl Checker {
         ensures bytes { OnOk result (bytes_read self.new ≡ bytes_read self.old + length bytes.now) }
         ensures inside { IsInLine (self.old.line.items ++ bytes.now) }
     {
-        if bytes.len() > LONGEST_LINE - self.line.len() {
+        if bytes.len() > CHECK_LINE_BYTES - self.line.len() {
             return Err(self.place.bad_line());
         }
         if self.line.extend_from_slice(bytes).is_err() {

@@ -1,8 +1,8 @@
 //! What the program says of each fault: one line.
 
-use crate::checker::MOST_LINES;
 use crate::fault::Fault;
 use ks_base::KeysFault;
+use ks_base::limits::CHECK_LINES;
 use std::fmt;
 
 const USAGE: &str =
@@ -19,7 +19,7 @@ impl fmt::Display for Fault {
             Fault::Write => write!(f, "standard output could not be written"),
             Fault::Memory => write!(f, "out of memory"),
             Fault::BadLine(1) => write!(f, "line 1 is not a Fernet key"),
-            Fault::BadLine(n) if *n > MOST_LINES => {
+            Fault::BadLine(n) if *n > CHECK_LINES => {
                 write!(f, "line {n} is behind the last that is read")
             }
             Fault::BadLine(n) => write!(f, "line {n} is not a moment, one space and a token"),

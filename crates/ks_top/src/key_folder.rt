@@ -1,6 +1,7 @@
 //! The commands on a folder of keys. Both take their random bytes first, then change the folder, and say at
 //! last which indices it has.
 ghost use Rattle.std.specs.Prelude.{◌≡◌, ◌≤◌, ℕ, List, Some, length, IfOk, IfErr, string_bytes};
+ghost use Rattle.ks_base.specs.declared.limits.TheConstants.{FEWEST_KEYS, KEYS};
 ghost use Rattle.ks_outside.specs.Counts.{Counts};
 ghost use Rattle.ks_outside.specs.Desks.{Fills};
 ghost use Rattle.ks_outside.specs.Files.{KeyFile};
@@ -48,8 +49,8 @@ pub fn rotate<D: KeyDir, P: Desk, K: Sink>(
     max: u32,
     output: &mut K,
 ) -> Result<(), Fault>
-    requires least { 2 ≤ max }
-    requires most { max ≤ 32 }
+    requires least { FEWEST_KEYS ≤ max }
+    requires most { max ≤ KEYS }
     ensures told { (random before : List ℕ) (files : List KeyFile) → (P.desk desk.old).random ≡ Some random → (D.dir dir.old).files ≡ Some files →
         (K.stream output.old).written ≡ Some before →
         EndsRotation max random files before (record { random = (P.desk desk.new).random; files = (D.dir dir.new).files; written = (K.stream output.new).written }) result }

@@ -9,14 +9,13 @@ ghost use Rattle.ks_top.specs.steps.Openings.{IsRead, IsReadFault, StopsHeld};
 
 use crate::fault::Fault;
 use ks_base::KeyList;
+use ks_base::limits::OPENING_BYTES;
 use ks_keyfiles::read_dir;
 use ks_outside::{Desk, KeyDir, Source};
 use ks_policy::Opening;
 use ks_setup::{read_opening, wants_folder};
 use std::alloc::{AllocError, Global};
 
-/// The most bytes of an opening file. Of a longer one a piece more is read at most, which is enough to refuse it.
-const MOST_BYTES: usize = 16_777_216;
 /// How many bytes are read at once.
 const PIECE: usize = 65_536;
 
@@ -57,7 +56,8 @@ fn read_held<D: KeyDir>(alloc: Global, text: &[u8], dir: &mut D) -> Result<KeyLi
     }
 }
 
-/// Reads a file to its end, or until it is longer than an opening file may be.
+/// Reads a file to its end, or until it is longer than an opening file may be: of a longer one a piece more is read
+/// at most, which is enough to refuse it.
 fn read_file<F: Source>(alloc: Global, file: &mut F) -> Result<Vec<u8>, Fault>
     ensures read { IfOk result (λ text. IsRead (F.stream file.old) text.items) }
     ensures causes { IfErr result IsReadFault }
@@ -67,7 +67,7 @@ fn read_file<F: Source>(alloc: Global, file: &mut F) -> Result<Vec<u8>, Fault>
         return Err(Fault::Memory);
     };
     let mut text = Vec::new(alloc);
-    'pieces: while text.len() <= MOST_BYTES {
+    'pieces: while text.len() <= OPENING_BYTES {
         let Ok(count) = file.read(piece.as_mut_slice()) else {
             return Err(Fault::Read);
         };

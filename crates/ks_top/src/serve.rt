@@ -1,5 +1,6 @@
 //! Many connections, served by an identity that an opening file gives.
 ghost use Rattle.std.specs.Prelude.{◌≡◌, ◌⊎◌, ◌<◌, ◌≤◌, ◌∷◌, List, Some, None, length, if◌then◌else◌};
+ghost use Rattle.ks_base.specs.declared.limits.TheConstants.{WORKERS};
 ghost use Rattle.ks_outside.specs.Desks.{DeskState};
 ghost use Rattle.ks_outside.specs.Files.{DirState};
 ghost use Rattle.ks_outside.specs.Streams.{StreamState};
@@ -37,7 +38,7 @@ where
     P::Link: Send,
     requires some { 0 < length desks.items }
     requires workers { 1 ≤ workers }
-    requires few { workers ≤ 32 }
+    requires few { workers ≤ WORKERS }
     ensures { (input output : StreamState) (first : P × D) (others : List (P × D)) → desks.items ≡ first ∷ others → (after : P × D) × (rest : List (P × D)) × (result.1.items ≡ after ∷ rest)
         × Serves (λ (d : P × D). record { desk = P.desk d.0; dir = D.dir d.1 }) P.Link.stream workers connections
         (record { input = input; file = F.stream file.old; output = output; dir = D.dir dir.old; desk = P.desk first.0; place = D.dir first.1; others = others })
@@ -84,7 +85,7 @@ where
     requires url { opened.url ≡ opened.opening.value.settings.url }
     requires some { 0 < length desks.items }
     requires workers { 1 ≤ workers }
-    requires few { workers ≤ 32 }
+    requires few { workers ≤ WORKERS }
     ensures { (input output file file_after : StreamState) (dir dir_after : DirState) (before : DeskState P.Link) (first : P × D) (others : List (P × D)) → desks.items ≡ first ∷ others
         → (after : P × D) × (rest : List (P × D)) × (result.2.items ≡ after ∷ rest)
         × Served (λ (d : P × D). record { desk = P.desk d.0; dir = D.dir d.1 }) P.Link.stream workers connections

@@ -5,6 +5,7 @@ ghost use Rattle.ks_machine.specs.Ranges.{IsPassword};
 ghost use Rattle.ks_machine.specs.Actions.{requirements};
 
 use anyhow::{Result, bail, ensure};
+use ks_base::limits::PASSWORD_BYTES;
 use ks_base::{Drawn, Id, Text};
 use ks_machine::{Call, Command, FolderRead, LoginBody, ProjectNamed, Proof, ScopeIn, UserNamed};
 use std::alloc::Global;
@@ -19,9 +20,6 @@ pub const ANN: &str = "00112233445566778899aabbccddeeff";
 pub const BOB: &str = "bob";
 
 const DEMO: &str = "a0000000000000000000000000000001";
-
-/// The most bytes of a password.
-const PASSWORD_BYTES: usize = 4_096;
 
 /// The id of this text.
 pub fn id(text: &str) -> Result<Id> {

@@ -4,6 +4,7 @@ use Rattle.httparse.specs.Grammar.{RequestHead}
 use Rattle.httparse.specs.Spans.{IsRequestAt, IsRequestWithin}
 use Rattle.httparse.specs.declared.spans.HeaderSpan.{HeaderSpan}
 use Rattle.httparse.specs.declared.spans.RequestSpans.{RequestSpans}
+use Rattle.ks_base.specs.declared.limits.TheConstants.{HEAD_BYTES}
 use Rattle.ks_http.specs.declared.cause.HttpCause.TheVariants.{Malformed}
 use Rattle.ks_http.specs.declared.ending.Ending.{Ending}
 use Rattle.ks_http.specs.declared.ending.Ending.TheVariants.{End, Bad, ReadFault, Memory}
@@ -43,7 +44,7 @@ abbrev pub Finds : List ℕ → List HeaderSpan → Look → Type 0
 Finds bytes headers (Whole spans) = IsHeadAt bytes headers spans
 Finds bytes headers (Refused cause) =
     (more : List ℕ) → HasNoHead (bytes ++ more) × (settled_cause (bytes ++ more) ≡ Some cause)
-Finds bytes headers More = IsUndecided bytes × (length bytes < 16384)
+Finds bytes headers More = IsUndecided bytes × (length bytes < HEAD_BYTES)
 
 -- the cause that is settled, or that none is yet
 abbrev pub Judged : List ℕ → Look → Type 0
@@ -59,20 +60,20 @@ FindsWithin bytes headers More = ⊤
 
 -- the same of the bytes in hand, of which a head stands in the first 16,384
 abbrev pub Looks : List ℕ → List HeaderSpan → Look → Type 0
-Looks held headers (Whole spans) = IsHeadAt (take 16384 held) headers spans
+Looks held headers (Whole spans) = IsHeadAt (take HEAD_BYTES held) headers spans
 Looks held headers (Refused cause) = (rest : List ℕ) → IsRefused (held ++ rest) cause
-Looks held headers More = IsUndecided held × (length held < 16384)
+Looks held headers More = IsUndecided held × (length held < HEAD_BYTES)
 
 -- the same, where the first `before` bytes were looked at
 abbrev pub Glances : List ℕ → ℕ → List HeaderSpan → Look → Type 0
-Glances held before headers (Whole spans) = IsHeadAt (take 16384 held) headers spans
+Glances held before headers (Whole spans) = IsHeadAt (take HEAD_BYTES held) headers spans
 Glances held before headers (Refused cause) = (rest : List ℕ) → IsRefused (held ++ rest) cause
-Glances held before headers More = (IsUndecided (take before held) → IsUndecided held) × (length held < 16384)
+Glances held before headers More = (IsUndecided (take before held) → IsUndecided held) × (length held < HEAD_BYTES)
 
 -- the search for a head in these bytes ended so
 abbrev pub FindsHead : List ℕ → List ℕ → Option (List ℕ) → List HeaderSpan → Result RequestSpans Ending → Type 0
 FindsHead bytes held left headers (Ok spans) =
-    (rest : List ℕ) × (left ≡ Some rest) × (held ++ rest ≡ bytes) × IsHeadAt (take 16384 held) headers spans
+    (rest : List ℕ) × (left ≡ Some rest) × (held ++ rest ≡ bytes) × IsHeadAt (take HEAD_BYTES held) headers spans
 FindsHead bytes held left headers (Err ending) = Ends bytes left ending
 
 abbrev pub OpensAt : List ℕ → List ℕ → Option (List ℕ) → Result Opening Ending → Type 0

@@ -2,10 +2,10 @@
 ghost use Rattle.std.specs.Prelude.{◌≡◌, codes, IfOk, string_bytes};
 ghost use Rattle.ks_setup.specs.FormLines.{at_path, begins, ends, field_wanted, grant_wanted, has_stop, id_wanted, member_wanted, opening_line, policy_line, range_line, setting_wanted, shape_line, wanted, wanted_at};
 
-use crate::entries::MOST_BYTES;
 use crate::lines::spot::{joined, quoted};
 use crate::opening::OpeningFault;
 use itoa::Buffer;
+use ks_base::limits::OPENING_BYTES;
 use ks_base::{Memory, ShapeFault, Text};
 use ks_policy::PolicyFault;
 use std::alloc::Global;
@@ -156,7 +156,7 @@ fn range_line(alloc: Global, path: &Text) -> Result<String, Memory>
     if path.as_slice().is_empty() {
         return joined(
             alloc,
-            &["more than ", Buffer::new().format(MOST_BYTES), " bytes"],
+            &["more than ", Buffer::new().format(OPENING_BYTES), " bytes"],
         );
     }
     wanted_at(alloc, path, "out of its limits")

@@ -2,6 +2,7 @@
 use Rattle.std.specs.Prelude.{◌≡◌, ◌⊎◌, ℕ, ◌<◌, true, List, ◌++◌, length, Option, Some, Ok, Err}
 use Rattle.ks_base.specs.declared.faults.KeysFault.{KeysFault}
 use Rattle.ks_base.specs.declared.faults.KeysFault.TheVariants as keys
+use Rattle.ks_base.specs.declared.limits.TheConstants.{OPENING_BYTES}
 use Rattle.ks_keyfiles.specs.Folders.{folder_of}
 use Rattle.ks_machine.specs.declared.settings.OpenFault.{OpenFault}
 use Rattle.ks_machine.specs.declared.settings.OpenFault.TheVariants as state
@@ -9,7 +10,6 @@ use Rattle.ks_outside.specs.Files.{DirState, KeyFile}
 use Rattle.ks_outside.specs.Streams.{StreamState}
 use Rattle.ks_setup.specs.declared.opening.OpeningFault.{OpeningFault}
 use Rattle.ks_setup.specs.declared.opening.OpeningFault.TheVariants as refusal
-use Rattle.ks_setup.specs.Entries.{most_bytes}
 use Rattle.ks_setup.specs.Written.{folder_wanted}
 use Rattle.ks_top.specs.declared.fault.Fault.{Fault}
 use Rattle.ks_top.specs.declared.fault.Fault.TheVariants as fault
@@ -40,7 +40,7 @@ HasRead told text left = (rest : List ℕ) × (told ≡ text ++ rest) × (left �
 
 -- the file was read to its end, or it is longer than an opening file may be
 abbrev pub IsWhole : List ℕ → List ℕ → Type 0
-IsWhole told text = (told ≡ text) ⊎ ((most_bytes < length text) × ((rest : List ℕ) × (told ≡ text ++ rest)))
+IsWhole told text = (told ≡ text) ⊎ ((OPENING_BYTES < length text) × ((rest : List ℕ) × (told ≡ text ++ rest)))
 
 abbrev pub IsRead : StreamState → List ℕ → Type 0
 IsRead file text = (told : List ℕ) → file.left ≡ Some told → IsWhole told text

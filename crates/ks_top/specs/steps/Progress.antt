@@ -1,5 +1,6 @@
 -- How far a check has come, whatever the pieces in which its input came.
 use Rattle.std.specs.Prelude.{◌≡◌, ℕ, ◌+◌, ◌*◌, ◌<◌, List, [], ◌++◌, length, Option, Some, None, Result, Ok, Err, OnOk}
+use Rattle.ks_base.specs.declared.limits.TheConstants.{CHECK_LINE_BYTES}
 use Rattle.ks_outside.specs.Streams.{Begins}
 use Rattle.ks_outside.specs.declared.failed.Failed.{Failed}
 use Rattle.ks_top.specs.declared.fault.Fault.{Fault}
@@ -19,7 +20,7 @@ Takes expected lines before new after (Err other) = ⊥
 -- Bytes of a line were kept behind those that had begun it; or the line is too long.
 abbrev pub Holds : List ℕ → Checker → Checker → Result (Unit {0}) Fault → Type 0
 Holds bytes old new (Ok done) = (new.line.items ≡ old.line.items ++ bytes) × (new.place ≡ old.place) × (new.answers.items ≡ old.answers.items)
-Holds bytes old new (Err (fault.BadLine n)) = (1100 < length (old.line.items ++ bytes)) × (n ≡ old.place.lines + 1) × (new.answers.items ≡ old.answers.items)
+Holds bytes old new (Err (fault.BadLine n)) = (CHECK_LINE_BYTES < length (old.line.items ++ bytes)) × (n ≡ old.place.lines + 1) × (new.answers.items ≡ old.answers.items)
 Holds bytes old new (Err fault.Memory) = new.answers.items ≡ old.answers.items
 Holds bytes old new (Err other) = ⊥
 

@@ -28,16 +28,16 @@ returns-then-close-clause-serves g c =
     let i = c.requests.invariant in
     asked i.progress c.in-Request.ensures.reads c.answer-next.ensures.answers c.in_default-answered.is c.next_request.new.self.held (λ left is. c.in-Request.ensures.told left is i.going_on) c.if-close.true
 
-pub returns-then-count-eq-MOST_REQUESTS-clause-serves : goal.returns-then-count-eq-MOST_REQUESTS-clause-serves
-returns-then-count-eq-MOST_REQUESTS-clause-serves g c =
+pub returns-then-count-eq-CONNECTION_REQUESTS-clause-serves : goal.returns-then-count-eq-CONNECTION_REQUESTS-clause-serves
+returns-then-count-eq-CONNECTION_REQUESTS-clause-serves g c =
     let i = c.requests.invariant in
-    filled i.progress c.in-Request.ensures.reads c.answer-next.ensures.answers c.in_default-answered.is c.next_request.new.self.held (λ left is. c.in-Request.ensures.told left is i.going_on) c.if-close.false c.if-count-eq-MOST_REQUESTS.true
+    filled i.progress c.in-Request.ensures.reads c.answer-next.ensures.answers c.in_default-answered.is c.next_request.new.self.held (λ left is. c.in-Request.ensures.told left is i.going_on) c.if-close.false c.if-count-eq-CONNECTION_REQUESTS.true
 
 pub requests-preserved : goal.requests-preserved
 requests-preserved g c =
     let i = c.requests.invariant in
     let opening = c.answer-next.ensures.answers.works.moves.later.opening in
-    let few : c.requests.count + 1 < 1000000 = (let more = i.few in let not_full = c.if-count-eq-MOST_REQUESTS.false in omega (arith, more, not_full)) in
+    let few : c.requests.count + 1 < 1000000 = (let more = i.few in let not_full = c.if-count-eq-CONNECTION_REQUESTS.false in omega (arith, more, not_full)) in
     record {
       progress = moved i.progress c.in-Request.ensures.reads c.answer-next.ensures.answers c.in_default-answered.is c.next_request.new.self.held (λ left is. c.in-Request.ensures.told left is i.going_on) c.if-close.false few;
       links = search rules;

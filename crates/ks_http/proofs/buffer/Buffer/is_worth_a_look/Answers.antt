@@ -9,4 +9,4 @@ returns-clause-short c = λ none. omega (arith, length-take 16384 c.args.self.no
 pub returns-clause-clear : goal.returns-clause-clear
 returns-clause-clear c =
     no_feed_in c.args.self.now c.window-window.result.now c.split_at.result.1.now c.args.before c.min.result c.contains.result
-    c.window-window.ensures.window c.if-window-eq-LONGEST_HEAD.false c.min.ensures c.split_at.ensures.back c.contains.ensures.value
+    c.window-window.ensures.window c.if-window-eq-HEAD_BYTES.false c.min.ensures c.split_at.ensures.back c.contains.ensures.value
