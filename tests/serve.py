@@ -149,14 +149,15 @@ def cut(port):
 
 
 def a_body_that_is_too_long(port):
-    """Its refusal comes, though more was sent than is read."""
-    sent = 500_000
-    head = f"POST /v3/auth/tokens HTTP/1.1\r\nHost: {HOST}\r\nContent-Length: {sent}\r\n\r\n"
-    for _ in range(20):
-        with Connection(port) as connection:
-            connection.send(head.encode() + b"x" * sent)
-            status_of("a body that is too long", connection.response("POST"), 413)
-            require(connection.socket.recv(1) == b"", "a body that is too long: the connection goes on")
+    """Its refusal reaches a client that sends it to its end, piece by piece, though the server reads no more than its head."""
+    pieces, piece = 10, 50_000
+    with Connection(port) as connection:
+        connection.send(f"POST /v3/auth/tokens HTTP/1.1\r\nHost: {HOST}\r\nContent-Length: {pieces * piece}\r\n\r\n".encode())
+        for _ in range(pieces):
+            time.sleep(0.05)
+            connection.send(b"x" * piece)
+        status_of("a body that is too long", connection.response("POST"), 413)
+        require(connection.socket.recv(1) == b"", "a body that is too long: the connection goes on")
 
 
 def statuses(program, folder, port):
