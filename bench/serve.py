@@ -166,13 +166,15 @@ def measure(program, seconds, work):
                     rate, half, most = by_python(server.port, workers, requests, depth, seconds)
                 cores = (server.seconds() - worked) / (time.monotonic() - began)
                 rates[what, workers] = rate, rate / cores
-                print(f"{what}, {named(workers)}: {rate:,.0f} a second with {cores:.2f} cores, p50 {half:.3f} ms, p99 {most:.3f} ms, "
+                # Of requests that are sent at once, no client measures one alone.
+                times = f"p50 {half:.3f} ms, p99 {most:.3f} ms, " if depth == 1 else ""
+                print(f"{what}, {named(workers)}: {rate:,.0f} a second with {cores:.2f} cores, {times}"
                       f"{server.memory() / 1024:.1f} MiB resident", flush=True)
     least, most = WORKERS
     for what in dict.fromkeys(what for what, _ in rates):
         (few, few_each), (many, many_each) = rates[what, least], rates[what, most]
-        print(f"{what}: {named(most)} do {many / few:.2f} times what {named(least)} does, and {many_each / few_each:.2f} times as many "
-              f"a core, of which each does {many_each:,.0f}")
+        print(f"{what}: {named(most)} do {many / few:.2f} times what {named(least)} does; of its cores each does {few_each:,.0f} "
+              f"with {named(least)} and {many_each:,.0f} with {named(most)}")
 
 
 def main():
