@@ -22,6 +22,10 @@ const HELD: u64 = 1;
 // It is held, and somebody may sleep until it is given back.
 const WAITED_FOR: u64 = 2;
 
+// How often a caller looks whether the turn is free before it sleeps. A look is one load, and so many take about as long as
+// falling asleep and being woken do, which is longer than most holds.
+const LOOKS: u32 = 20_000;
+
 /// A value that many callers use, one at a time.
 #[derive(Drop)]
 pub struct Turn<S: Journaled, N: First> {
@@ -132,7 +136,30 @@ impl<S: Journaled, N: First> Turn<S, N> {
         Ok((keeping, splitting))
     }
 
-    // Takes the turn. A caller that finds it taken sleeps until it is given back.
+    // Takes the turn where it is given back within a moment.
+    fn seize_soon(&self, seat: &mut Seat<Option<S>, View>) -> bool
+        requires own { seat.old.table_id ≡ self.now }
+        requires free { seat.old.me.1 ≡ [] }
+        requires can { (0 < seat.old.me.0.weight) × (seat.old.me.0.holds ≡ false) }
+        ensures own { seat.new.table_id ≡ seat.old.table_id }
+        ensures took { result ≡ true → (x : S) × (seat.new.me.1 ≡ (0, Some x) ∷ []) × Told N.front S.stands seat.old.me.0 seat.new.me.0 x }
+        ensures missed { result ≡ false → seat.new.me ≡ seat.old.me }
+    {
+        for _ in 0..LOOKS {
+            if self.table.shared.peek(TURN) == FREE
+                && self
+                    .table
+                    .shared
+                    .compare_exchange::<Take<N>>(seat, TURN, FREE, HELD)
+                    == FREE
+            {
+                return true;
+            }
+        }
+        false
+    }
+
+    // Takes the turn. A caller that finds it taken for long sleeps until it is given back.
     fn seize<R: Wait>(&self, rt: &R, seat: &mut Seat<Option<S>, View>)
         requires own { seat.old.table_id ≡ self.now }
         requires free { seat.old.me.1 ≡ [] }
@@ -140,12 +167,7 @@ impl<S: Journaled, N: First> Turn<S, N> {
         ensures own { seat.new.table_id ≡ seat.old.table_id }
         ensures took { (x : S) × (seat.new.me.1 ≡ (0, Some x) ∷ []) × Told N.front S.stands seat.old.me.0 seat.new.me.0 x }
     {
-        if self
-            .table
-            .shared
-            .compare_exchange::<Take<N>>(seat, TURN, FREE, HELD)
-            == FREE
-        {
+        if self.seize_soon(seat) {
             return;
         }
         for _ in rt.forever() {
