@@ -13,7 +13,7 @@ use Rattle.ks_machine.specs.States.{State}
 use Rattle.ks_machine.proofs.FrontLemmas.{calls_go_on}
 use Rattle.ks_state.specs.declared.decision.Decision.{Decision}
 use Rattle.ks_state.specs.declared.decision.Decision.TheVariants as decision
-use Rattle.ks_state.specs.Decides.{Decided as DecidedBy, IsInRange, Replied, with_kept}
+use Rattle.ks_state.specs.Decides.{DecidedBy, IsInRange, Replied, with_kept}
 use Rattle.ks_state.specs.Deciding.{Decided}
 use Rattle.ks_state.specs.Replies.{IsReply}
 use Rattle.ks_state.specs.Shown.{Shown}

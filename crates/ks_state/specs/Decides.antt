@@ -42,7 +42,7 @@ module _ {S : Type 0} (means : S → Front → Type 0) (kept : S → ℕ) where
 
   -- a call after a front is decided, by the facts that are known: it is replied, or the facts are named that the plain machine's
   -- first lacking check asks for, and nothing changed
-  abbrev pub Decided : Front → Call → FactsState → Decision → S → S → Type 0
-  Decided f call facts (decision.Done said) old new = Replied f call said new
-  Decided f call facts (decision.Needs needs) old new =
+  abbrev pub DecidedBy : Front → Call → FactsState → Decision → S → S → Type 0
+  DecidedBy f call facts (decision.Done said) old new = Replied f call said new
+  DecidedBy f call facts (decision.Needs needs) old new =
       (lack : Lack) × Names needs lack × IsInRange lack × (step (told facts) (replay f) call ≡ Needs lack) × (new ≡ old)

@@ -1,7 +1,7 @@
 ghost use Rattle.std.specs.Prelude.{◌≡◌, ◌≤◌, length};
 ghost use Rattle.ks_machine.specs.Fit.{Fit};
 ghost use Rattle.ks_machine.specs.Fronts.{Front};
-ghost use Rattle.ks_state.specs.Decides.{CanBeTold, Decided, with_kept};
+ghost use Rattle.ks_state.specs.Decides.{CanBeTold, DecidedBy, with_kept};
 
 use crate::Decision;
 use ks_auth::Facts;
@@ -33,7 +33,7 @@ pub trait Decides: Journaled {
     fn decide(&mut self, call: &Call, facts: &Facts) -> Decision
         requires fit { Fit call.now }
         requires stands { (f : Front) × Self.stands self.old f }
-        ensures decided { (f : Front) → Self.stands self.old f → Decided Self.stands Self.kept f call.now facts.now result self.old self.new }
+        ensures decided { (f : Front) → Self.stands self.old f → DecidedBy Self.stands Self.kept f call.now facts.now result self.old self.new }
         ensures kept { Self.kept self.old ≤ Self.kept self.new }
         ensures tellable { CanBeTold result };
 
