@@ -8,7 +8,7 @@ ghost use Rattle.ks_ring.specs.Rings.{loaded_unless, new_of, refusal_of};
 
 use crate::Opened;
 use crate::limits::check_full;
-use crate::tables::{grants_of, people_of, roles_of, tree_of};
+use crate::tables::{parties_of, rights_of};
 use ks_assign::Grants;
 use ks_base::{KeyList, Memory};
 use ks_machine::{OpenFault, Settings};
@@ -37,14 +37,25 @@ impl Filled {
         requires { ids_fault (plain opening) ≡ None }
         ensures { IfOk result (λ filled. IsFilled filled (plain opening)) }
     {
-        let tree = tree_of(alloc, opening.domains, opening.projects)?;
-        let people = people_of(alloc, opening.users, opening.groups, opening.members)?;
-        let roles = roles_of(alloc, opening.roles, opening.implications)?;
-        let grants = grants_of(alloc, opening.assignments)?;
+        let Opening {
+            settings,
+            rules,
+            ring: keys,
+            domains,
+            projects,
+            users,
+            groups,
+            members,
+            roles,
+            implications,
+            assignments,
+        } = opening;
+        let (tree, people) = parties_of(alloc, domains, projects, users, groups, members)?;
+        let (roles, grants) = rights_of(alloc, roles, implications, assignments)?;
         Ok(Filled {
-            settings: opening.settings,
-            rules: opening.rules,
-            keys: opening.ring,
+            settings,
+            rules,
+            keys,
             tree,
             people,
             roles,

@@ -1,9 +1,9 @@
 //! Tables that are made of the rows of a file, in any order.
 ghost use Rattle.std.specs.Prelude.{◌≡◌, IfOk};
-ghost use Rattle.ks_base.specs.Orders.{grant_cmp, imply_cmp, member_cmp};
 ghost use Rattle.ks_base.specs.Tables.{id_cmp, put_row};
 ghost use Rattle.ks_machine.specs.Opened.{put_all};
 ghost use Rattle.ks_opening.specs.steps.Indexed.{AreApart};
+ghost use Rattle.ks_opening.specs.steps.Tables.{grants_with, people_with, roles_with, tree_with};
 
 use ks_assign::Grants;
 use ks_base::{
@@ -43,14 +43,10 @@ fn set_of<R: Ordered>(alloc: Global, rows: ListOf<R>) -> Result<RowSet<R>, Memor
 }
 
 /// The trees of these domains and projects.
-pub(crate) fn tree_of(
-    alloc: Global,
-    domains: DomainList,
-    projects: ProjectList,
-) -> Result<Tree, Memory>
+fn tree_of(alloc: Global, domains: DomainList, projects: ProjectList) -> Result<Tree, Memory>
     requires domains { AreApart id_cmp (λ row. row.id) domains }
     requires projects { AreApart id_cmp (λ row. row.id) projects }
-    ensures { IfOk result (λ tree. tree ≡ record { domains = put_all (put_row id_cmp (λ row. row.id)) domains; projects = put_all (put_row id_cmp (λ row. row.id)) projects }) }
+    ensures { IfOk result (λ tree. tree ≡ tree_with domains projects) }
 {
     let domains = table_of(alloc, domains)?;
     let projects = table_of(alloc, projects)?;
@@ -58,7 +54,7 @@ pub(crate) fn tree_of(
 }
 
 /// These users and groups, and their memberships.
-pub(crate) fn people_of(
+fn people_of(
     alloc: Global,
     users: UserList,
     groups: GroupList,
@@ -66,7 +62,7 @@ pub(crate) fn people_of(
 ) -> Result<People, Memory>
     requires users { AreApart id_cmp (λ row. row.id) users }
     requires groups { AreApart id_cmp (λ row. row.id) groups }
-    ensures { IfOk result (λ people. people ≡ record { users = put_all (put_row id_cmp (λ row. row.id)) users; groups = put_all (put_row id_cmp (λ row. row.id)) groups; members = put_all (put_row member_cmp (λ row. row)) members }) }
+    ensures { IfOk result (λ people. people ≡ people_with users groups members) }
 {
     let users = table_of(alloc, users)?;
     let groups = table_of(alloc, groups)?;
@@ -75,13 +71,9 @@ pub(crate) fn people_of(
 }
 
 /// These roles, and their implications.
-pub(crate) fn roles_of(
-    alloc: Global,
-    roles: RoleList,
-    implications: ImplyList,
-) -> Result<Roles, Memory>
+fn roles_of(alloc: Global, roles: RoleList, implications: ImplyList) -> Result<Roles, Memory>
     requires { AreApart id_cmp (λ row. row.id) roles }
-    ensures { IfOk result (λ all. all ≡ record { roles = put_all (put_row id_cmp (λ row. row.id)) roles; implications = put_all (put_row imply_cmp (λ row. row)) implications }) }
+    ensures { IfOk result (λ all. all ≡ roles_with roles implications) }
 {
     let roles = table_of(alloc, roles)?;
     let implications = set_of(alloc, implications)?;
@@ -89,8 +81,45 @@ pub(crate) fn roles_of(
 }
 
 /// These grants.
-pub(crate) fn grants_of(alloc: Global, rows: GrantList) -> Result<Grants, Memory>
-    ensures { IfOk result (λ grants. grants ≡ put_all (put_row grant_cmp (λ row. row)) rows) }
+fn grants_of(alloc: Global, rows: GrantList) -> Result<Grants, Memory>
+    ensures { IfOk result (λ grants. grants ≡ grants_with rows) }
 {
     Ok(Grants::from_rows(alloc, set_of(alloc, rows)?))
+}
+
+/// The trees of these domains and projects, and these users and groups with their memberships.
+pub(crate) fn parties_of(
+    alloc: Global,
+    domains: DomainList,
+    projects: ProjectList,
+    users: UserList,
+    groups: GroupList,
+    members: MemberList,
+) -> Result<(Tree, People), Memory>
+    requires domains { AreApart id_cmp (λ row. row.id) domains }
+    requires projects { AreApart id_cmp (λ row. row.id) projects }
+    requires users { AreApart id_cmp (λ row. row.id) users }
+    requires groups { AreApart id_cmp (λ row. row.id) groups }
+    ensures tree { IfOk result (λ made. made.0 ≡ tree_with domains projects) }
+    ensures people { IfOk result (λ made. made.1 ≡ people_with users groups members) }
+{
+    let tree = tree_of(alloc, domains, projects)?;
+    let people = people_of(alloc, users, groups, members)?;
+    Ok((tree, people))
+}
+
+/// These roles with their implications, and these grants.
+pub(crate) fn rights_of(
+    alloc: Global,
+    roles: RoleList,
+    implications: ImplyList,
+    assignments: GrantList,
+) -> Result<(Roles, Grants), Memory>
+    requires { AreApart id_cmp (λ row. row.id) roles }
+    ensures roles { IfOk result (λ made. made.0 ≡ roles_with roles implications) }
+    ensures grants { IfOk result (λ made. made.1 ≡ grants_with assignments) }
+{
+    let roles = roles_of(alloc, roles, implications)?;
+    let grants = grants_of(alloc, assignments)?;
+    Ok((roles, grants))
 }
