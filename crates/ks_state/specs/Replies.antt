@@ -1,5 +1,5 @@
 -- What a call is replied, for each front for which the identity stands.
-use Rattle.std.specs.Prelude.{◌≡◌, ◌⊎◌, false, Option, Some, None}
+use Rattle.std.specs.Prelude.{◌≡◌, ◌⊎◌, false, Option, Some, None, Result, Ok, Err}
 use Rattle.ks_base.specs.declared.kinds.Kind.TheVariants as kind
 use Rattle.ks_machine.specs.declared.body_out.BodyOut.{BodyOut}
 use Rattle.ks_machine.specs.declared.call.Call.{Call}
@@ -9,6 +9,8 @@ use Rattle.ks_machine.specs.declared.reply.Reply.{Reply}
 use Rattle.ks_machine.specs.declared.reply.Reply.TheVariants as reply
 use Rattle.ks_machine.specs.Fronts.{Front, after, answer, then}
 use Rattle.ks_machine.specs.Moment.{moment_of}
+use Rattle.ks_state.specs.declared.unmade.Unmade.{Unmade}
+use Rattle.ks_state.specs.declared.unmade.Unmade.TheVariants as unmade
 use Rattle.ks_state.specs.Shown.{HasRoom, Shown, changed, has_room}
 use Rattle.ks_state.specs.Standing.{Stands}
 
@@ -18,6 +20,12 @@ abbrev pub IsReply : Front → Call → Reply → Shown → Type 0
 IsReply f call said new =
     ((said ≡ answer f call) × Stands new (after f call))
     ⊎ ((said ≡ reply.Refused cause.Memory) × Stands new (then f (moment_of f.high call.reading) None))
+
+-- what is told of a change, where it was made
+abbrev pub told_if : Result (Unit {0}) Unmade → BodyOut → Reply
+told_if (Ok _) told = reply.Ok told
+told_if (Err unmade.Full) told = reply.Refused (cause.Full kind.Event)
+told_if (Err unmade.Memory) told = reply.Refused cause.Memory
 
 -- what was planned is told, and its change is made, if there is one; or there is no room for its revocations, or no memory, and
 -- then nothing changes

@@ -7,7 +7,7 @@ ghost use Rattle.ks_machine.specs.Moment.{moment_of};
 ghost use Rattle.ks_machine.specs.Ranges.{IsSettings};
 ghost use Rattle.ks_state.specs.Deciding.{Decided, IsPlanned};
 ghost use Rattle.ks_state.specs.Planning.{GoOn};
-ghost use Rattle.ks_state.specs.Replies.{CarriesOut};
+ghost use Rattle.ks_state.specs.Replies.{CarriesOut, told_if};
 ghost use Rattle.ks_state.specs.Shown.{FitsWithRoom};
 ghost use Rattle.ks_state.specs.Standing.{Stands};
 
@@ -57,13 +57,9 @@ impl Identity {
         requires { IfSome change (λ what. FitsWithRoom self.old what) }
         ensures { CarriesOut told change self.old result self.new }
     {
-        let Some(change) = change else {
-            return Reply::Ok(told);
-        };
-        match self.make(change) {
-            Ok(()) => Reply::Ok(told),
-            Err(Unmade::Full) => Reply::Refused(Cause::Full(Kind::Event)),
-            Err(Unmade::Memory) => Reply::Refused(Cause::Memory),
+        match change {
+            None => Reply::Ok(told),
+            Some(change) => told_if(self.make(change), told),
         }
     }
 
@@ -88,4 +84,18 @@ impl Identity {
             settings: &self.settings,
         }
     }
+}
+
+/// What is told of a change, where it was made.
+fn told_if(made: Result<(), Unmade>, told: BodyOut) -> Reply
+    ensures { result ≡ told_if made told }
+{
+    let why = match made {
+        Ok(()) => return Reply::Ok(told),
+        Err(Unmade::Full) => Cause::Full(Kind::Event),
+        Err(Unmade::Memory) => Cause::Memory,
+    };
+    // By one call, or each exit would spell out how a body of each kind is let go.
+    drop(told);
+    Reply::Refused(why)
 }
