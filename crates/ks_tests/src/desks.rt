@@ -1,8 +1,9 @@
 //! Desks in memory.
 
 use crate::links::echo;
-use ks_base::{Drawn, Receipt};
+use ks_base::{Drawn, Memory, Receipt};
 use ks_outside::{Desk, Failed, MemoryDesk, MemoryLink, MemorySink, MemorySource};
+use std::alloc::Global;
 use std::test::Fail;
 
 /// Serves the next link: what it says goes back to it, and a receipt notes the moment and a draw.
@@ -32,30 +33,54 @@ pub fn serve<D: Desk>(desk: &mut D) -> Result<Option<u64>, Failed> {
     Ok(Some(moment))
 }
 
-#[test]
-fn a_desk_in_memory_tells_what_it_gave_and_took(rt: HostRuntime) -> Result<(), Fail> {
-    let alloc = rt.alloc();
+/// Links over which these texts come, with room for 8 bytes each.
+fn links(alloc: Global, texts: &[&[u8]]) -> Result<Vec<MemoryLink>, Memory> {
     let mut links = Vec::new(alloc);
-    for text in [b"abc", b"def", b"ghi"] {
+    for text in texts {
         let source = MemorySource::new(alloc, text, &[], 8)?;
         let sink = MemorySink::new(alloc, 8, &[], 8)?;
         links.push(MemoryLink::new(source, sink))?;
     }
+    Ok(links)
+}
+
+/// A desk of three links, two readings and two draws, whose second accept and second fill fail.
+fn three_links(alloc: Global) -> Result<MemoryDesk, Memory> {
+    let links = links(alloc, &[b"abc", b"def", b"ghi"])?;
     let mut random = [1; 192];
     random[64..128].fill(2);
-    let mut desk = MemoryDesk::new(alloc, links, &[5, 7], &random[..130], &[2], &[2])?;
-    for answer in [Ok(Some(5)), Err(Failed), Ok(Some(7)), Ok(Some(7)), Ok(None)] {
-        assert_eq!(rt; serve(&mut desk), answer);
-    }
-    let draws = [Drawn::Bytes([1; 64]), Drawn::Failed, Drawn::Bytes([2; 64])];
-    assert_eq!(rt; desk.receipts().len(), 3);
-    assert!(rt;
-        desk.receipts()
+    MemoryDesk::new(alloc, links, &[5, 7], &random[..130], &[2], &[2])
+}
+
+/// Whether these are the draws that the receipts note.
+fn are_noted(draws: &[Drawn], receipts: &[Receipt]) -> bool {
+    receipts.len() == draws.len()
+        && receipts
             .iter()
-            .zip(&draws)
+            .zip(draws)
             .all(|(receipt, draw)| receipt.draw == *draw)
-    );
-    assert_eq!(rt; desk.given_back().len(), 3);
+}
+
+/// When that desk serves each link.
+const MOMENTS: &[Result<Option<u64>, Failed>] = &[
+    Ok(Some(5)),
+    Err(Failed),
+    Ok(Some(7)),
+    Ok(Some(7)),
+    Ok(None),
+];
+
+/// What it then notes of its draws.
+const DRAWS: &[Drawn] = &[Drawn::Bytes([1; 64]), Drawn::Failed, Drawn::Bytes([2; 64])];
+
+#[test]
+fn a_desk_in_memory_tells_what_it_gave_and_took(rt: HostRuntime) -> Result<(), Fail> {
+    let mut desk = three_links(rt.alloc())?;
+    for moment in MOMENTS {
+        assert!(rt; serve(&mut desk) == *moment);
+    }
+    assert!(rt; are_noted(DRAWS, desk.receipts()));
+    assert!(rt; desk.given_back().len() == 3);
     assert!(rt; desk.given_back()[1].written() == b"def".as_slice());
     Ok(())
 }

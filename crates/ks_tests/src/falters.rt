@@ -51,11 +51,15 @@ fn write<K: Sink>(sink: &mut K) -> Result<usize, Failed> {
 }
 
 #[test]
-fn a_source_tries_again_only_where_it_was_interrupted(rt: HostRuntime) {
+fn a_source_reads_to_the_end_of_its_reader(rt: HostRuntime) {
     let mut text = RealSource::new(b"hello".as_slice());
     for answer in [Ok(4), Ok(1), Ok(0)] {
         assert_eq!(rt; read(&mut text), answer);
     }
+}
+
+#[test]
+fn a_source_tries_again_only_where_it_was_interrupted(rt: HostRuntime) {
     let mut faltering = RealSource::new(Faltering { calls: 0 });
     for answer in [Ok(1), Ok(0), Err(Failed), Err(Failed)] {
         assert_eq!(rt; read(&mut faltering), answer);
@@ -63,15 +67,19 @@ fn a_source_tries_again_only_where_it_was_interrupted(rt: HostRuntime) {
 }
 
 #[test]
-fn a_sink_tries_again_only_where_it_was_interrupted(rt: HostRuntime) -> Result<(), Fail> {
+fn a_sink_writes_to_its_writer(rt: HostRuntime) -> Result<(), Fail> {
     let mut held = Vec::new(rt.alloc());
-    assert_eq!(rt; write_all(&mut RealSink::new(&mut held), b"hello"), Ok(()));
+    write_all(&mut RealSink::new(&mut held), b"hello")?;
     assert!(rt; held.as_slice() == b"hello".as_slice());
+    Ok(())
+}
+
+#[test]
+fn a_sink_tries_again_only_where_it_was_interrupted(rt: HostRuntime) {
     let mut faltering = RealSink::new(Faltering { calls: 0 });
     for answer in [Ok(1), Ok(0), Err(Failed)] {
         assert_eq!(rt; write(&mut faltering), answer);
     }
-    Ok(())
 }
 
 #[test]
