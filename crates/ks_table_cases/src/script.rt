@@ -6,44 +6,47 @@
 use crate::words::Words;
 use crate::world::World;
 use anyhow::Result;
-use std::alloc::Global;
 use std::fs;
 use std::rt::Files;
 
 /// Runs the script of this name, and prints each case whose answer is another, and then how many held.
 pub fn run<R: Files + Print + AllocGlobal>(rt: &R, name: &str) -> Result<()> {
-    let alloc = rt.alloc();
-    let path = format!(in alloc; "{name}.txt")?;
+    let path = format!(in rt.alloc(); "{name}.txt")?;
     let file = fs::read_to_string(rt, path.as_str())?;
-    let text = file.as_str();
-    let mut world = World::new(alloc)?;
+    let mut world = World::new(rt.alloc())?;
+    let held = held(rt, name, file.as_str(), &mut world)?;
+    println!(rt; "{name} {held}")?;
+    Ok(())
+}
+
+/// How many cases of the script hold. Each other is printed.
+fn held<R: Print + AllocGlobal>(rt: &R, name: &str, text: &str, world: &mut World) -> Result<u64> {
     let mut held: u64 = 0;
     for (at, line) in text.lines().enumerate() {
         if is_dashes(line) {
-            world = opened(alloc, text)?;
+            open(world, text)?;
         } else if is_case(line) {
-            match difference(alloc, &mut world, line)? {
+            match difference(world, line)? {
                 None => held = held.saturating_add(1),
                 Some(found) => println!(rt; "{name}, line {}: {found}", at.saturating_add(1))?,
             }
         }
     }
-    println!(rt; "{name} {held}")?;
-    Ok(())
+    Ok(held)
 }
 
-/// The world behind the opening lines of this script.
-fn opened(alloc: Global, text: &str) -> Result<World> {
-    let mut world = World::new(alloc)?;
+/// Empties the world and makes the calls of the opening lines of this script.
+fn open(world: &mut World, text: &str) -> Result<()> {
+    world.clear()?;
     for line in text.lines() {
         if is_dashes(line) {
             break;
         }
         if is_case(line) {
-            let _tried = difference(alloc, &mut world, line)?;
+            let _tried = difference(world, line)?;
         }
     }
-    Ok(world)
+    Ok(())
 }
 
 fn is_dashes(line: &str) -> bool {
@@ -55,7 +58,8 @@ fn is_case(line: &str) -> bool {
 }
 
 /// How the answer of the line's call differs from the one that is wanted, if it does.
-fn difference(alloc: Global, world: &mut World, line: &str) -> Result<Option<String>> {
+fn difference(world: &mut World, line: &str) -> Result<Option<String>> {
+    let alloc = world.alloc;
     let Some((call, wanted)) = line.split_once("->") else {
         return Ok(Some(String::from_str(alloc, "no arrow")?));
     };

@@ -45,6 +45,12 @@ impl World {
         })
     }
 
+    /// Empties all tables and the text.
+    pub fn clear(&mut self) -> Result<()> {
+        *self = World::new(self.alloc)?;
+        Ok(())
+    }
+
     /// What the call of these words answers.
     pub fn answer(&mut self, words: &mut Words) -> Result<String> {
         let name = words.next()?;
