@@ -67,6 +67,27 @@ impl Many {
         Ok(())
     }
 
+    /// Adds the login of a case, and then its other request so often and once more, with the token that the login gives.
+    fn add_all<R: AllocGlobal + Threads + Wait + Sync>(
+        &mut self,
+        rt: &R,
+        world: &World,
+        opening: &Opening,
+        case: &Case,
+    ) -> Result<()> {
+        let alloc = rt.alloc();
+        let (reading, times) = (case.number(1)?, case.number(4)?);
+        let login = expanded(alloc, case.str(2)?, &Names::new(alloc), &world.names)?;
+        self.add(alloc, login.as_str(), reading, LOGIN)?;
+        let written = self.written(rt, opening)?;
+        let caller = token_of(written.as_slice())?;
+        for number in 1..times.saturating_add(2) {
+            let request = numbered(alloc, world, case.str(3)?, caller, number)?;
+            self.add(alloc, request.as_str(), reading, number)?;
+        }
+        Ok(())
+    }
+
     /// What is written over the opening, with the status 0.
     fn written<R: AllocGlobal + Threads + Wait + Sync>(
         &self,
@@ -93,32 +114,33 @@ fn difference<R: AllocGlobal + Threads + Wait + Sync>(
     world: &World,
     case: &Case,
 ) -> Result<Option<String>> {
-    let alloc = rt.alloc();
     let opening = world.opening("o1")?;
-    let (reading, times) = (case.number(1)?, case.number(4)?);
-    let mut many = Many::new(alloc, opening)?;
-    let login = expanded(alloc, case.str(2)?, &Names::new(alloc), &world.names)?;
-    many.add(alloc, login.as_str(), reading, LOGIN)?;
+    let mut many = Many::new(rt.alloc(), opening)?;
+    many.add_all(rt, world, opening, case)?;
     let written = many.written(rt, opening)?;
-    let caller = token_of(written.as_slice())?;
-    for number in 1..times.saturating_add(2) {
-        let mut own = Names::new(alloc);
-        own.add(alloc, "caller", caller)?;
-        own.add(alloc, "number", format!(in alloc; "{number}")?.as_str())?;
-        let request = expanded(alloc, case.str(3)?, &own, &world.names)?;
-        many.add(alloc, request.as_str(), reading, number)?;
-    }
-    let written = many.written(rt, opening)?;
-    let text = std::str::from_utf8(written.as_slice())?;
+    difference_of(rt.alloc(), written.as_slice(), case)
+}
+
+/// How what was written differs from what the case wants, if it does.
+fn difference_of(alloc: Global, written: &[u8], case: &Case) -> Result<Option<String>> {
     let mut granted: u64 = 0;
-    for _piece in text.split(GRANTED).skip(2) {
+    // Before the first response there is nothing, and that is the login's.
+    for _piece in std::str::from_utf8(written)?.split(GRANTED).skip(2) {
         granted = granted.saturating_add(1);
     }
-    if granted != times {
+    if granted != case.number(4)? {
         return Ok(Some(format!(in alloc; "{granted} were granted")?));
     }
-    if !written.as_slice().ends_with(case.bytes(5)) {
+    if !written.ends_with(case.bytes(5)) {
         return Ok(Some(String::from_str(alloc, "another last response")?));
     }
     Ok(None)
+}
+
+/// The request of a cell, by this caller and with this number in it.
+fn numbered(alloc: Global, world: &World, cell: &str, caller: &str, number: u64) -> Result<String> {
+    let mut own = Names::new(alloc);
+    own.add(alloc, "caller", caller)?;
+    own.add(alloc, "number", format!(in alloc; "{number}")?.as_str())?;
+    expanded(alloc, cell, &own, &world.names)
 }

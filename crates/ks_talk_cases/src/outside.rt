@@ -46,19 +46,60 @@ pub fn talk<R: AllocGlobal + Threads + Wait + Sync>(
     outside: &Outside<'_>,
 ) -> Result<End> {
     let alloc = rt.alloc();
-    let mut words = Vec::new(alloc);
-    for word in ["talk", "opening.json", "keys"] {
-        words.push(Text::read(alloc, word.as_bytes())?.context("no text")?)?;
-    }
     let fails = outside.fails;
     let longest = outside.longest.max(1);
     let mut input = MemorySource::new(alloc, outside.input, &[fails.read], longest)?;
+    let mut output = MemorySink::new(alloc, ROOM, &[fails.write], longest)?;
+    let status = talk_over(rt, opening, outside, &mut input, &mut output)?;
+    Ok(End {
+        status,
+        written: Vec::from_slice(alloc, output.written())?,
+    })
+}
+
+/// Runs `talk` between this input and this output.
+fn talk_over<R: AllocGlobal + Threads + Wait + Sync>(
+    rt: &R,
+    opening: &Opening,
+    outside: &Outside<'_>,
+    input: &mut MemorySource,
+    output: &mut MemorySink,
+) -> Result<u8> {
+    let alloc = rt.alloc();
+    let words = words(alloc)?;
     let file = opening.file.as_str().as_bytes();
     let mut file = MemorySource::new(alloc, file, &[opening.fails.file], WHOLE)?;
-    let mut output = MemorySink::new(alloc, ROOM, &[fails.write], longest)?;
     let mut dir = folder(alloc, opening.folder.as_str(), opening.fails.folder)?;
-    let place = folder(alloc, outside.folder, fails.folder)?;
-    let failing = [opening.fails.fill, fails.fill];
+    let mut desks = Vec::new(alloc);
+    desks.push(desk(alloc, opening, outside)?)?;
+    Ok(status_of(
+        rt,
+        words.as_slice(),
+        input,
+        &mut file,
+        output,
+        &mut dir,
+        desks,
+    ))
+}
+
+/// The words of the command line.
+fn words(alloc: Global) -> Result<Vec<Text>> {
+    let mut words = Vec::new(alloc);
+    for word in ["talk", "opening.json", "keys"] {
+        words.push(Text::of(alloc, word)?)?;
+    }
+    Ok(words)
+}
+
+/// The clock and the random bytes of the connection, and the folder beside it.
+fn desk(
+    alloc: Global,
+    opening: &Opening,
+    outside: &Outside<'_>,
+) -> Result<(MemoryDesk, MemoryDir)> {
+    let place = folder(alloc, outside.folder, outside.fails.folder)?;
+    let failing = [opening.fails.fill, outside.fails.fill];
     let links = Vec::new(alloc);
     let desk = MemoryDesk::new(
         alloc,
@@ -68,21 +109,7 @@ pub fn talk<R: AllocGlobal + Threads + Wait + Sync>(
         &[],
         &failing,
     )?;
-    let mut desks = Vec::new(alloc);
-    desks.push((desk, place))?;
-    let status = status_of(
-        rt,
-        words.as_slice(),
-        &mut input,
-        &mut file,
-        &mut output,
-        &mut dir,
-        desks,
-    );
-    Ok(End {
-        status,
-        written: Vec::from_slice(alloc, output.written())?,
-    })
+    Ok((desk, place))
 }
 
 /// The status with which the program ends. No case rests on what `run` promises, so none of that is said again.

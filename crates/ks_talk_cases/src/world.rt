@@ -42,24 +42,9 @@ pub struct World {
 impl World {
     /// Reads the tables of names, of openings and of sessions.
     pub fn read<R: Files + AllocGlobal>(rt: &R) -> Result<World> {
-        let alloc = rt.alloc();
-        let mut names = Names::new(alloc);
-        for row in read_rows(rt, "parts")? {
-            let case = Case::new(row.cells);
-            names.add(alloc, case.str(0)?, case.str(1)?)?;
-        }
-        for row in read_rows(rt, "sealed")? {
-            let case = Case::new(row.cells);
-            names.add(alloc, case.str(0)?, case.str(5)?)?;
-        }
-        let mut openings = Vec::new(alloc);
-        for row in read_rows(rt, "openings")? {
-            openings.push(read_opening(rt, &names, row)?)?;
-        }
-        let mut settings = Vec::new(alloc);
-        for row in read_rows(rt, "sessions")? {
-            settings.push(read_setting(alloc, &names, row)?)?;
-        }
+        let names = read_names(rt)?;
+        let openings = read_openings(rt, &names)?;
+        let settings = read_settings(rt, &names)?;
         Ok(World {
             names,
             openings,
@@ -88,6 +73,43 @@ impl World {
         }
         found
     }
+}
+
+fn read_names<R: Files + AllocGlobal>(rt: &R) -> Result<Names> {
+    let mut names = Names::new(rt.alloc());
+    add_names(rt, &mut names, "parts", 1)?;
+    add_names(rt, &mut names, "sealed", 5)?;
+    Ok(names)
+}
+
+/// Adds the names of a table, whose texts stand in this column.
+fn add_names<R: Files + AllocGlobal>(
+    rt: &R,
+    names: &mut Names,
+    table: &str,
+    column: usize,
+) -> Result<()> {
+    for row in read_rows(rt, table)? {
+        let case = Case::new(row.cells);
+        names.add(rt.alloc(), case.str(0)?, case.str(column)?)?;
+    }
+    Ok(())
+}
+
+fn read_openings<R: Files + AllocGlobal>(rt: &R, names: &Names) -> Result<Vec<Opening>> {
+    let mut openings = Vec::new(rt.alloc());
+    for row in read_rows(rt, "openings")? {
+        openings.push(read_opening(rt, names, row)?)?;
+    }
+    Ok(openings)
+}
+
+fn read_settings<R: Files + AllocGlobal>(rt: &R, names: &Names) -> Result<Vec<Setting>> {
+    let mut settings = Vec::new(rt.alloc());
+    for row in read_rows(rt, "sessions")? {
+        settings.push(read_setting(rt.alloc(), names, row)?)?;
+    }
+    Ok(settings)
 }
 
 fn read_opening<R: Files + AllocGlobal>(rt: &R, names: &Names, row: Row) -> Result<Opening> {
