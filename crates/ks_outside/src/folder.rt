@@ -9,7 +9,7 @@ use crate::{DirFault, Failed, KeyDir};
 use ks_base::limits::LAST_KEY_INDEX;
 use ks_base::{Bytes, Memory};
 use std::alloc::Global;
-use std::fs::{File, OpenFile, OpenOptions};
+use std::fs::{DirEntry, File, OpenFile, OpenOptions};
 use std::io::{ErrorKind, Read, Write};
 use std::marker::Model;
 use std::os::unix::fs::OpenOptionsExt;
@@ -101,16 +101,9 @@ fn list<R: Files + AllocGlobal + Clone + Drop>(rt: &R, path: &str) -> Result<Vec
 {
     // Each index with no content.
     let mut found = Vec::new(rt.alloc());
-    'entries: for entry in fs::read_dir(rt, path)? {
-        match entry {
-            Ok(entry) => {
-                if let Some(index) = index_named(entry.file_name().as_bytes()) {
-                    put(&mut found, index, Bytes::from_vec(Vec::new(rt.alloc())))?;
-                }
-            }
-            // Its name is no text.
-            Err(error) if error.kind() == ErrorKind::InvalidFilename => {}
-            Err(error) => return Err(error.into()),
+    'entries: for entry in told(fs::read_dir(rt, path))? {
+        if let Some(index) = index_of(entry)? {
+            put(&mut found, index, Bytes::from_vec(Vec::new(rt.alloc())))?;
         }
     }
     Ok(indices(rt.alloc(), found.as_slice())?)
@@ -127,10 +120,9 @@ fn read<R: Files + AllocGlobal>(
     if index > LAST_KEY_INDEX {
         return Ok(None);
     }
-    let mut file = match File::open(rt, name_of(rt.alloc(), path, index)?.as_str()) {
-        Ok(file) => file,
-        Err(error) if error.kind() == ErrorKind::NotFound => return Ok(None),
-        Err(error) => return Err(error.into()),
+    let name = name_of(rt.alloc(), path, index)?;
+    let Some(mut file) = if_there(File::open(rt, name.as_str()))? else {
+        return Ok(None);
     };
     let mut held = [0; 65];
     let count = read_front(&mut file, &mut held)?;
@@ -168,29 +160,26 @@ fn write_new<R: Files + AllocGlobal>(
         return Err(DirFault::Failed);
     }
     let mut file = made_anew(rt, fresh.as_str())?;
-    file.write_all(content)?;
-    file.sync_all()?;
+    told(file.write_all(content))?;
+    told(file.sync_all())?;
     if stands(rt, name.as_str())? {
         return Err(DirFault::Failed);
     }
-    fs::rename(rt, fresh.as_str(), name.as_str())?;
+    told(fs::rename(rt, fresh.as_str(), name.as_str()))?;
     sync_names(rt, path)
 }
 
 /// A new file that its owner alone may read. What a stop left under this name is removed first, since a file
 /// that stands keeps its mode.
 fn made_anew<R: Files>(rt: &R, name: &str) -> Result<R::File, DirFault> {
-    match fs::remove_file(rt, name) {
-        Ok(()) => {}
-        Err(error) if error.kind() == ErrorKind::NotFound => {}
-        Err(error) => return Err(error.into()),
-    }
-    let file = OpenOptions::new()
-        .write(true)
-        .create_new(true)
-        .mode(OWNER_ALONE)
-        .open(rt, name)?;
-    Ok(file)
+    if_there(fs::remove_file(rt, name))?;
+    told(
+        OpenOptions::new()
+            .write(true)
+            .create_new(true)
+            .mode(OWNER_ALONE)
+            .open(rt, name),
+    )
 }
 
 fn rename<R: Files + AllocGlobal>(rt: &R, path: &str, from: u32, to: u32) -> Result<(), DirFault> {
@@ -199,7 +188,7 @@ fn rename<R: Files + AllocGlobal>(rt: &R, path: &str, from: u32, to: u32) -> Res
     if from > LAST_KEY_INDEX || to > LAST_KEY_INDEX || stands(rt, new.as_str())? {
         return Err(DirFault::Failed);
     }
-    fs::rename(rt, old.as_str(), new.as_str())?;
+    told(fs::rename(rt, old.as_str(), new.as_str()))?;
     sync_names(rt, path)
 }
 
@@ -208,15 +197,32 @@ fn remove<R: Files + AllocGlobal>(rt: &R, path: &str, index: u32) -> Result<(), 
     if index > LAST_KEY_INDEX {
         return Err(DirFault::Failed);
     }
-    fs::remove_file(rt, name.as_str())?;
+    told(fs::remove_file(rt, name.as_str()))?;
     sync_names(rt, path)
 }
 
 /// Has the disk hold which files the folder has, so that what was made, renamed or removed stays so after a
 /// stop of the machine.
 fn sync_names<R: Files>(rt: &R, path: &str) -> Result<(), DirFault> {
-    File::open(rt, path)?.sync_all()?;
-    Ok(())
+    let folder = told(File::open(rt, path))?;
+    told(folder.sync_all())
+}
+
+/// The answer of a call of the system.
+fn told<T: Drop>(answer: io::Result<T>) -> Result<T, DirFault> {
+    match answer {
+        Ok(value) => Ok(value),
+        Err(error) => Err(error.into()),
+    }
+}
+
+/// The answer of a call of the system, none where what it names is not there.
+fn if_there<T: Drop>(answer: io::Result<T>) -> Result<Option<T>, DirFault> {
+    match answer {
+        Ok(value) => Ok(Some(value)),
+        Err(error) if error.kind() == ErrorKind::NotFound => Ok(None),
+        Err(error) => Err(error.into()),
+    }
 }
 
 fn name_of(alloc: Global, path: &str, index: u32) -> Result<String, Memory> {
@@ -230,9 +236,18 @@ fn fresh_name(alloc: Global, name: &str) -> Result<String, Memory> {
 
 /// Whether there is anything with this name.
 fn stands<R: Files>(rt: &R, name: &str) -> Result<bool, DirFault> {
-    match fs::symlink_metadata(rt, name) {
-        Ok(_) => Ok(true),
-        Err(error) if error.kind() == ErrorKind::NotFound => Ok(false),
+    let found = if_there(fs::symlink_metadata(rt, name))?;
+    Ok(found.is_some())
+}
+
+/// The index of an entry of a folder, if it has one.
+fn index_of<R: Files + Drop>(entry: io::Result<DirEntry<R>>) -> Result<Option<u32>, DirFault>
+    ensures { IfOk result (λ found. IfSome found IsIndex) }
+{
+    match entry {
+        Ok(entry) => Ok(index_named(entry.file_name().as_bytes())),
+        // Its name is no text.
+        Err(error) if error.kind() == ErrorKind::InvalidFilename => Ok(None),
         Err(error) => Err(error.into()),
     }
 }
