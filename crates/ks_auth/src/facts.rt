@@ -12,10 +12,18 @@ use std::marker::Model;
 
 /// What was found out of ciphers, to be used in decisions: what keys make of texts, and what was derived of
 /// passwords. A look-up goes through the facts in the order in which they came.
-#[derive(Drop)]
 pub struct Facts {
     opened: ListOf<Opened>,
     derived: ListOf<Derived>,
+}
+
+impl Drop for Facts {
+    fn drop(self) {
+        let Facts {
+            opened: _,
+            derived: _,
+        } = self;
+    }
 }
 
 impl Model for Facts {

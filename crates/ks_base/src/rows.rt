@@ -3,7 +3,6 @@ ghost use Rattle.std.specs.Prelude.{◌≡◌, IfOk};
 use crate::{Id, Memory, Row, Text, TryCopy};
 
 /// A domain: it holds projects, users and groups.
-#[derive(Drop)]
 pub struct DomainRow {
     pub id: Id,
     /// Unique among domains.
@@ -12,8 +11,18 @@ pub struct DomainRow {
     pub enabled: bool,
 }
 
+impl Drop for DomainRow {
+    fn drop(self) {
+        let DomainRow {
+            id: _,
+            name: _,
+            description: _,
+            enabled: _,
+        } = self;
+    }
+}
+
 /// A project, in the tree of its domain.
-#[derive(Drop)]
 pub struct ProjectRow {
     pub id: Id,
     pub domain: Id,
@@ -25,8 +34,20 @@ pub struct ProjectRow {
     pub enabled: bool,
 }
 
+impl Drop for ProjectRow {
+    fn drop(self) {
+        let ProjectRow {
+            id: _,
+            domain: _,
+            parent: _,
+            name: _,
+            description: _,
+            enabled: _,
+        } = self;
+    }
+}
+
 /// A group of users of any domains.
-#[derive(Drop)]
 pub struct GroupRow {
     pub id: Id,
     pub domain: Id,
@@ -35,13 +56,33 @@ pub struct GroupRow {
     pub description: Text,
 }
 
+impl Drop for GroupRow {
+    fn drop(self) {
+        let GroupRow {
+            id: _,
+            domain: _,
+            name: _,
+            description: _,
+        } = self;
+    }
+}
+
 /// A role, which grants name.
-#[derive(Drop)]
 pub struct RoleRow {
     pub id: Id,
     /// Unique among roles.
     pub name: Text,
     pub description: Text,
+}
+
+impl Drop for RoleRow {
+    fn drop(self) {
+        let RoleRow {
+            id: _,
+            name: _,
+            description: _,
+        } = self;
+    }
 }
 
 impl DomainRow {

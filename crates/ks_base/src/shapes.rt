@@ -5,7 +5,6 @@ use std::alloc::{AllocError, AllocFailed};
 
 /// Why a JSON document is not what was asked for. A path is the names of the members that lead to the
 /// field, joined by full stops; it is empty for the whole document.
-#[derive(Drop)]
 pub enum ShapeFault {
     /// The bytes are no JSON text (RFC 8259) of at most 127 levels.
     NotJson,
@@ -15,6 +14,17 @@ pub enum ShapeFault {
     Kind(Text),
     /// The value at this path has the type, and is outside its limits.
     Range(Text),
+}
+
+impl Drop for ShapeFault {
+    fn drop(self) {
+        match self {
+            ShapeFault::NotJson
+            | ShapeFault::Missing(_)
+            | ShapeFault::Kind(_)
+            | ShapeFault::Range(_) => {}
+        }
+    }
 }
 
 /// Why a document was not read.

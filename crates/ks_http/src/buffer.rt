@@ -229,23 +229,6 @@ impl Buffer {
     {
         let opening = self.opening(alloc, source)?;
         let body = self.body(alloc, source, opening.length)?;
-        let Opening {
-            method,
-            path,
-            query,
-            auth,
-            subject,
-            length: _,
-            close,
-        } = opening;
-        Ok(Request {
-            method,
-            path,
-            query,
-            auth,
-            subject,
-            body,
-            close,
-        })
+        Ok(opening.with_body(body))
     }
 }

@@ -7,11 +7,11 @@ use crate::cause::HttpCause;
 use crate::ending::Ending;
 use crate::fields::{Fields, Only};
 use crate::lines::{cut, is_same};
+use crate::request::Request;
 use ks_base::{Bytes, Method, Text};
 use std::alloc::Global;
 
 /// What a head says of its request.
-#[derive(Drop)]
 pub struct Opening {
     pub method: Method,
     pub path: Text,
@@ -21,6 +21,20 @@ pub struct Opening {
     /// How many bytes the body has.
     pub length: usize,
     pub close: bool,
+}
+
+impl Drop for Opening {
+    fn drop(self) {
+        let Opening {
+            method: _,
+            path: _,
+            query: _,
+            auth: _,
+            subject: _,
+            length: _,
+            close: _,
+        } = self;
+    }
 }
 
 #[tactic(auto, unfolding(crate::specs::Heads::method_of))]
@@ -129,5 +143,29 @@ impl Opening {
             length,
             close: fields.closes(minor),
         })
+    }
+
+    /// The request of this head and this body.
+    pub fn with_body(self, body: Bytes) -> Request
+        ensures { result ≡ record { method = self.method; path = self.path; query = self.query; auth = self.auth; subject = self.subject; body = body; close = self.close } }
+    {
+        let Opening {
+            method,
+            path,
+            query,
+            auth,
+            subject,
+            length: _,
+            close,
+        } = self;
+        Request {
+            method,
+            path,
+            query,
+            auth,
+            subject,
+            body,
+            close,
+        }
     }
 }

@@ -1,7 +1,6 @@
 use ks_base::{Bytes, FieldList};
 
 /// A response of HTTP/1.1 (RFC 9112, section 4).
-#[derive(Drop)]
 pub struct Response {
     /// The status code.
     pub status: u16,
@@ -11,4 +10,15 @@ pub struct Response {
     pub body: Bytes,
     /// The response answers HEAD: its fields are those of its body, which is not written.
     pub without_body: bool,
+}
+
+impl Drop for Response {
+    fn drop(self) {
+        let Response {
+            status: _,
+            fields: _,
+            body: _,
+            without_body: _,
+        } = self;
+    }
 }

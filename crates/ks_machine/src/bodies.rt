@@ -4,31 +4,51 @@ ghost use Rattle.std.specs.Prelude.{◌≡◌, IfOk};
 use ks_base::{Id, ListOf, Memory, Text, TryCopy};
 
 /// A row that is named by its id, or by its name.
-#[derive(Drop)]
 pub enum Named {
     Id(Id),
     Name(Text),
+}
+
+impl Drop for Named {
+    fn drop(self) {
+        match self {
+            Named::Id(_) | Named::Name(_) => {}
+        }
+    }
 }
 
 /// Roles as a body names them.
 pub type NamedList = ListOf<Named>;
 
 /// A user that is named by its id, or by its name and its domain.
-#[derive(Drop)]
 pub enum UserNamed {
     Id(Id),
     Name(Text, Named),
 }
 
+impl Drop for UserNamed {
+    fn drop(self) {
+        match self {
+            UserNamed::Id(_) | UserNamed::Name(_, _) => {}
+        }
+    }
+}
+
 /// A project that is named by its id, or by its name and its domain.
-#[derive(Drop)]
 pub enum ProjectNamed {
     Id(Id),
     Name(Text, Named),
 }
 
+impl Drop for ProjectNamed {
+    fn drop(self) {
+        match self {
+            ProjectNamed::Id(_) | ProjectNamed::Name(_, _) => {}
+        }
+    }
+}
+
 /// What a login shows of who it is.
-#[derive(Drop)]
 pub enum Proof {
     /// The user, and the password.
     Password(UserNamed, Text),
@@ -36,8 +56,15 @@ pub enum Proof {
     Token(Text),
 }
 
+impl Drop for Proof {
+    fn drop(self) {
+        match self {
+            Proof::Password(_, _) | Proof::Token(_) => {}
+        }
+    }
+}
+
 /// Where a login wants to have its roles.
-#[derive(Drop)]
 pub enum ScopeIn {
     /// The body does not say.
     Nothing,
@@ -51,16 +78,33 @@ pub enum ScopeIn {
     Trust(Id),
 }
 
+impl Drop for ScopeIn {
+    fn drop(self) {
+        match self {
+            ScopeIn::Nothing
+            | ScopeIn::Unscoped
+            | ScopeIn::Domain(_)
+            | ScopeIn::Project(_)
+            | ScopeIn::System
+            | ScopeIn::Trust(_) => {}
+        }
+    }
+}
+
 /// The body of a login.
-#[derive(Drop)]
 pub struct LoginBody {
     pub proof: Proof,
     pub scope: ScopeIn,
 }
 
+impl Drop for LoginBody {
+    fn drop(self) {
+        let LoginBody { proof: _, scope: _ } = self;
+    }
+}
+
 /// The body of a creation or a change of one kind of row. A field that is absent is none. The id is
 /// there in a change alone.
-#[derive(Drop)]
 pub enum Made {
     Domain {
         id: Option<Id>,
@@ -96,8 +140,46 @@ pub enum Made {
     },
 }
 
+impl Drop for Made {
+    fn drop(self) {
+        match self {
+            Made::Domain {
+                id: _,
+                name: _,
+                description: _,
+                enabled: _,
+            }
+            | Made::Project {
+                id: _,
+                name: _,
+                domain: _,
+                parent: _,
+                description: _,
+                enabled: _,
+            }
+            | Made::User {
+                id: _,
+                name: _,
+                domain: _,
+                password: _,
+                enabled: _,
+            }
+            | Made::Group {
+                id: _,
+                name: _,
+                domain: _,
+                description: _,
+            }
+            | Made::Role {
+                id: _,
+                name: _,
+                description: _,
+            } => {}
+        }
+    }
+}
+
 /// The body that makes a trust (OS-TRUST).
-#[derive(Drop)]
 pub struct TrustBody {
     pub trustor: Id,
     pub trustee: Id,
@@ -115,6 +197,23 @@ pub struct TrustBody {
     pub count: Option<u32>,
     /// The trust that it passes on.
     pub parent: Option<Id>,
+}
+
+impl Drop for TrustBody {
+    fn drop(self) {
+        let TrustBody {
+            trustor: _,
+            trustee: _,
+            project: _,
+            impersonation: _,
+            roles: _,
+            expires: _,
+            remaining: _,
+            redelegate: _,
+            count: _,
+            parent: _,
+        } = self;
+    }
 }
 
 impl Named {

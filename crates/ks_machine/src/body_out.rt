@@ -17,11 +17,20 @@ pub struct Titled {
 pub type TitledList = ListOf<Titled>;
 
 /// An id and a name within a domain.
-#[derive(Drop)]
 pub struct Homed {
     pub id: Id,
     pub name: Text,
     pub domain: Titled,
+}
+
+impl Drop for Homed {
+    fn drop(self) {
+        let Homed {
+            id: _,
+            name: _,
+            domain: _,
+        } = self;
+    }
 }
 
 /// The trust that a token is of.
@@ -34,7 +43,6 @@ pub struct TrustUse {
 }
 
 /// What is told of a token. Moments are in whole seconds since 1970-01-01T00:00:00Z.
-#[derive(Drop)]
 pub struct TokenOut {
     pub text: Text,
     /// Whether this answer made the token.
@@ -57,8 +65,27 @@ pub struct TokenOut {
     pub system: bool,
 }
 
+impl Drop for TokenOut {
+    fn drop(self) {
+        let TokenOut {
+            text: _,
+            made: _,
+            audit: _,
+            chain: _,
+            methods: _,
+            issued: _,
+            expires: _,
+            user: _,
+            project: _,
+            domain: _,
+            trust: _,
+            roles: _,
+            system: _,
+        } = self;
+    }
+}
+
 /// A row of any kind that is told by itself or in a listing.
-#[derive(Drop)]
 pub enum Row {
     Domain(DomainRow),
     Project(ProjectRow),
@@ -69,12 +96,24 @@ pub enum Row {
     Trust(TrustRow, TitledList),
 }
 
+impl Drop for Row {
+    fn drop(self) {
+        match self {
+            Row::Domain(_)
+            | Row::Project(_)
+            | Row::User(_)
+            | Row::Group(_)
+            | Row::Role(_)
+            | Row::Trust(_, _) => {}
+        }
+    }
+}
+
 /// Rows in the order of their ids.
 pub type RowList = ListOf<Row>;
 
 /// What an answer that grants a command tells. A truth value says whether the command made what is told;
 /// the text at the end is the path of the listing.
-#[derive(Drop)]
 pub enum BodyOut {
     /// Nothing.
     Nothing,
@@ -95,6 +134,26 @@ pub enum BodyOut {
     Events(EventList, Text),
     /// The indices of the keys that are held, rising, and the one that seals.
     Keys(IndexList, u32),
+}
+
+impl Drop for BodyOut {
+    fn drop(self) {
+        match self {
+            BodyOut::Nothing
+            | BodyOut::Version
+            | BodyOut::Token(_)
+            | BodyOut::One(_, _)
+            | BodyOut::Many(_, _, _)
+            | BodyOut::Inference(_, _, _)
+            | BodyOut::Inferences(_, _)
+            | BodyOut::Grants(_, _)
+            | BodyOut::Assignments(_, _)
+            | BodyOut::Trusts(_, _)
+            | BodyOut::TrustRoles(_, _)
+            | BodyOut::Events(_, _)
+            | BodyOut::Keys(_, _) => {}
+        }
+    }
 }
 
 impl Titled {

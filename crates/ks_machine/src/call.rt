@@ -2,7 +2,6 @@ use crate::Command;
 use ks_base::{Drawn, KeyList, KeysFault, Text};
 
 /// What was read of the folder of keys for a call.
-#[derive(Drop)]
 pub enum FolderRead {
     /// The command does not ask for it.
     Unused,
@@ -11,8 +10,15 @@ pub enum FolderRead {
     Fault(KeysFault),
 }
 
+impl Drop for FolderRead {
+    fn drop(self) {
+        match self {
+            FolderRead::Unused | FolderRead::Keys(_) | FolderRead::Fault(_) => {}
+        }
+    }
+}
+
 /// A request to the machine, with all that it may know of the outside.
-#[derive(Drop)]
 pub struct Call {
     pub command: Command,
     /// The text of the token of who asks.
@@ -24,4 +30,17 @@ pub struct Call {
     /// The random bytes that were drawn for it.
     pub draw: Drawn,
     pub folder: FolderRead,
+}
+
+impl Drop for Call {
+    fn drop(self) {
+        let Call {
+            command: _,
+            caller: _,
+            subject: _,
+            reading: _,
+            draw: _,
+            folder: _,
+        } = self;
+    }
 }

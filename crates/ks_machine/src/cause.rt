@@ -13,7 +13,6 @@ pub enum ScopeWhy {
 }
 
 /// Why a command is refused.
-#[derive(Drop)]
 pub enum Cause {
     /// The body or the query is not what the route asks for.
     Shape(ShapeFault),
@@ -59,4 +58,34 @@ pub enum Cause {
     KeyDir,
     /// There was no memory.
     Memory,
+}
+
+impl Drop for Cause {
+    fn drop(self) {
+        match self {
+            Cause::Shape(_)
+            | Cause::NoToken
+            | Cause::CallerToken(_)
+            | Cause::Credentials
+            | Cause::ScopeRefused(_)
+            | Cause::Rule(_)
+            | Cause::Trust(_)
+            | Cause::Tree(_)
+            | Cause::Prohibited
+            | Cause::Immutable(_)
+            | Cause::TrustToken
+            | Cause::KeyMode
+            | Cause::Absent(_, _)
+            | Cause::SubjectToken(_)
+            | Cause::NoRoute
+            | Cause::NoMethod(_)
+            | Cause::NameTaken(_)
+            | Cause::Keys(_)
+            | Cause::Full(_)
+            | Cause::IdTaken(_)
+            | Cause::Random
+            | Cause::KeyDir
+            | Cause::Memory => {}
+        }
+    }
 }

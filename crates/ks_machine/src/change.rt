@@ -37,11 +37,20 @@ pub enum Change {
 }
 
 /// A change in the journal.
-#[derive(Drop)]
 pub struct Entry {
     /// Its place, counted from 0.
     pub number: u64,
     /// The moment at which it was made, in whole seconds since 1970-01-01T00:00:00Z.
     pub moment: u64,
     pub change: Change,
+}
+
+impl Drop for Entry {
+    fn drop(self) {
+        let Entry {
+            number: _,
+            moment: _,
+            change: _,
+        } = self;
+    }
 }

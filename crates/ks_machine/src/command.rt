@@ -2,7 +2,6 @@ use crate::{LoginBody, Made, TrustBody};
 use ks_base::{Actor, Filter, GrantRow, Id, ImplyRow, Kind, MemberRow, Target, Text};
 
 /// What a request asks for, by the route that it came on.
-#[derive(Drop)]
 pub enum Command {
     /// The version document.
     Version,
@@ -51,4 +50,45 @@ pub enum Command {
     RotateKeys,
     /// The keys of the folder are to be held.
     LoadKeys,
+}
+
+impl Drop for Command {
+    fn drop(self) {
+        match self {
+            Command::Version
+            | Command::Login(_)
+            | Command::Validate(_)
+            | Command::Check(_)
+            | Command::RevokeToken
+            | Command::Create(_)
+            | Command::List(_, _)
+            | Command::Get(_, _)
+            | Command::Update(_, _)
+            | Command::Delete(_, _)
+            | Command::ChangePassword(_, _, _)
+            | Command::GroupsOf(_)
+            | Command::MembersOf(_)
+            | Command::Join(_)
+            | Command::IsIn(_)
+            | Command::Leave(_)
+            | Command::Implied(_)
+            | Command::Imply(_)
+            | Command::Implication(_)
+            | Command::IsImplied(_)
+            | Command::Unimply(_)
+            | Command::GrantsOf(_, _, _)
+            | Command::Grant(_)
+            | Command::IsGranted(_)
+            | Command::Ungrant(_)
+            | Command::Assignments(_)
+            | Command::CreateTrust(_)
+            | Command::Trusts(_)
+            | Command::Trust(_)
+            | Command::DeleteTrust(_)
+            | Command::TrustRoles(_)
+            | Command::Events
+            | Command::RotateKeys
+            | Command::LoadKeys => {}
+        }
+    }
 }

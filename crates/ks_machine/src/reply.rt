@@ -1,8 +1,15 @@
 use crate::{BodyOut, Cause};
 
 /// The answer to a request.
-#[derive(Drop)]
 pub enum Reply {
     Ok(BodyOut),
     Refused(Cause),
+}
+
+impl Drop for Reply {
+    fn drop(self) {
+        match self {
+            Reply::Ok(_) | Reply::Refused(_) => {}
+        }
+    }
 }

@@ -20,7 +20,6 @@ use ks_tree::Tree;
 use std::alloc::Global;
 
 /// What a server opens with, its rows in tables and its keys in a list.
-#[derive(Drop)]
 pub(crate) struct Filled {
     pub(crate) settings: Settings,
     pub(crate) rules: Rules,
@@ -29,6 +28,20 @@ pub(crate) struct Filled {
     pub(crate) people: People,
     pub(crate) roles: Roles,
     pub(crate) grants: Grants,
+}
+
+impl Drop for Filled {
+    fn drop(self) {
+        let Filled {
+            settings: _,
+            rules: _,
+            keys: _,
+            tree: _,
+            people: _,
+            roles: _,
+            grants: _,
+        } = self;
+    }
 }
 
 impl Filled {
@@ -85,14 +98,23 @@ impl Filled {
     pub(crate) fn with_ring(self, ring: Ring) -> Opened
         ensures { result ≡ with_ring self ring }
     {
+        let Filled {
+            settings,
+            rules,
+            keys: _,
+            tree,
+            people,
+            roles,
+            grants,
+        } = self;
         Opened {
-            settings: self.settings,
-            rules: self.rules,
+            settings,
+            rules,
             ring,
-            tree: self.tree,
-            people: self.people,
-            roles: self.roles,
-            grants: self.grants,
+            tree,
+            people,
+            roles,
+            grants,
         }
     }
 }

@@ -19,13 +19,24 @@ use ks_policy::Opening;
 use std::alloc::Global;
 
 /// The rows of an opening, found by their ids.
-#[derive(Drop)]
 pub(crate) struct Listed<'a> {
     pub(crate) domains: Index<'a, DomainRow>,
     pub(crate) projects: Index<'a, ProjectRow>,
     pub(crate) users: Index<'a, UserRow>,
     pub(crate) groups: Index<'a, GroupRow>,
     pub(crate) roles: Index<'a, RoleRow>,
+}
+
+impl Drop for Listed<'_> {
+    fn drop(self) {
+        let Listed {
+            domains: _,
+            projects: _,
+            users: _,
+            groups: _,
+            roles: _,
+        } = self;
+    }
 }
 
 impl<'a> Listed<'a> {

@@ -13,7 +13,6 @@ use std::marker::Model;
 use std::vec::IntoIter;
 
 /// A desk in memory, which tells all that it holds. Chosen accepts and fills fail.
-#[derive(Drop)]
 pub struct MemoryDesk {
     coming: IntoIter<MemoryLink>,
     returned: Vec<MemoryLink>,
@@ -23,6 +22,21 @@ pub struct MemoryDesk {
     receipts: Vec<Receipt>,
     accepts: Calls,
     fills: Calls,
+}
+
+impl Drop for MemoryDesk {
+    fn drop(self) {
+        let MemoryDesk {
+            coming: _,
+            returned: _,
+            readings: _,
+            random: _,
+            drawn: _,
+            receipts: _,
+            accepts: _,
+            fills: _,
+        } = self;
+    }
 }
 
 impl Model for MemoryDesk {

@@ -13,11 +13,20 @@ use std::marker::Model;
 
 /// A key folder in memory, which tells its files. Chosen calls fail, and where it is so made every call
 /// after a number of them. A call that fails changes no file.
-#[derive(Drop)]
 pub struct MemoryDir {
     files: Vec<(u32, Bytes)>,
     limit: Option<u64>,
     calls: Calls,
+}
+
+impl Drop for MemoryDir {
+    fn drop(self) {
+        let MemoryDir {
+            files: _,
+            limit: _,
+            calls: _,
+        } = self;
+    }
 }
 
 impl Model for MemoryDir {

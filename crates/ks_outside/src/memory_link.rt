@@ -8,10 +8,15 @@ use std::marker::Model;
 
 /// A link in memory: what it gives to read, and what was written to it. Either side leaves the other as it
 /// is.
-#[derive(Drop)]
 pub struct MemoryLink {
     source: MemorySource,
     sink: MemorySink,
+}
+
+impl Drop for MemoryLink {
+    fn drop(self) {
+        let MemoryLink { source: _, sink: _ } = self;
+    }
 }
 
 impl Model for MemoryLink {

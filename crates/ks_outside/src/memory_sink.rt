@@ -11,12 +11,22 @@ use std::marker::Model;
 
 /// A sink in memory, which tells what was written. It takes its room when it is made, so that a write
 /// needs no memory. Its writes can be made short, and chosen ones fail.
-#[derive(Drop)]
 pub struct MemorySink {
     bytes: Vec<u8>,
     room: usize,
     longest: usize,
     calls: Calls,
+}
+
+impl Drop for MemorySink {
+    fn drop(self) {
+        let MemorySink {
+            bytes: _,
+            room: _,
+            longest: _,
+            calls: _,
+        } = self;
+    }
 }
 
 impl Model for MemorySink {

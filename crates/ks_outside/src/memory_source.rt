@@ -10,12 +10,22 @@ use std::alloc::Global;
 use std::marker::Model;
 
 /// A source in memory, which tells what it holds. Its reads can be made short, and chosen ones fail.
-#[derive(Drop)]
 pub struct MemorySource {
     bytes: Vec<u8>,
     at: usize,
     longest: usize,
     calls: Calls,
+}
+
+impl Drop for MemorySource {
+    fn drop(self) {
+        let MemorySource {
+            bytes: _,
+            at: _,
+            longest: _,
+            calls: _,
+        } = self;
+    }
 }
 
 impl Model for MemorySource {

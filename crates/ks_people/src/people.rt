@@ -5,12 +5,22 @@ use std::alloc::Global;
 use std::marker::Model;
 
 /// Users, groups, and which users are in which groups.
-#[derive(Drop)]
 pub struct People {
     pub(crate) alloc: Global,
     pub(crate) users: Table<UserRow>,
     pub(crate) groups: Table<GroupRow>,
     pub(crate) members: RowSet<MemberRow>,
+}
+
+impl Drop for People {
+    fn drop(self) {
+        let People {
+            alloc: _,
+            users: _,
+            groups: _,
+            members: _,
+        } = self;
+    }
 }
 
 impl Model for People {

@@ -22,10 +22,18 @@ use ks_policy::Rules;
 use std::alloc::Global;
 
 /// The caller and the token that a call is about, each where the command asks for one.
-#[derive(Drop)]
 pub struct Parties {
     pub caller: Option<Caller>,
     pub subject: Option<Caller>,
+}
+
+impl Drop for Parties {
+    fn drop(self) {
+        let Parties {
+            caller: _,
+            subject: _,
+        } = self;
+    }
 }
 
 /// Goes on where the rule of this action allows it.

@@ -7,10 +7,15 @@ use ks_rule::Rule;
 use std::marker::Model;
 
 /// A rule with its name.
-#[derive(Drop)]
 pub struct NamedRule {
     name: Text,
     rule: Rule,
+}
+
+impl Drop for NamedRule {
+    fn drop(self) {
+        let NamedRule { name: _, rule: _ } = self;
+    }
 }
 
 impl Model for NamedRule {

@@ -11,11 +11,16 @@ use std::marker::Model;
 
 /// The rules of a policy, none of which reaches itself. Contracts see them as a list of named trees, in the order
 /// of their names.
-#[derive(Drop)]
 pub struct Rules {
     table: RuleTable,
     /// For each rule the places that it reaches, each behind those that its rule names.
     needs: Vec<ListOf<u16>>,
+}
+
+impl Drop for Rules {
+    fn drop(self) {
+        let Rules { table: _, needs: _ } = self;
+    }
 }
 
 impl Model for Rules {

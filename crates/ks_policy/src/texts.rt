@@ -6,10 +6,15 @@ use ks_base::{Memory, Text};
 use std::alloc::Global;
 
 /// The text of a rule.
-#[derive(Drop)]
 pub struct RuleText {
     pub name: Text,
     pub text: Text,
+}
+
+impl Drop for RuleText {
+    fn drop(self) {
+        let RuleText { name: _, text: _ } = self;
+    }
 }
 
 impl Named for RuleText {

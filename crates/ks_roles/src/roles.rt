@@ -9,11 +9,20 @@ use std::alloc::Global;
 use std::marker::Model;
 
 /// Roles, and which of them imply which others.
-#[derive(Drop)]
 pub struct Roles {
     pub(crate) alloc: Global,
     pub(crate) roles: Table<RoleRow>,
     pub(crate) implications: RowSet<ImplyRow>,
+}
+
+impl Drop for Roles {
+    fn drop(self) {
+        let Roles {
+            alloc: _,
+            roles: _,
+            implications: _,
+        } = self;
+    }
 }
 
 impl Model for Roles {

@@ -11,7 +11,6 @@ use ks_base::{Memory, Text};
 use std::alloc::Global;
 
 /// A rule as a tree. Contracts see it as its `tree_of`.
-#[derive(Drop)]
 pub enum Rule {
     Always,
     Never,
@@ -24,6 +23,21 @@ pub enum Rule {
     Not(Box<Rule>),
     And(Box<Rule>, Box<Rule>),
     Or(Box<Rule>, Box<Rule>),
+}
+
+impl Drop for Rule {
+    fn drop(self) {
+        match self {
+            Rule::Always
+            | Rule::Never
+            | Rule::Named(_)
+            | Rule::Role(_)
+            | Rule::Compare(_, _)
+            | Rule::Not(_)
+            | Rule::And(_, _)
+            | Rule::Or(_, _) => {}
+        }
+    }
 }
 
 fn is_utf8(text: &[u8]) -> bool

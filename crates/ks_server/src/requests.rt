@@ -33,10 +33,10 @@ pub fn call_of(
 ) -> Call
     ensures { result ≡ record { command = command; caller = request.auth; subject = request.subject; reading = reading; draw = draw; folder = folder } }
 {
-    let Request { auth, subject, .. } = request;
+    let (caller, subject) = request.into_tokens();
     Call {
         command,
-        caller: auth,
+        caller,
         subject,
         reading,
         draw,

@@ -6,7 +6,6 @@ use ks_base::{Memory, Text};
 use std::alloc::{AllocError, Global};
 
 /// What a command works on.
-#[derive(Drop)]
 pub struct Places {
     /// The path of the opening file.
     pub file: Option<Text>,
@@ -16,6 +15,17 @@ pub struct Places {
     pub address: Option<Text>,
     /// How many desks serve.
     pub workers: u32,
+}
+
+impl Drop for Places {
+    fn drop(self) {
+        let Places {
+            file: _,
+            folder: _,
+            address: _,
+            workers: _,
+        } = self;
+    }
 }
 
 /// A command of the program.

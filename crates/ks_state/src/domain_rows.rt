@@ -18,12 +18,22 @@ use ks_tree::Tree;
 use std::alloc::Global;
 
 /// A domain, and its projects, users and groups.
-#[derive(Drop)]
 pub(crate) struct DomainRows {
     pub(crate) domain: Id,
     pub(crate) projects: IdSet,
     pub(crate) users: IdSet,
     pub(crate) groups: IdSet,
+}
+
+impl Drop for DomainRows {
+    fn drop(self) {
+        let DomainRows {
+            domain: _,
+            projects: _,
+            users: _,
+            groups: _,
+        } = self;
+    }
 }
 
 impl DomainRows {

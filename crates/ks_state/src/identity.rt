@@ -16,7 +16,6 @@ use std::marker::Model;
 
 /// The identity of a server. Contracts see the machine's state, whose revocations are the live ones alone, and the newest
 /// changes: at most 65,536.
-#[derive(Drop)]
 pub struct Identity {
     pub(crate) alloc: Global,
     pub(crate) settings: Settings,
@@ -28,6 +27,23 @@ pub struct Identity {
     pub(crate) grants: Grants,
     pub(crate) trusts: Trusts,
     pub(crate) log: Log,
+}
+
+impl Drop for Identity {
+    fn drop(self) {
+        let Identity {
+            alloc: _,
+            settings: _,
+            rules: _,
+            ring: _,
+            tree: _,
+            people: _,
+            roles: _,
+            grants: _,
+            trusts: _,
+            log: _,
+        } = self;
+    }
 }
 
 impl Model for Identity {

@@ -19,12 +19,22 @@ use std::marker::Model;
 const CHANGES: u64 = 1 << 58;
 
 /// The live revocations, the newest changes, and how many changes were made.
-#[derive(Drop)]
 pub(crate) struct Log {
     revoked: Revoked,
     high: u64,
     newest: VecDeque<Entry>,
     made: u64,
+}
+
+impl Drop for Log {
+    fn drop(self) {
+        let Log {
+            revoked: _,
+            high: _,
+            newest: _,
+            made: _,
+        } = self;
+    }
 }
 
 impl Model for Log {

@@ -36,9 +36,9 @@ impl Identity {
     {
         few_facts_suffice();
         match planned {
-            Ok(Plan { told, change }) => {
+            Ok(plan) => {
                 self.raise(moment);
-                Decision::Done(self.carry_out(told, change))
+                Decision::Done(self.carry_out(plan))
             }
             Err(Halt::Refused(cause)) => {
                 self.raise(moment);
@@ -53,7 +53,16 @@ impl Identity {
     }
 
     /// Makes the change that was planned, if there is one, and tells what was planned.
-    fn carry_out(&mut self, told: BodyOut, change: Option<Change>) -> Reply
+    fn carry_out(&mut self, plan: Plan) -> Reply
+        requires { IfSome plan.change (λ what. FitsWithRoom self.old what) }
+        ensures { CarriesOut plan.told plan.change self.old result self.new }
+    {
+        let (told, change) = plan.into_parts();
+        self.make_and_tell(told, change)
+    }
+
+    /// Makes this change, if it is one, and tells this.
+    fn make_and_tell(&mut self, told: BodyOut, change: Option<Change>) -> Reply
         requires { IfSome change (λ what. FitsWithRoom self.old what) }
         ensures { CarriesOut told change self.old result self.new }
     {

@@ -56,10 +56,15 @@ fn gone_with<T: Test<TrustRow>>(trusts: &Trusts, test: &T) -> Result<IdList, Mem
 }
 
 /// The trusts that go with a change, and what ends with them.
-#[derive(Drop)]
 pub(crate) struct TrustsGone {
     pub(crate) ids: IdList,
     pub(crate) things: ListOf<Revoke>,
+}
+
+impl Drop for TrustsGone {
+    fn drop(self) {
+        let TrustsGone { ids: _, things: _ } = self;
+    }
 }
 
 /// The trusts that pass, and all that descend from one of them, and their ends behind those that come first.

@@ -8,7 +8,6 @@ use ks_machine::OpenFault;
 use ks_setup::OpeningFault;
 
 /// Why a command did not end whole.
-#[derive(Drop)]
 pub enum Fault {
     /// The words are not a command's.
     Usage,
@@ -30,6 +29,23 @@ pub enum Fault {
     Keys(KeysFault),
     /// The first desk had no random bytes; or, once an identity was opened, a desk accepted no more connections.
     Desk,
+}
+
+impl Drop for Fault {
+    fn drop(self) {
+        match self {
+            Fault::Usage
+            | Fault::Read
+            | Fault::Write
+            | Fault::Memory
+            | Fault::BadLine(_)
+            | Fault::Opening(_)
+            | Fault::State(_)
+            | Fault::Folder
+            | Fault::Keys(_)
+            | Fault::Desk => {}
+        }
+    }
 }
 
 impl Fault {

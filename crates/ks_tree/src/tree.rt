@@ -9,11 +9,20 @@ use std::alloc::Global;
 use std::marker::Model;
 
 /// Domains, and the projects that lie in them as trees.
-#[derive(Drop)]
 pub struct Tree {
     pub(crate) alloc: Global,
     pub(crate) domains: Table<DomainRow>,
     pub(crate) projects: Table<ProjectRow>,
+}
+
+impl Drop for Tree {
+    fn drop(self) {
+        let Tree {
+            alloc: _,
+            domains: _,
+            projects: _,
+        } = self;
+    }
 }
 
 impl Model for Tree {

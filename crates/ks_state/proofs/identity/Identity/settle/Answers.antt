@@ -1,4 +1,4 @@
-use Rattle.std.proofs.Common.{IfSome, Err, refl, sym, ap, subst, ◌∙◌}
+use Rattle.std.proofs.Common.{IfSome, Ok, Err, refl, sym, ap, subst, ◌∙◌}
 use Rattle.ks_auth.specs.Facts.{told}
 use Rattle.ks_machine.specs.declared.cause.Cause.TheVariants as cause
 use Rattle.ks_machine.specs.declared.reply.Reply.TheVariants as reply
@@ -12,18 +12,18 @@ pub carry_out-requires : goal.carry_out-requires
 carry_out-requires c =
     let f = c.requires.stands.0 in
     let stands = c.requires.stands.1 in
-    let planned = subst (IsPlanned (told c.args._facts.now) f c.args._call.now) c.in-Ok.is (c.requires.planned f stands) in
-    subst (λ (v : Shown). IfSome c.in-Ok.field-0.change (λ what. FitsWithRoom v what)) (sym c.raise.ensures)
-    (planned_fits c.args._facts.now c.args.self.now f c.args._call.now c.args.moment c.in-Ok.field-0 c.few_facts_suffice.ensures c.requires.lawful
+    let planned = subst (IsPlanned (told c.args._facts.now) f c.args._call.now) (c.in-Ok.is ∙ ap Ok c.in-Ok.plan-is) (c.requires.planned f stands) in
+    subst (λ (v : Shown). IfSome c.in-Ok.plan.change (λ what. FitsWithRoom v what)) (sym c.raise.ensures)
+    (planned_fits c.args._facts.now c.args.self.now f c.args._call.now c.args.moment c.in-Ok.plan c.few_facts_suffice.ensures c.requires.lawful
     c.requires.fit stands c.requires.moment planned)
 
 pub returns-in-Ok : goal.returns-in-Ok
 returns-in-Ok c = record {
   decided = λ f stands.
-      let planned = subst (IsPlanned (told c.args._facts.now) f c.args._call.now) c.in-Ok.is (c.requires.planned f stands) in
-      done_reply c.args._facts.now c.args.self.now f c.args._call.now c.args.moment c.in-Ok.field-0 c.carry_out.result c.carry_out.new.self
+      let planned = subst (IsPlanned (told c.args._facts.now) f c.args._call.now) (c.in-Ok.is ∙ ap Ok c.in-Ok.plan-is) (c.requires.planned f stands) in
+      done_reply c.args._facts.now c.args.self.now f c.args._call.now c.args.moment c.in-Ok.plan c.carry_out.result c.carry_out.new.self
       c.few_facts_suffice.ensures c.requires.lawful c.requires.fit stands c.requires.moment planned
-      (subst (λ (v : Shown). CarriesOut c.in-Ok.field-0.told c.in-Ok.field-0.change v c.carry_out.result c.carry_out.new.self) c.raise.ensures c.carry_out.ensures);
+      (subst (λ (v : Shown). CarriesOut c.in-Ok.plan.told c.in-Ok.plan.change v c.carry_out.result c.carry_out.new.self) c.raise.ensures c.carry_out.ensures);
 }
 
 pub returns-in-Err-Refused : goal.returns-in-Err-Refused
