@@ -1,11 +1,13 @@
 //! A token whose key is rotated away while it is validated.
-ghost use Rattle.std.specs.Prelude.{◌≡◌};
+ghost use Rattle.std.specs.Prelude.{◌≡◌, IfOk};
+ghost use Rattle.ks_machine.specs.Fit.{Fit};
 
-use crate::calls::{ANN, BOB, log_in, rotate, validate};
+use crate::calls::{ANN, BOB, rotate, validate};
 use crate::gates::HoldingGate;
-use crate::workers::{Replies, beside, make, token_of};
+use crate::workers::{Replies, beside, make, token_for};
 use anyhow::{Result, bail, ensure};
-use ks_machine::{BodyOut, Cause, Reply, Why};
+use ks_base::Text;
+use ks_machine::{BodyOut, Call, Cause, Reply, Why};
 use ks_outside::{Open, Place};
 use ks_state::Identity;
 use ks_turn::{First, Pass, Turn};
@@ -19,31 +21,72 @@ use std::thread::Threads;
 pub fn try_case<N: First + Send + Sync, R: Threads + Wait + Sync>(
     alloc: Global,
     rt: &R,
-    turn: Turn<Identity, N>,
+    turn: &Turn<Identity, N>,
     pass: Pass<N>,
 ) -> Result<()>
-    requires own { pass.turn ≡ turn }
+    requires own { pass.turn ≡ turn.now }
     requires weight { pass.weight ≡ 1000000 }
 {
-    let call = log_in(alloc, BOB, "hunter2", 1)?;
-    let (pass, reply) = make(alloc, rt, &turn, pass, &call, &Open);
-    let subject = token_of(reply)?;
-    let call = log_in(alloc, ANN, "secret", 2)?;
-    let (pass, reply) = make(alloc, rt, &turn, pass, &call, &Open);
-    let caller = token_of(reply)?;
-    let call = rotate(&caller, 3)?;
-    let (pass, reply) = make(alloc, rt, &turn, pass, &call, &Open);
-    ensure!(are_keys(&reply, &[0, 1, 2]), "the first rotation fails");
-    let call = log_in(alloc, ANN, "secret", 4)?;
-    let (pass, reply) = make(alloc, rt, &turn, pass, &call, &Open);
-    let caller = token_of(reply)?;
+    let (pass, subject) = token_for(alloc, rt, turn, pass, BOB, "hunter2", 1)?;
+    let (pass, caller) = token_for(alloc, rt, turn, pass, ANN, "secret", 2)?;
+    let pass = rotate_first(alloc, rt, turn, pass, &caller)?;
+    let (pass, caller) = token_for(alloc, rt, turn, pass, ANN, "secret", 4)?;
     let held = validate(&caller, &subject)?;
-    let (pass, reply) = make(alloc, rt, &turn, pass, &held, &Open);
+    let pass = validate_first(alloc, rt, turn, pass, &held)?;
+    hold_back(alloc, rt, turn, pass, &caller, &held)
+}
+
+/// The first rotation, by which the key of index 1 is kept.
+fn rotate_first<N: First, R: Wait>(
+    alloc: Global,
+    rt: &R,
+    turn: &Turn<Identity, N>,
+    pass: Pass<N>,
+    caller: &Text,
+) -> Result<Pass<N>>
+    requires own { pass.turn ≡ turn.now }
+    ensures { IfOk result (λ next. (next.turn ≡ pass.turn) × (next.weight ≡ pass.weight)) }
+{
+    let call = rotate(caller, 3)?;
+    let (pass, reply) = make(alloc, rt, turn, pass, &call, &Open);
+    ensure!(are_keys(&reply, &[0, 1, 2]), "the first rotation fails");
+    Ok(pass)
+}
+
+/// The first validation of bob's token.
+fn validate_first<N: First, R: Wait>(
+    alloc: Global,
+    rt: &R,
+    turn: &Turn<Identity, N>,
+    pass: Pass<N>,
+    call: &Call,
+) -> Result<Pass<N>>
+    requires own { pass.turn ≡ turn.now }
+    requires fit { Fit call.now }
+    ensures { IfOk result (λ next. (next.turn ≡ pass.turn) × (next.weight ≡ pass.weight)) }
+{
+    let (pass, reply) = make(alloc, rt, turn, pass, call, &Open);
     ensure!(is_token(&reply), "the token is refused from the start");
+    Ok(pass)
+}
+
+/// The validation that is held where it is about to open tokens, and what is done meanwhile.
+fn hold_back<N: First + Send + Sync, R: Threads + Wait + Sync>(
+    alloc: Global,
+    rt: &R,
+    turn: &Turn<Identity, N>,
+    pass: Pass<N>,
+    caller: &Text,
+    held: &Call,
+) -> Result<()>
+    requires own { pass.turn ≡ turn.now }
+    requires weight { pass.weight ≡ 1000000 }
+    requires fit { Fit held.now }
+{
     let gate = HoldingGate::new(Place::Opening);
-    let first = validate(&caller, &caller)?;
-    let second = rotate(&caller, 5)?;
-    let (_, replies) = beside(alloc, rt, &turn, pass, &gate, &held, &first, &second);
+    let first = validate(caller, caller)?;
+    let second = rotate(caller, 5)?;
+    let (_, replies) = beside(alloc, rt, turn, pass, &gate, held, &first, &second);
     gate.ensure_met()?;
     judge(&replies)
 }

@@ -39,10 +39,15 @@ impl Case {
 }
 
 /// What all cases share: the opening file, and the links that desks have.
-#[derive(Drop)]
 pub struct World {
     file: String,
     links: Links,
+}
+
+impl Drop for World {
+    fn drop(self) {
+        let World { file: _, links: _ } = self;
+    }
 }
 
 impl World {
@@ -93,7 +98,7 @@ fn try_over<N: First + Send + Sync, R: AllocGlobal + Threads + Wait + Sync>(
         bail!("no memory");
     };
     match case {
-        Case::AgedToken => aged_token::try_case(alloc, rt, turn, pass),
+        Case::AgedToken => aged_token::try_case(alloc, rt, &turn, pass),
         Case::OldPassword => old_password::try_case(alloc, rt, turn, pass, world.file()),
         Case::Meeting => desks::try_meeting(alloc, rt, &turn, pass, links, url),
         Case::TwoDesks => desks::try_both(alloc, rt, &turn, pass, links, url),

@@ -91,12 +91,21 @@ fn ensure_answered(desk: &MemoryDesk, link: &Link) -> Result<()> {
 }
 
 /// Two desks that were served.
-#[derive(Drop)]
 struct Both {
     first: MemoryDesk,
     second: MemoryDesk,
     /// Some accept failed.
     failed: bool,
+}
+
+impl Drop for Both {
+    fn drop(self) {
+        let Both {
+            first: _,
+            second: _,
+            failed: _,
+        } = self;
+    }
 }
 
 /// Serves two desks until no more links come.

@@ -14,12 +14,22 @@ const DRAWN: usize = 64;
 const WHOLE: usize = 65_536;
 
 /// What a link brings, what its desk draws for it, and all that is to be written to it.
-#[derive(Drop)]
 pub struct Link {
     name: String,
     drawn: Vec<u8>,
     request: Vec<u8>,
     response: Vec<u8>,
+}
+
+impl Drop for Link {
+    fn drop(self) {
+        let Link {
+            name: _,
+            drawn: _,
+            request: _,
+            response: _,
+        } = self;
+    }
 }
 
 /// The links by their names.
@@ -51,7 +61,7 @@ impl Links {
 }
 
 fn read_link(alloc: Global, row: Row) -> Result<Link> {
-    let case = Case::new(row.cells);
+    let case = row.case();
     let mut drawn = case.hex(alloc, 1)?;
     ensure!(drawn.len() <= DRAWN, "too many random bytes");
     drawn.resize(DRAWN, 0)?;

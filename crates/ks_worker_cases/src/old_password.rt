@@ -1,5 +1,5 @@
 //! A password that is changed while a login with it is derived.
-ghost use Rattle.std.specs.Prelude.{◌≡◌};
+ghost use Rattle.std.specs.Prelude.{◌≡◌, ◌≤◌, IfOk};
 ghost use Rattle.ks_machine.specs.Fit.{Fit};
 ghost use Rattle.ks_machine.specs.Fronts.{Front};
 ghost use Rattle.ks_state.specs.Standing.{StandsWithAllKept};
@@ -33,14 +33,37 @@ pub fn try_case<N: First + Send + Sync, R: Threads + Wait + Sync>(
     let old_salt = opening::salt_of(&opening::read(alloc, file)?, id(BOB)?)?;
     let gate = HoldingGate::new(Place::Deriving);
     let held = log_in(alloc, BOB, "hunter2", 1)?;
-    let first = change_password(alloc, BOB, "hunter2", "hunter3", 2)?;
-    let second = log_in(alloc, BOB, "hunter3", 3)?;
-    let (pass, replies) = beside(alloc, rt, &turn, pass, &gate, &held, &first, &second);
+    let pass = change_meanwhile(alloc, rt, &turn, pass, &gate, &held)?;
     let mut identity = turn.close(pass);
     let new_salt = salt_for(alloc, &mut identity, &held).context("no salt is asked for")?;
-    gate.ensure_met()?;
-    judge(&replies)?;
     ensure!(new_salt != old_salt, "the new salt is the old one");
+    judge_gate(&gate)
+}
+
+/// bob changes his password and logs in with the new one, while the login with the old one is held.
+fn change_meanwhile<N: First + Send + Sync, R: Threads + Wait + Sync>(
+    alloc: Global,
+    rt: &R,
+    turn: &Turn<Identity, N>,
+    pass: Pass<N>,
+    gate: &HoldingGate,
+    held: &Call,
+) -> Result<Pass<N>>
+    requires own { pass.turn ≡ turn.now }
+    requires weight { 2 ≤ pass.weight }
+    requires fit { Fit held.now }
+    ensures { IfOk result (λ next. (next.turn ≡ pass.turn) × (next.weight ≡ pass.weight)) }
+{
+    let first = change_password(alloc, BOB, "hunter2", "hunter3", 2)?;
+    let second = log_in(alloc, BOB, "hunter3", 3)?;
+    let (pass, replies) = beside(alloc, rt, turn, pass, gate, held, &first, &second);
+    judge(&replies)?;
+    Ok(pass)
+}
+
+/// The gate held the first derivation, and was reached as often as two derivations ask for.
+fn judge_gate(gate: &HoldingGate) -> Result<()> {
+    gate.ensure_met()?;
     let (holds, derivings) = (
         gate.reached(Place::BeforeHold),
         gate.reached(Place::Deriving),

@@ -1,7 +1,8 @@
 //! Calls through passes of one turn, by one worker and by two.
-ghost use Rattle.std.specs.Prelude.{◌≡◌, ◌+◌, ◌≤◌};
+ghost use Rattle.std.specs.Prelude.{◌≡◌, ◌+◌, ◌≤◌, IfOk};
 ghost use Rattle.ks_machine.specs.Fit.{Fit};
 
+use crate::calls::log_in;
 use crate::gates::HoldingGate;
 use anyhow::{Result, bail};
 use ks_base::Text;
@@ -34,21 +35,48 @@ pub fn make<I: Decides, N: First, R: Wait, G: Gate>(
 }
 
 /// The token of a login.
-pub fn token_of(reply: Reply) -> Result<Text> {
+fn token_of(reply: &Reply) -> Result<Text> {
     match reply {
-        Reply::Ok(BodyOut::Token(token)) => Ok(token.text),
+        Reply::Ok(BodyOut::Token(token)) => Ok(token.text.copy()?),
         _ => bail!("a login is refused"),
     }
 }
 
+/// Logs a user in through the pass: the token. Each byte drawn is this one.
+pub fn token_for<I: Decides, N: First, R: Wait>(
+    alloc: Global,
+    rt: &R,
+    turn: &Turn<I, N>,
+    pass: Pass<N>,
+    user: &str,
+    secret: &str,
+    byte: u8,
+) -> Result<(Pass<N>, Text)>
+    requires own { pass.turn ≡ turn.now }
+    ensures { IfOk result (λ made. (made.0.turn ≡ pass.turn) × (made.0.weight ≡ pass.weight)) }
+{
+    let call = log_in(alloc, user, secret, byte)?;
+    let (pass, reply) = make(alloc, rt, turn, pass, &call, &Open);
+    Ok((pass, token_of(&reply)?))
+}
+
 /// The replies to two workers.
-#[derive(Drop)]
 pub struct Replies {
     /// To the call of the worker that was held.
     pub held: Reply,
     /// To the calls that the other made meanwhile.
     pub first: Reply,
     pub second: Reply,
+}
+
+impl Drop for Replies {
+    fn drop(self) {
+        let Replies {
+            held: _,
+            first: _,
+            second: _,
+        } = self;
+    }
 }
 
 /// One worker makes a call and is held by the gate, while the other makes two. Then it goes on.
