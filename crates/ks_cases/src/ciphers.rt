@@ -1,10 +1,9 @@
 //! The tables of AES-128, CBC, HMAC and PBKDF2.
 
-use crate::case::Case;
-use crate::table::try_table;
 use anyhow::{Result, ensure};
 use ks_aes_cbc::{Aes128, cbc_open, cbc_seal};
 use ks_hmac::{hmac, pbkdf2, same};
+use ks_tables::{Case, try_table};
 use std::alloc::Global;
 use std::rt::Files;
 

@@ -2,13 +2,12 @@
 ghost use Rattle.std.specs.Prelude.{IfOk};
 ghost use Rattle.ks_outside.specs.Files.{AreFiles};
 
-use crate::case::Case;
-use crate::table::try_table;
 use crate::tokens::key_text;
 use anyhow::{Context, Result, ensure};
 use ks_base::{Bytes, KeyList, KeysFault};
 use ks_keyfiles::read_dir;
 use ks_outside::{Folder, MemoryDir};
+use ks_tables::{Case, try_table};
 use std::alloc::Global;
 use std::rt::Files;
 

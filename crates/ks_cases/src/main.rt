@@ -3,7 +3,6 @@
 #![tactic(auto)]
 
 mod case;
-mod cell;
 mod ciphers;
 mod key_files;
 mod payloads;
@@ -12,7 +11,6 @@ mod policies;
 mod rings;
 mod rules;
 mod stepped;
-mod table;
 mod times;
 mod tokens;
 

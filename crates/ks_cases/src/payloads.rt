@@ -1,10 +1,9 @@
 //! The tables of payloads.
 
-use crate::case::Case;
-use crate::table::try_table;
 use anyhow::{Result, bail};
 use ks_base::Id;
 use ks_payload::Payload;
+use ks_tables::{Case, try_table};
 use std::alloc::Global;
 use std::rt::Files;
 

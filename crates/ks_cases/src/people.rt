@@ -1,10 +1,10 @@
 //! The callers and targets that the tables of rules and policies name.
 
-use crate::case::{Case, read_text};
-use crate::table::read_rows;
+use crate::case::read_text;
 use anyhow::{Context, Result, bail};
 use ks_base::{FieldList, TextList};
 use ks_rule::{Attributes, Credentials};
+use ks_tables::read_rows;
 use std::alloc::Global;
 use std::rt::Files;
 
@@ -47,7 +47,7 @@ fn read_callers<R: Files + AllocGlobal>(rt: &R) -> Result<Vec<(String, Credentia
     let alloc = rt.alloc();
     let mut callers = Vec::new(alloc);
     for row in read_rows(rt, "callers")? {
-        let case = Case::new(row.cells);
+        let case = row.case();
         let name = String::from_str(alloc, case.str(0)?)?;
         let caller = Credentials {
             roles: read_roles(alloc, case.str(1)?)?,
@@ -62,7 +62,7 @@ fn read_targets<R: Files + AllocGlobal>(rt: &R) -> Result<Vec<(String, Attribute
     let alloc = rt.alloc();
     let mut targets = Vec::new(alloc);
     for row in read_rows(rt, "targets")? {
-        let case = Case::new(row.cells);
+        let case = row.case();
         let name = String::from_str(alloc, case.str(0)?)?;
         targets.push((name, read_fields(alloc, case.str(1)?)?))?;
     }

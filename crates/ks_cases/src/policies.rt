@@ -1,11 +1,11 @@
 //! The tables of policies.
 
-use crate::case::Case;
+use crate::case::read_text;
 use crate::people::People;
 use crate::rules::{add_name, said};
-use crate::table::try_table;
 use anyhow::{Context, Result};
 use ks_policy::{PolicyFault, Rules};
+use ks_tables::{Case, try_table};
 use serde_json::Value;
 use std::alloc::Global;
 use std::fs;
@@ -47,7 +47,7 @@ fn decided<R: Files + AllocGlobal>(
         .ok()
         .context("no policy")?;
     let target = people.target(case.str(2)?)?;
-    let action = case.text(alloc, 3)?;
+    let action = read_text(alloc, case.bytes(3))?;
     let mut names = String::new(alloc);
     for name in case.str(1)?.split_whitespace() {
         if rules.decide(&action, people.caller(name)?, target)? {

@@ -1,11 +1,10 @@
 //! The table of rings.
 
-use crate::case::Case;
 use crate::stepped::Stepped;
-use crate::table::try_table;
 use anyhow::{Context, Result, bail};
 use ks_base::{Key, LoadFault};
 use ks_ring::HeldKey;
+use ks_tables::{Case, try_table};
 use std::alloc::Global;
 use std::rt::Files;
 

@@ -2,12 +2,11 @@
 ghost use Rattle.std.specs.Prelude.{codes};
 ghost use Rattle.std.specs.Str.{bytes_eq};
 
-use crate::case::Case;
 use crate::people::People;
-use crate::table::try_table;
 use anyhow::Result;
 use ks_base::Text;
 use ks_rule::{NamedRules, Rule};
+use ks_tables::{Case, try_table};
 use std::alloc::Global;
 use std::rt::Files;
 

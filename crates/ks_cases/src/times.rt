@@ -1,8 +1,7 @@
 //! The tables of the texts of moments.
 
-use crate::case::Case;
-use crate::table::try_table;
 use anyhow::{Result, ensure};
+use ks_tables::{Case, try_table};
 use ks_time::{read_time, write_time};
 use std::alloc::Global;
 use std::rt::Files;

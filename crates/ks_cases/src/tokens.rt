@@ -1,10 +1,10 @@
 //! The tables of Fernet keys and tokens.
 
-use crate::case::Case;
-use crate::table::try_table;
+use crate::case::{key_at, read_text};
 use anyhow::{Result, ensure};
 use ks_base::Key;
 use ks_fernet::{Envelope, EnvelopeFault, KeyText, OpenAnswer, answer, open, read_key, seal};
+use ks_tables::{Case, try_table};
 use std::alloc::Global;
 use std::rt::Files;
 
@@ -56,7 +56,7 @@ fn envelope_text(alloc: Global, envelope: &Envelope) -> Result<String> {
 
 /// Of a key and a text.
 fn token_opened(alloc: Global, case: &Case) -> Result<String> {
-    opened_text(alloc, &answer(alloc, &case.key(0)?, case.bytes(1))?)
+    opened_text(alloc, &answer(alloc, &key_at(case, 0)?, case.bytes(1))?)
 }
 
 /// The time and the plain bytes in hex, with a colon between them.
@@ -73,8 +73,8 @@ fn opened_text(alloc: Global, answer: &OpenAnswer) -> Result<String> {
 
 /// Of a number, a key and a text, which the answer repeats before what they make.
 fn token_kept(alloc: Global, case: &Case) -> Result<String> {
-    let text = case.text(alloc, 2)?;
-    let opened = open(alloc, case.number(0)?, &case.key(1)?, &text)?;
+    let text = read_text(alloc, case.bytes(2))?;
+    let opened = open(alloc, case.number(0)?, &key_at(case, 1)?, &text)?;
     let key = key_text(alloc, opened.key())?;
     let said = opened_text(alloc, opened.answer())?;
     Ok(format!(in alloc;
@@ -90,7 +90,7 @@ fn token_sealed(alloc: Global, case: &Case) -> Result<String> {
     ensure!(plain.len() <= LONGEST, "{} bytes", plain.len());
     let text = seal(
         alloc,
-        &case.key(0)?,
+        &key_at(case, 0)?,
         case.number(1)?,
         &case.block(2)?,
         plain.as_slice(),

@@ -17,10 +17,18 @@ const SHORT: usize = 1_000;
 const MOST: u32 = 100;
 
 /// What all connections stand on: the opening file, and the responses by their names.
-#[derive(Drop)]
 pub struct Known {
     pub file: String,
     pub responses: Vec<Row>,
+}
+
+impl Drop for Known {
+    fn drop(self) {
+        let Known {
+            file: _,
+            responses: _,
+        } = self;
+    }
 }
 
 pub fn try_tables<R: Files + Print + AllocGlobal + Threads + Wait + Sync>(rt: &R) -> Result<()> {

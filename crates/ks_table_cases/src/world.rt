@@ -18,7 +18,6 @@ use std::alloc::Global;
 const LIFE: u64 = 3_600;
 
 /// All tables, and a text that may be a token.
-#[derive(Drop)]
 pub struct World {
     pub alloc: Global,
     pub tree: Tree,
@@ -28,6 +27,21 @@ pub struct World {
     pub trusts: Trusts,
     pub events: Events,
     pub text: Text,
+}
+
+impl Drop for World {
+    fn drop(self) {
+        let World {
+            alloc: _,
+            tree: _,
+            people: _,
+            roles: _,
+            grants: _,
+            trusts: _,
+            events: _,
+            text: _,
+        } = self;
+    }
 }
 
 impl World {

@@ -4,19 +4,19 @@ use anyhow::Result;
 use std::alloc::Global;
 
 /// The cells of a case but for the answer, each as the bytes that it stands for.
-#[derive(Drop)]
-pub struct Case {
-    cells: Vec<Vec<u8>>,
+#[derive(Clone, Copy)]
+pub struct Case<'a> {
+    cells: &'a [Vec<u8>],
 }
 
-impl Case {
+impl<'a> Case<'a> {
     /// A case of these cells.
-    pub fn new(cells: Vec<Vec<u8>>) -> Case {
+    pub fn new(cells: &'a [Vec<u8>]) -> Case<'a> {
         Case { cells }
     }
 
     /// The cell at this place; empty where there is none.
-    pub fn bytes(&self, at: usize) -> &[u8] {
+    pub fn bytes(&self, at: usize) -> &'a [u8] {
         match self.cells.get(at) {
             Some(cell) => cell.as_slice(),
             None => &[],
@@ -24,7 +24,7 @@ impl Case {
     }
 
     /// The cell at this place, which is refused where it is no text.
-    pub fn str(&self, at: usize) -> Result<&str> {
+    pub fn str(&self, at: usize) -> Result<&'a str> {
         Ok(std::str::from_utf8(self.bytes(at))?)
     }
 
@@ -41,5 +41,12 @@ impl Case {
     /// The bytes whose hex digits the cell at this place is, which is refused where it has others.
     pub fn hex(&self, alloc: Global, at: usize) -> Result<Vec<u8>> {
         Ok(hex::decode(alloc, self.bytes(at))?)
+    }
+
+    /// The 16 bytes whose hex digits the cell at this place is, which is refused where it is none.
+    pub fn block(&self, at: usize) -> Result<[u8; 16]> {
+        let mut block = [0; 16];
+        hex::decode_to_slice(self.bytes(at), &mut block)?;
+        Ok(block)
     }
 }

@@ -1,7 +1,7 @@
 //! The cells of a line, and the bytes that each stands for.
 
 use anyhow::{Context, Result, ensure};
-use std::alloc::Global;
+use std::alloc::{AllocError, Global};
 
 /// The most times that bytes are repeated.
 const MOST: u32 = 131_072;
@@ -48,15 +48,19 @@ fn push_braces<'a>(alloc: Global, bytes: &mut Vec<u8>, piece: &'a str) -> Result
         .context("a backslash without a brace")?;
     let (body, rest) = rest.split_once('}').context("an open brace")?;
     let times = read_times(head.trim_end_matches('x'))?;
-    let repeated = if head.ends_with('x') {
-        hex::decode(alloc, body)?
+    if head.ends_with('x') {
+        push_times(bytes, hex::decode(alloc, body)?.as_slice(), times)?;
     } else {
-        Vec::from_slice(alloc, body.as_bytes())?
-    };
-    for _ in 0..times {
-        bytes.extend_from_slice(repeated.as_slice())?;
+        push_times(bytes, body.as_bytes(), times)?;
     }
     Ok(rest)
+}
+
+fn push_times(bytes: &mut Vec<u8>, piece: &[u8], times: u32) -> Result<(), AllocError> {
+    for _ in 0..times {
+        bytes.extend_from_slice(piece)?;
+    }
+    Ok(())
 }
 
 fn read_times(digits: &str) -> Result<u32> {

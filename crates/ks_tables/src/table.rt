@@ -14,32 +14,58 @@ pub struct Row {
     pub cells: Vec<Vec<u8>>,
 }
 
+impl Row {
+    /// All cells of this row.
+    pub fn case(&self) -> Case<'_> {
+        Case::new(self.cells.as_slice())
+    }
+
+    /// The cells but for the last one, and the answer that is wanted, which is that one.
+    fn parts(&self) -> (Case<'_>, &[u8]) {
+        match self.cells.as_slice() {
+            [given @ .., wanted] => (Case::new(given), wanted.as_slice()),
+            [] => (self.case(), &[]),
+        }
+    }
+}
+
 /// The rows of the table of this name, behind its heading and each with as many cells as that has. The table is the file
 /// with this name and `.txt` where the program runs.
 pub fn read_rows<R: Files + AllocGlobal>(rt: &R, name: &str) -> Result<Vec<Row>> {
-    let alloc = rt.alloc();
-    let path = format!(in alloc; "{name}.txt")?;
-    let file = fs::read_to_string(rt, path.as_str())?;
+    let file = read_file(rt, name)?;
+    let rows = rows_of(rt.alloc(), name, file.as_str());
+    drop(file);
+    rows
+}
+
+fn read_file<R: Files + AllocGlobal>(rt: &R, name: &str) -> Result<String> {
+    let path = format!(in rt.alloc(); "{name}.txt")?;
+    let file = fs::read_to_string(rt, path.as_str());
+    drop(path);
+    Ok(file?)
+}
+
+fn rows_of(alloc: Global, name: &str, text: &str) -> Result<Vec<Row>> {
     let mut rows = Vec::new(alloc);
     let mut columns = 0;
-    for (at, text) in file.as_str().lines().enumerate() {
-        if text.is_empty() || text.starts_with('#') {
+    for (at, line) in text.lines().enumerate() {
+        if line.is_empty() || line.starts_with('#') {
             continue;
         }
-        let line = at.saturating_add(1);
-        let cells = read_cells(alloc, text)?;
         if columns == 0 {
-            columns = cells.len();
+            columns = line.split('|').count();
             continue;
         }
-        ensure!(
-            cells.len() == columns,
-            "{name}, line {line}: {} cells",
-            cells.len()
-        );
-        rows.push(Row { line, cells })?;
+        rows.push(row_of(alloc, name, at.saturating_add(1), line, columns)?)?;
     }
     Ok(rows)
+}
+
+fn row_of(alloc: Global, name: &str, line: usize, text: &str, columns: usize) -> Result<Row> {
+    let count = text.split('|').count();
+    ensure!(count == columns, "{name}, line {line}: {count} cells");
+    let cells = read_cells(alloc, text)?;
+    Ok(Row { line, cells })
 }
 
 /// Tries each case of the table of this name, and prints each whose answer is another, and then how many held.
@@ -50,36 +76,73 @@ pub fn try_table<R: Files + Print + AllocGlobal, F: Fn(Global, &Case) -> Result<
 ) -> Result<()>
     requires { F.IsAlwaysCallable answer }
 {
-    let mut held: u64 = 0;
-    for row in read_rows(rt, name)? {
-        let line = row.line;
-        match difference(rt.alloc(), row.cells, &answer)? {
-            None => held = held.saturating_add(1),
-            Some(found) => println!(rt; "{name}, line {line}: {found}")?,
-        }
-    }
-    println!(rt; "{name} {held}")?;
+    let rows = read_rows(rt, name)?;
+    let held = try_rows(rt, name, rows.as_slice(), &answer);
+    drop(rows);
+    println!(rt; "{name} {}", held?)?;
     Ok(())
 }
 
-/// How the answer differs from the one that is wanted, if it does.
-fn difference<F: Fn(Global, &Case) -> Result<String>>(
-    alloc: Global,
-    mut cells: Vec<Vec<u8>>,
+/// How many of these cases hold.
+fn try_rows<R: Print + AllocGlobal, F: Fn(Global, &Case) -> Result<String>>(
+    rt: &R,
+    name: &str,
+    rows: &[Row],
     answer: &F,
-) -> Result<Option<String>>
+) -> Result<u64>
     requires { F.IsAlwaysCallable answer.now }
 {
-    let wanted = cells.pop().unwrap_or(Vec::new(alloc));
-    let given = match answer(alloc, &Case::new(cells)) {
-        Ok(given) => given,
-        Err(error) => format!(in alloc; "error: {error}")?,
-    };
-    if is_answer(given.as_str().as_bytes(), wanted.as_slice()) {
-        return Ok(None);
+    let mut held: u64 = 0;
+    for row in rows {
+        if holds(rt, name, row, answer)? {
+            held = held.saturating_add(1);
+        }
     }
-    let wanted = std::str::from_utf8(wanted.as_slice())?;
-    Ok(Some(format!(in alloc; "wanted `{wanted}`, got `{given}`")?))
+    Ok(held)
+}
+
+/// Whether the answer to a case is the one that is wanted. Another one is printed.
+fn holds<R: Print + AllocGlobal, F: Fn(Global, &Case) -> Result<String>>(
+    rt: &R,
+    name: &str,
+    row: &Row,
+    answer: &F,
+) -> Result<bool>
+    requires { F.IsAlwaysCallable answer.now }
+{
+    let (case, wanted) = row.parts();
+    let given = answered(rt.alloc(), &case, answer)?;
+    let is_wanted = is_answer(given.as_bytes(), wanted);
+    if !is_wanted {
+        print_other(rt, name, row.line, wanted, given.as_str())?;
+    }
+    Ok(is_wanted)
+}
+
+/// What is answered to a case, or the fault of the call.
+fn answered<F: Fn(Global, &Case) -> Result<String>>(
+    alloc: Global,
+    case: &Case,
+    answer: &F,
+) -> Result<String>
+    requires { F.IsAlwaysCallable answer.now }
+{
+    match answer(alloc, case) {
+        Ok(given) => Ok(given),
+        Err(error) => Ok(format!(in alloc; "error: {error}")?),
+    }
+}
+
+fn print_other<R: Print>(
+    rt: &R,
+    name: &str,
+    line: usize,
+    wanted: &[u8],
+    given: &str,
+) -> Result<()> {
+    let wanted = std::str::from_utf8(wanted)?;
+    println!(rt; "{name}, line {line}: wanted `{wanted}`, got `{given}`")?;
+    Ok(())
 }
 
 fn is_answer(given: &[u8], wanted: &[u8]) -> bool {

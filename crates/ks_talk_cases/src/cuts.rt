@@ -23,7 +23,7 @@ pub fn try_table<R: Files + Print + AllocGlobal + Threads + Wait + Sync>(
     let mut held: u64 = 0;
     for row in read_rows(rt, "cuts")? {
         let line = row.line;
-        let case = Case::new(row.cells);
+        let case = row.case();
         let request = expanded(alloc, case.str(0)?, &none, &world.names)?;
         let request = with_length(alloc, request.as_str())?;
         match first_other(rt, opening, request.as_str().as_bytes(), case.bytes(1))? {

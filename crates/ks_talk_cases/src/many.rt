@@ -31,7 +31,7 @@ pub fn try_table<R: Files + Print + AllocGlobal + Threads + Wait + Sync>(
     let mut held: u64 = 0;
     for row in read_rows(rt, "many")? {
         let line = row.line;
-        let case = Case::new(row.cells);
+        let case = row.case();
         match difference(rt, world, &case)? {
             None => held = held.saturating_add(1),
             Some(found) => println!(rt; "many, line {line}: {found}")?,
@@ -42,11 +42,20 @@ pub fn try_table<R: Files + Print + AllocGlobal + Threads + Wait + Sync>(
 }
 
 /// A connection that is read so far.
-#[derive(Drop)]
 struct Many {
     input: String,
     readings: Vec<u64>,
     random: Vec<u8>,
+}
+
+impl Drop for Many {
+    fn drop(self) {
+        let Many {
+            input: _,
+            readings: _,
+            random: _,
+        } = self;
+    }
 }
 
 impl Many {

@@ -25,14 +25,21 @@ const DRAWN: usize = 64;
 const SHOWN: usize = 400;
 
 /// A response that is expected, and the line of its row.
-#[derive(Drop)]
 struct Expected {
     line: usize,
     response: Vec<u8>,
 }
 
+impl Drop for Expected {
+    fn drop(self) {
+        let Expected {
+            line: _,
+            response: _,
+        } = self;
+    }
+}
+
 /// A session as far as its rows were read.
-#[derive(Drop)]
 pub struct Session {
     name: String,
     names: Names,
@@ -42,6 +49,20 @@ pub struct Session {
     /// How many calls drew random bytes.
     fills: u64,
     expected: Vec<Expected>,
+}
+
+impl Drop for Session {
+    fn drop(self) {
+        let Session {
+            name: _,
+            names: _,
+            input: _,
+            readings: _,
+            random: _,
+            fills: _,
+            expected: _,
+        } = self;
+    }
 }
 
 /// Tries each session of the table of this name, and prints each that is answered otherwise, and then how many held and
@@ -55,7 +76,7 @@ pub fn try_table<R: Files + Print + AllocGlobal + Threads + Wait + Sync>(
     let mut sessions: Vec<Session> = Vec::new(alloc);
     for row in read_rows(rt, name)? {
         let line = row.line;
-        let case = Case::new(row.cells);
+        let case = row.case();
         if !case.str(0)?.is_empty() {
             sessions.push(Session::new(alloc, world, case.str(0)?)?)?;
         }

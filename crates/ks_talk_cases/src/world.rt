@@ -9,7 +9,6 @@ use std::fs;
 use std::rt::Files;
 
 /// What a server opens with, and how `talk` ends over an empty input.
-#[derive(Drop)]
 pub struct Opening {
     pub name: String,
     pub file: String,
@@ -20,8 +19,20 @@ pub struct Opening {
     pub status: u8,
 }
 
+impl Drop for Opening {
+    fn drop(self) {
+        let Opening {
+            name: _,
+            file: _,
+            folder: _,
+            passwords: _,
+            fails: _,
+            status: _,
+        } = self;
+    }
+}
+
 /// How a session opens and ends.
-#[derive(Drop)]
 pub struct Setting {
     pub session: String,
     pub opening: String,
@@ -31,12 +42,33 @@ pub struct Setting {
     pub status: u8,
 }
 
+impl Drop for Setting {
+    fn drop(self) {
+        let Setting {
+            session: _,
+            opening: _,
+            folder: _,
+            fails: _,
+            status: _,
+        } = self;
+    }
+}
+
 /// What all sessions share.
-#[derive(Drop)]
 pub struct World {
     pub names: Names,
     pub openings: Vec<Opening>,
     settings: Vec<Setting>,
+}
+
+impl Drop for World {
+    fn drop(self) {
+        let World {
+            names: _,
+            openings: _,
+            settings: _,
+        } = self;
+    }
 }
 
 impl World {
@@ -90,7 +122,7 @@ fn add_names<R: Files + AllocGlobal>(
     column: usize,
 ) -> Result<()> {
     for row in read_rows(rt, table)? {
-        let case = Case::new(row.cells);
+        let case = row.case();
         names.add(rt.alloc(), case.str(0)?, case.str(column)?)?;
     }
     Ok(())
@@ -114,7 +146,7 @@ fn read_settings<R: Files + AllocGlobal>(rt: &R, names: &Names) -> Result<Vec<Se
 
 fn read_opening<R: Files + AllocGlobal>(rt: &R, names: &Names, row: Row) -> Result<Opening> {
     let alloc = rt.alloc();
-    let case = Case::new(row.cells);
+    let case = row.case();
     let cell = case.str(1)?;
     let none = Names::new(alloc);
     let file = if cell.ends_with(".json") {
@@ -133,7 +165,7 @@ fn read_opening<R: Files + AllocGlobal>(rt: &R, names: &Names, row: Row) -> Resu
 }
 
 fn read_setting(alloc: Global, names: &Names, row: Row) -> Result<Setting> {
-    let case = Case::new(row.cells);
+    let case = row.case();
     let folder = case.str(2)?;
     let opening = case.str(1)?;
     let status = case.str(4)?;
