@@ -174,7 +174,7 @@ def measure(program, seconds, work):
     for what in dict.fromkeys(what for what, _ in rates):
         (few, few_each), (many, many_each) = rates[what, least], rates[what, most]
         print(f"{what}: {named(most)} do {many / few:.2f} times what {named(least)} does; of its cores each does {few_each:,.0f} "
-              f"with {named(least)} and {many_each:,.0f} with {named(most)}")
+              f"with {named(least)} and {many_each:,.0f} with {named(most)}, {many_each / few_each:.2f} of that")
 
 
 def main():
