@@ -15,6 +15,7 @@ mod list;
 mod lists;
 mod memory;
 mod method;
+mod named;
 mod receipt;
 mod refusal;
 mod row_set;
@@ -44,6 +45,7 @@ pub use lists::{
 };
 pub use memory::Memory;
 pub use method::Method;
+pub use named::{Homed, InDomain, Named, NamedIn, OtherNamedIn, OtherWithName, Outside, WithName};
 pub use receipt::{Drawn, Receipt};
 pub use refusal::refuse_if;
 pub use row_set::{Ordered, RowSet};

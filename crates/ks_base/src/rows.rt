@@ -1,6 +1,6 @@
 ghost use Rattle.std.specs.Prelude.{◌≡◌, IfOk};
 
-use crate::{Id, Memory, Row, Text, TryCopy};
+use crate::{Homed, Id, Memory, Named, Row, Text, TryCopy};
 
 /// A domain: it holds projects, users and groups.
 pub struct DomainRow {
@@ -150,6 +150,14 @@ impl Row for DomainRow {
     }
 }
 
+impl Named for DomainRow {
+    ghost naming = { λ row. row.name };
+
+    fn name(&self) -> &Text {
+        &self.name
+    }
+}
+
 impl TryCopy for DomainRow {
     fn copy(&self) -> Result<DomainRow, Memory> {
         DomainRow::copy(self)
@@ -161,6 +169,22 @@ impl Row for ProjectRow {
 
     fn id(&self) -> &Id {
         &self.id
+    }
+}
+
+impl Named for ProjectRow {
+    ghost naming = { λ row. row.name };
+
+    fn name(&self) -> &Text {
+        &self.name
+    }
+}
+
+impl Homed for ProjectRow {
+    ghost home = { λ row. row.domain };
+
+    fn domain(&self) -> &Id {
+        &self.domain
     }
 }
 
@@ -178,6 +202,22 @@ impl Row for GroupRow {
     }
 }
 
+impl Named for GroupRow {
+    ghost naming = { λ row. row.name };
+
+    fn name(&self) -> &Text {
+        &self.name
+    }
+}
+
+impl Homed for GroupRow {
+    ghost home = { λ row. row.domain };
+
+    fn domain(&self) -> &Id {
+        &self.domain
+    }
+}
+
 impl TryCopy for GroupRow {
     fn copy(&self) -> Result<GroupRow, Memory> {
         GroupRow::copy(self)
@@ -189,6 +229,14 @@ impl Row for RoleRow {
 
     fn id(&self) -> &Id {
         &self.id
+    }
+}
+
+impl Named for RoleRow {
+    ghost naming = { λ row. row.name };
+
+    fn name(&self) -> &Text {
+        &self.name
     }
 }
 

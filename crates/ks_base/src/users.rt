@@ -1,6 +1,6 @@
 ghost use Rattle.std.specs.Prelude.{◌≡◌, IfOk};
 
-use crate::{Id, Memory, Ordered, Row, Text, TryCopy};
+use crate::{Homed, Id, Memory, Named, Ordered, Row, Text, TryCopy};
 use std::cmp::Ordering;
 
 /// What is kept of a password: PBKDF2-HMAC-SHA-256 of it (RFC 8018, section 5.2).
@@ -57,6 +57,22 @@ impl Row for UserRow {
 
     fn id(&self) -> &Id {
         &self.id
+    }
+}
+
+impl Named for UserRow {
+    ghost naming = { λ row. row.name };
+
+    fn name(&self) -> &Text {
+        &self.name
+    }
+}
+
+impl Homed for UserRow {
+    ghost home = { λ row. row.domain };
+
+    fn domain(&self) -> &Id {
+        &self.domain
     }
 }
 

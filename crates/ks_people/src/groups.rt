@@ -8,9 +8,9 @@ ghost use Rattle.ks_base.specs.People.{with_group, without_group};
 ghost use Rattle.ks_base.specs.PeopleFaults.{group_absent, group_name_taken, other_group_named, add_group_fault, set_group_fault, drop_group_fault};
 
 use crate::People;
-use crate::select::{GroupNamed, OfOtherGroups, OtherGroupNamed};
+use crate::select::OfOtherGroups;
 use ks_base::limits::GROUPS;
-use ks_base::{GroupRow, Id, Kind, RowFault, refuse_if};
+use ks_base::{GroupRow, Id, Kind, NamedIn, OtherNamedIn, RowFault, refuse_if};
 
 impl People {
     /// The group with this id.
@@ -72,7 +72,7 @@ impl People {
         ensures { fault_in result ≡ set_group_fault self.now row.now }
     {
         self.group_stands(&row.id)?;
-        match self.groups.first(&OtherGroupNamed { row }) {
+        match self.groups.first(&OtherNamedIn { row }) {
             Some(holder) => Err(RowFault::NameTaken(holder.id)),
             None => Ok(()),
         }
@@ -99,7 +99,7 @@ impl People {
     fn group_name_is_free(&self, row: &GroupRow) -> Result<(), RowFault>
         ensures { fault_in result ≡ group_name_taken self.now row.now }
     {
-        let named = GroupNamed {
+        let named = NamedIn {
             domain: &row.domain,
             name: &row.name,
         };

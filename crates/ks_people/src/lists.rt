@@ -4,8 +4,7 @@ ghost use Rattle.ks_base.specs.Tables.{id_cmp, IsAscending};
 ghost use Rattle.ks_base.specs.People.{is_of_user, is_of_group, users_of, group_ids, groups_of, members_of};
 
 use crate::People;
-use crate::select::{GroupIn, UserIn};
-use ks_base::{Id, IdList, MemberRow, Memory};
+use ks_base::{Id, IdList, InDomain, MemberRow, Memory};
 use std::alloc::{AllocError, Global};
 
 /// The groups of the user's memberships.
@@ -35,14 +34,14 @@ impl People {
     pub fn users_of(&self, domain: &Id) -> Result<IdList, Memory>
         ensures { IfOk result (λ ids. ids ≡ users_of domain.now self.now) }
     {
-        self.users.ids_where(&UserIn { domain })
+        self.users.ids_where(&InDomain { domain })
     }
 
     /// The ids of the domain's groups, in their order.
     pub fn group_ids(&self, domain: &Id) -> Result<IdList, Memory>
         ensures { IfOk result (λ ids. ids ≡ group_ids domain.now self.now) }
     {
-        self.groups.ids_where(&GroupIn { domain })
+        self.groups.ids_where(&InDomain { domain })
     }
 
     /// The ids of the groups that the user is in, in their order.

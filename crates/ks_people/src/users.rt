@@ -8,9 +8,9 @@ ghost use Rattle.ks_base.specs.People.{is_user_named, with_user, without_user};
 ghost use Rattle.ks_base.specs.PeopleFaults.{user_absent, user_name_taken, other_user_named, add_user_fault, set_user_fault, drop_user_fault};
 
 use crate::People;
-use crate::select::{OfOtherUsers, OtherUserNamed, UserNamed};
+use crate::select::OfOtherUsers;
 use ks_base::limits::USERS;
-use ks_base::{Id, Kind, RowFault, Text, UserRow, refuse_if};
+use ks_base::{Id, Kind, NamedIn, OtherNamedIn, RowFault, Text, UserRow, refuse_if};
 
 impl People {
     /// The user with this id.
@@ -25,7 +25,7 @@ impl People {
     pub fn user_named(&self, domain: &Id, name: &Text) -> Option<&UserRow>
         ensures { option_copied result ≡ find (is_user_named domain.now name.now) self.now.users }
     {
-        self.users.first(&UserNamed { domain, name })
+        self.users.first(&NamedIn { domain, name })
     }
 
     /// Adds a user. Refused are a name that a user of the domain has (`NameTaken`), the 65,537th user (`Full`)
@@ -79,7 +79,7 @@ impl People {
         ensures { fault_in result ≡ set_user_fault self.now row.now }
     {
         self.user_stands(&row.id)?;
-        match self.users.first(&OtherUserNamed { row }) {
+        match self.users.first(&OtherNamedIn { row }) {
             Some(holder) => Err(RowFault::NameTaken(holder.id)),
             None => Ok(()),
         }

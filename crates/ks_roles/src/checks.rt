@@ -5,9 +5,8 @@ ghost use Rattle.ks_base.specs.Refusals.{fault_in};
 ghost use Rattle.ks_base.specs.RoleFaults.{role_absent, admin_implied, implications_full, implication_absent, add_fault, set_fault, drop_fault, imply_fault, unimply_fault};
 
 use crate::Roles;
-use crate::named::OtherNamed;
 use ks_base::limits::{IMPLICATIONS, ROLES};
-use ks_base::{Id, ImplyRow, Kind, RoleRow, RowFault, refuse_if};
+use ks_base::{Id, ImplyRow, Kind, OtherWithName, RoleRow, RowFault, refuse_if};
 
 /// The name of the role that no other may imply.
 const ADMIN: &[u8] = b"admin";
@@ -31,7 +30,7 @@ impl Roles {
         ensures { fault_in result ≡ set_fault self.now row.now }
     {
         self.stands(&row.id)?;
-        match self.roles.first(&OtherNamed { row }) {
+        match self.roles.first(&OtherWithName { row }) {
             Some(holder) => Err(RowFault::NameTaken(holder.id)),
             None => Ok(()),
         }

@@ -3,8 +3,7 @@ ghost use Rattle.ks_base.specs.Rows.{role_of};
 ghost use Rattle.ks_base.specs.Tables.{id_cmp, IsAscending};
 ghost use Rattle.ks_base.specs.RoleLists.{is_named};
 
-use crate::named::Named;
-use ks_base::{Id, ImplyRow, RoleRow, RowSet, Table, Text};
+use ks_base::{Id, ImplyRow, RoleRow, RowSet, Table, Text, WithName};
 use std::alloc::Global;
 use std::marker::Model;
 
@@ -86,6 +85,6 @@ impl Roles {
     pub fn named(&self, name: &Text) -> Option<&RoleRow>
         ensures { option_copied result ≡ find (is_named name.now) self.now.roles }
     {
-        self.roles.first(&Named { name })
+        self.roles.first(&WithName { name })
     }
 }

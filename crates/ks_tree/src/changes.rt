@@ -5,8 +5,7 @@ ghost use Rattle.ks_base.specs.Trees.{with_domain, with_project, without_domain,
 ghost use Rattle.ks_base.specs.TreeFaults.{add_domain_fault, add_project_fault, set_domain_fault, set_project_fault, drop_domain_fault, drop_project_fault};
 
 use crate::Tree;
-use crate::named::Outside;
-use ks_base::{DomainRow, Id, ProjectRow, TreeFault};
+use ks_base::{DomainRow, Id, Outside, ProjectRow, TreeFault};
 
 impl Tree {
     /// Adds a domain. Refused are a name that a domain has (`NameTaken`), the 1,025th domain (`Full`) and an id

@@ -5,9 +5,11 @@ ghost use Rattle.ks_base.specs.Refusals.{fault_in};
 ghost use Rattle.ks_base.specs.TreeFaults.{domain_absent, project_absent, no_parent, too_deep, has_children, lies_below, is_enabled_below, enabled_below, disabled_above, domain_name_taken, project_name_taken, other_domain_named, other_project_named, disable_fault, enable_fault, add_domain_fault, add_project_fault, set_domain_fault, set_project_fault, drop_domain_fault, drop_project_fault};
 
 use crate::Tree;
-use crate::named::{ChildOf, Disabled, OtherDomainNamed, OtherProjectNamed, WithId};
+use crate::named::{ChildOf, Disabled, WithId};
 use ks_base::limits::{DOMAINS, LEVELS, PROJECTS};
-use ks_base::{DomainRow, Id, Kind, ProjectRow, Test, TreeFault, refuse_if};
+use ks_base::{
+    DomainRow, Id, Kind, OtherNamedIn, OtherWithName, ProjectRow, Test, TreeFault, refuse_if,
+};
 
 /// Enabled projects below this one.
 #[derive(Drop)]
@@ -57,7 +59,7 @@ impl Tree {
     pub fn may_set_domain(&self, row: &DomainRow) -> Result<(), TreeFault>
         ensures { fault_in result ≡ set_domain_fault self.now row.now }
     {
-        match self.domains.first(&OtherDomainNamed { row }) {
+        match self.domains.first(&OtherWithName { row }) {
             Some(holder) => Err(TreeFault::NameTaken(holder.id)),
             None => Ok(()),
         }
@@ -70,7 +72,7 @@ impl Tree {
     {
         self.may_disable(row)?;
         self.may_enable(row)?;
-        match self.projects.first(&OtherProjectNamed { row }) {
+        match self.projects.first(&OtherNamedIn { row }) {
             Some(holder) => Err(TreeFault::NameTaken(holder.id)),
             None => Ok(()),
         }

@@ -3,8 +3,7 @@ ghost use Rattle.ks_base.specs.Tree.{ancestors};
 ghost use Rattle.ks_base.specs.Trees.{projects_of, domain_ids};
 
 use crate::Tree;
-use crate::named::InDomain;
-use ks_base::{Id, IdList, Memory};
+use ks_base::{Id, IdList, InDomain, Memory};
 
 impl Tree {
     /// The ids of the projects above this one, the nearest first; none, where no project has this id.
