@@ -24,7 +24,7 @@ pub struct EventRow {
 }
 
 /// What revocations look at in a token.
-#[derive(Clone, Copy, PartialEq, Eq)]
+#[derive(Clone, Copy)]
 pub struct Holder {
     pub audit: [u8; 16],
     pub user: Id,

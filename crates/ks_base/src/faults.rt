@@ -4,7 +4,7 @@ use crate::{Id, Kind, Memory, TryCopy};
 use std::alloc::{AllocError, AllocFailed};
 
 /// Why a change of the trees of domains and projects is refused.
-#[derive(Clone, Copy, PartialEq, Eq)]
+#[derive(Clone, Copy)]
 pub enum TreeFault {
     /// No row of this kind has this id.
     Absent(Kind, Id),
@@ -31,7 +31,7 @@ pub enum TreeFault {
 }
 
 /// Why a change of a row is refused.
-#[derive(Clone, Copy, PartialEq, Eq)]
+#[derive(Clone, Copy)]
 pub enum RowFault {
     /// No row of this kind has this id.
     Absent(Kind, Id),
@@ -48,7 +48,7 @@ pub enum RowFault {
 }
 
 /// Why a trust is not made or used (OS-TRUST), in the order in which the causes are tested.
-#[derive(Clone, Copy, PartialEq, Eq)]
+#[derive(Clone, Copy)]
 pub enum TrustFault {
     /// The caller is not the trustor.
     NotTrustor,
@@ -87,7 +87,7 @@ pub enum TrustFault {
 }
 
 /// Why a list of keys is no ring. `TooMany` is tested before `Repeated`.
-#[derive(Clone, Copy, Debug, PartialEq, Eq)]
+#[derive(Clone, Copy)]
 pub enum LoadFault {
     /// There is no key.
     Empty,
@@ -98,7 +98,7 @@ pub enum LoadFault {
 }
 
 /// Why the keys of a folder are not read or changed.
-#[derive(Clone, Copy, Debug, PartialEq, Eq)]
+#[derive(Clone, Copy)]
 pub enum KeysFault {
     /// The folder failed.
     Failed,

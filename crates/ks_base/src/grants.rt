@@ -6,7 +6,7 @@ use crate::{Id, Memory, Ordered, TryCopy};
 use std::cmp::Ordering;
 
 /// Whom a role is granted to.
-#[derive(Clone, Copy, PartialEq, Eq)]
+#[derive(Clone, Copy)]
 pub enum Actor {
     User(Id),
     Group(Id),
@@ -22,7 +22,7 @@ pub enum Target {
 }
 
 /// That an actor has a role at a target; `inherited`: at all projects below the target instead.
-#[derive(Clone, Copy, PartialEq, Eq)]
+#[derive(Clone, Copy)]
 pub struct GrantRow {
     pub actor: Actor,
     pub target: Target,
@@ -31,7 +31,7 @@ pub struct GrantRow {
 }
 
 /// That who has the role `prior` has `implied` too.
-#[derive(Clone, Copy, PartialEq, Eq)]
+#[derive(Clone, Copy)]
 pub struct ImplyRow {
     pub prior: Id,
     pub implied: Id,

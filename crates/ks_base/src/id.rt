@@ -21,7 +21,7 @@ pub struct Id {
 }
 
 /// Why bytes are no id.
-#[derive(Clone, Copy, Debug, PartialEq, Eq)]
+#[derive(Clone, Copy)]
 pub enum IdFault {
     /// There are none.
     Empty,

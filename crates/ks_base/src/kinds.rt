@@ -1,7 +1,7 @@
 use crate::{Memory, TryCopy};
 
 /// What a row, a table or a count is of.
-#[derive(Clone, Copy, Debug, PartialEq, Eq)]
+#[derive(Clone, Copy, Debug)]
 pub enum Kind {
     Domain,
     Project,

@@ -1,7 +1,7 @@
 use crate::{Memory, TryCopy};
 
 /// The method of a request (RFC 9110, section 9).
-#[derive(Clone, Copy, Debug, PartialEq, Eq)]
+#[derive(Clone, Copy)]
 pub enum Method {
     Get,
     Head,

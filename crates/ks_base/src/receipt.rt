@@ -2,7 +2,7 @@ use crate::{Memory, TryCopy};
 use std::fmt;
 
 /// The random bytes that a request drew.
-#[derive(Clone, Copy, PartialEq, Eq)]
+#[derive(Clone, Copy)]
 pub enum Drawn {
     /// It drew none.
     Unused,
@@ -24,7 +24,7 @@ impl fmt::Debug for Drawn {
 }
 
 /// What is noted of a request that was answered: enough to answer it again in the same way.
-#[derive(Clone, Copy, Debug, PartialEq, Eq)]
+#[derive(Clone, Copy)]
 pub struct Receipt {
     /// The number of the link on its desk, from 0.
     pub connection: u64,

@@ -4,7 +4,7 @@ use crate::{Homed, Id, Memory, Named, Ordered, Row, Text, TryCopy};
 use std::cmp::Ordering;
 
 /// What is kept of a password: PBKDF2-HMAC-SHA-256 of it (RFC 8018, section 5.2).
-#[derive(Clone, Copy, PartialEq, Eq)]
+#[derive(Clone, Copy)]
 pub struct PasswordRow {
     pub salt: [u8; 16],
     /// The iteration count.
@@ -25,7 +25,7 @@ pub struct UserRow {
 }
 
 /// That a user is in a group.
-#[derive(Clone, Copy, PartialEq, Eq)]
+#[derive(Clone, Copy)]
 pub struct MemberRow {
     pub group: Id,
     pub user: Id,

@@ -21,7 +21,7 @@ pub struct Envelope {
 }
 
 /// Why a text has no parts of a token, tested in this order.
-#[derive(Clone, Copy, Debug, PartialEq, Eq)]
+#[derive(Clone, Copy)]
 pub enum EnvelopeFault {
     /// It is longer than 1,024 characters, or it is not base64url with its full padding or with none.
     NotText,

@@ -6,7 +6,7 @@ use crate::base64_url::read_bytes;
 use ks_base::Key;
 
 /// What a text says as a key.
-#[derive(Clone, Copy, Debug, PartialEq, Eq)]
+#[derive(Clone, Copy)]
 pub enum KeyText {
     Key(Key),
     NotAKey,

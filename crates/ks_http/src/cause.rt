@@ -1,7 +1,7 @@
 use ks_base::{Memory, TryCopy};
 
 /// Why bytes are no request.
-#[derive(Clone, Copy, Debug, PartialEq, Eq)]
+#[derive(Clone, Copy)]
 pub enum HttpCause {
     /// They neither begin with a head and its body nor are the beginning of them.
     Malformed,

@@ -6,7 +6,7 @@ use crate::next::Next;
 use ks_base::Memory;
 
 /// Why no more requests come.
-#[derive(Clone, Copy, Debug, PartialEq, Eq)]
+#[derive(Clone, Copy)]
 pub enum Ending {
     /// The input ended between requests.
     End,

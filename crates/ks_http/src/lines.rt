@@ -9,7 +9,7 @@ use httparse::{is_header_value_token, is_token, is_uri_token};
 use ks_base::limits::HEAD_FIELDS;
 
 /// Where the lines of a head have come to.
-#[derive(Clone, Copy, Debug, PartialEq, Eq)]
+#[derive(Clone, Copy)]
 pub enum Place {
     /// Before the first line, behind any number of empty ones.
     Start,

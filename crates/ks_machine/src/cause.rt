@@ -2,7 +2,7 @@ use crate::Why;
 use ks_base::{Id, KeysFault, Kind, MethodList, ShapeFault, Text, TreeFault, TrustFault};
 
 /// Why a login gets no scope.
-#[derive(Clone, Copy, Debug, PartialEq, Eq)]
+#[derive(Clone, Copy)]
 pub enum ScopeWhy {
     /// The scope does not stand.
     Absent,

@@ -18,7 +18,7 @@ pub struct Settings {
 }
 
 /// Why an opening is refused, in the order in which the causes are tested.
-#[derive(Clone, Copy, PartialEq, Eq)]
+#[derive(Clone, Copy)]
 pub enum OpenFault {
     /// Two rows of this kind have this id.
     IdRepeated(Kind, Id),

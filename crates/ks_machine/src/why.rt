@@ -2,7 +2,7 @@ ghost use Rattle.std.specs.Prelude.{◌≡◌};
 ghost use Rattle.ks_machine.specs.Names.{name_of};
 
 /// Why a token is not valid: the first line of its validity that does not hold, in this order.
-#[derive(Clone, Copy, Debug, PartialEq, Eq)]
+#[derive(Clone, Copy)]
 pub enum Why {
     /// The text is no envelope.
     Text,

@@ -1,5 +1,5 @@
 /// Where a worker stands when a gate is reached.
-#[derive(Clone, Copy, Debug, PartialEq, Eq)]
+#[derive(Clone, Copy)]
 pub enum Place {
     /// It is about to open an envelope.
     Opening,
@@ -15,7 +15,7 @@ pub trait Gate {
 }
 
 /// The gate that does nothing.
-#[derive(Clone, Copy, Debug, PartialEq, Eq)]
+#[derive(Clone, Copy)]
 pub struct Open;
 
 impl Gate for Open {

@@ -10,7 +10,7 @@ pub(crate) const VERSION: u8 = 2;
 const LONGEST: usize = 3 + 3 * 65 + 8 + 33;
 
 /// What a token says: who it is for, in which scope, and until when.
-#[derive(Clone, Copy, PartialEq, Eq)]
+#[derive(Clone, Copy)]
 pub struct Payload {
     /// 0 unscoped, 1 domain, 2 project, 3 trust, 4 system, 5 application credential.
     pub kind: u8,

@@ -4,7 +4,7 @@ use ks_base::{Kind, Memory, TryCopy};
 use std::alloc::AllocError;
 
 /// Why there is no room for more events.
-#[derive(Clone, Copy, Debug, PartialEq, Eq)]
+#[derive(Clone, Copy)]
 pub enum RevokeFault {
     /// The live events and those that are to be added would together be more than 262,144. The kind is `Event`.
     Full(Kind),

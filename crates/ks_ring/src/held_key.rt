@@ -3,7 +3,7 @@ ghost use Rattle.std.specs.Prelude.{◌≡◌, replicate};
 use ks_base::Key;
 
 /// A key that a ring holds.
-#[derive(Clone, Copy, Debug, PartialEq, Eq)]
+#[derive(Clone, Copy)]
 pub struct HeldKey {
     /// The name of its file. The highest one is primary, and 0 is staged where it isn't alone.
     pub index: u32,

@@ -5,7 +5,7 @@ ghost use Rattle.ks_routes.specs.Asked.{kind_of};
 use ks_base::Kind;
 
 /// The kinds of rows that have routes of their own.
-#[derive(Clone, Copy, Debug, PartialEq, Eq)]
+#[derive(Clone, Copy)]
 pub enum RowKind {
     Domain,
     Project,
@@ -15,14 +15,14 @@ pub enum RowKind {
 }
 
 /// Whose grants a route is about.
-#[derive(Clone, Copy, Debug, PartialEq, Eq)]
+#[derive(Clone, Copy)]
 pub enum ActorKind {
     User,
     Group,
 }
 
 /// Where the grants of a route hold.
-#[derive(Clone, Copy, Debug, PartialEq, Eq)]
+#[derive(Clone, Copy)]
 pub enum TargetKind {
     Project,
     Domain,
@@ -30,7 +30,7 @@ pub enum TargetKind {
 }
 
 /// The grants that a route is about; `inherited`: those that the target's projects inherit.
-#[derive(Clone, Copy, Debug, PartialEq, Eq)]
+#[derive(Clone, Copy)]
 pub struct Place {
     pub target: TargetKind,
     pub actor: ActorKind,
@@ -38,7 +38,7 @@ pub struct Place {
 }
 
 /// What a method asks for on its route.
-#[derive(Clone, Copy, Debug, PartialEq, Eq)]
+#[derive(Clone, Copy)]
 pub enum Action {
     Version,
     Login,

@@ -6,7 +6,7 @@ ghost use Rattle.ks_rule.specs.Seen.{seen, IsText};
 use std::marker::Model;
 
 /// What may stand behind a part of a rule.
-#[derive(Clone, Copy, PartialEq, Eq)]
+#[derive(Clone, Copy)]
 pub enum End {
     Close,
     And,

@@ -10,7 +10,7 @@ use ks_outside::{Desk, Failed};
 use std::alloc::{AllocError, AllocFailed, Global};
 
 /// Why passwords are not derived.
-#[derive(Clone, Copy, PartialEq, Eq)]
+#[derive(Clone, Copy)]
 pub(crate) enum DeriveFault {
     /// The desk gave no random bytes.
     Random,

@@ -8,7 +8,7 @@ use serde_json::Value;
 use std::alloc::Global;
 
 /// How a login shows who it is.
-#[derive(Clone, Copy, Debug, PartialEq, Eq)]
+#[derive(Clone, Copy)]
 pub enum LoginMethod {
     Password,
     Token,

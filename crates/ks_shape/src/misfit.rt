@@ -2,7 +2,7 @@ use ks_base::Memory;
 use std::alloc::{AllocError, AllocFailed};
 
 /// How a value does not fit what a field takes.
-#[derive(Clone, Copy, Debug, PartialEq, Eq)]
+#[derive(Clone, Copy)]
 pub enum Misfit {
     /// It has another type.
     Kind,
@@ -11,7 +11,7 @@ pub enum Misfit {
 }
 
 /// Why a value was not read.
-#[derive(Clone, Copy, Debug, PartialEq, Eq)]
+#[derive(Clone, Copy)]
 pub enum Unread {
     /// It does not fit.
     Misfit(Misfit),
