@@ -101,7 +101,7 @@ fn list<R: Files + AllocGlobal + Clone + Drop>(rt: &R, path: &str) -> Result<Vec
 {
     // Each index with no content.
     let mut found = Vec::new(rt.alloc());
-    'entries: for entry in told(fs::read_dir(rt, path))? {
+    'entries: for entry in answered(fs::read_dir(rt, path))? {
         if let Some(index) = index_of(entry)? {
             put(&mut found, index, Bytes::from_vec(Vec::new(rt.alloc())))?;
         }
@@ -160,12 +160,12 @@ fn write_new<R: Files + AllocGlobal>(
         return Err(DirFault::Failed);
     }
     let mut file = made_anew(rt, fresh.as_str())?;
-    told(file.write_all(content))?;
-    told(file.sync_all())?;
+    answered(file.write_all(content))?;
+    answered(file.sync_all())?;
     if stands(rt, name.as_str())? {
         return Err(DirFault::Failed);
     }
-    told(fs::rename(rt, fresh.as_str(), name.as_str()))?;
+    answered(fs::rename(rt, fresh.as_str(), name.as_str()))?;
     sync_names(rt, path)
 }
 
@@ -173,7 +173,7 @@ fn write_new<R: Files + AllocGlobal>(
 /// that stands keeps its mode.
 fn made_anew<R: Files>(rt: &R, name: &str) -> Result<R::File, DirFault> {
     if_there(fs::remove_file(rt, name))?;
-    told(
+    answered(
         OpenOptions::new()
             .write(true)
             .create_new(true)
@@ -188,7 +188,7 @@ fn rename<R: Files + AllocGlobal>(rt: &R, path: &str, from: u32, to: u32) -> Res
     if from > LAST_KEY_INDEX || to > LAST_KEY_INDEX || stands(rt, new.as_str())? {
         return Err(DirFault::Failed);
     }
-    told(fs::rename(rt, old.as_str(), new.as_str()))?;
+    answered(fs::rename(rt, old.as_str(), new.as_str()))?;
     sync_names(rt, path)
 }
 
@@ -197,19 +197,19 @@ fn remove<R: Files + AllocGlobal>(rt: &R, path: &str, index: u32) -> Result<(), 
     if index > LAST_KEY_INDEX {
         return Err(DirFault::Failed);
     }
-    told(fs::remove_file(rt, name.as_str()))?;
+    answered(fs::remove_file(rt, name.as_str()))?;
     sync_names(rt, path)
 }
 
 /// Has the disk hold which files the folder has, so that what was made, renamed or removed stays so after a
 /// stop of the machine.
 fn sync_names<R: Files>(rt: &R, path: &str) -> Result<(), DirFault> {
-    let folder = told(File::open(rt, path))?;
-    told(folder.sync_all())
+    let folder = answered(File::open(rt, path))?;
+    answered(folder.sync_all())
 }
 
 /// The answer of a call of the system.
-fn told<T: Drop>(answer: io::Result<T>) -> Result<T, DirFault> {
+fn answered<T: Drop>(answer: io::Result<T>) -> Result<T, DirFault> {
     match answer {
         Ok(value) => Ok(value),
         Err(error) => Err(error.into()),

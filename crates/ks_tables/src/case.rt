@@ -3,7 +3,7 @@
 use anyhow::Result;
 use std::alloc::Global;
 
-/// The cells of a case but for the answer, each as the bytes that it stands for.
+/// Cells of a row, each as the bytes that it stands for: of a case those before the answer.
 #[derive(Clone, Copy)]
 pub struct Case<'a> {
     cells: &'a [Vec<u8>],
@@ -11,7 +11,7 @@ pub struct Case<'a> {
 
 impl<'a> Case<'a> {
     /// A case of these cells.
-    pub fn new(cells: &'a [Vec<u8>]) -> Case<'a> {
+    pub(crate) fn new(cells: &'a [Vec<u8>]) -> Case<'a> {
         Case { cells }
     }
 

@@ -1,5 +1,5 @@
 //! A token whose key is rotated away while it is validated.
-ghost use Rattle.std.specs.Prelude.{◌≡◌, IfOk};
+ghost use Rattle.std.specs.Prelude.{◌≡◌, ◌≤◌, IfOk};
 ghost use Rattle.ks_machine.specs.Fit.{Fit};
 
 use crate::calls::{ANN, BOB, rotate, validate};
@@ -80,7 +80,7 @@ fn hold_back<N: First + Send + Sync, R: Threads + Wait + Sync>(
     held: &Call,
 ) -> Result<()>
     requires own { pass.turn ≡ turn.now }
-    requires weight { pass.weight ≡ 1000000 }
+    requires weight { 2 ≤ pass.weight }
     requires fit { Fit held.now }
 {
     let gate = HoldingGate::new(Place::Opening);
