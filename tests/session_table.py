@@ -1,9 +1,9 @@
 #!/usr/bin/env python3
-"""Compares the responses of whole sessions, which the program ks_talk_cases tries, with those of the plain reading of the server.
+"""Compares the responses of whole sessions, which the program ks_run_cases tries, with those of the plain reading of the server.
 
     tests/session_table.py [--write]
 
-The tables are those of crates/ks_talk_cases/data, whose README.txt says what they hold. With --write the responses, and the tokens
+The tables of sessions are those that README.txt of crates/ks_run_cases/data names. With --write the responses, and the tokens
 that are sealed by hand, are worked out anew and written into the tables: whoever adds a session writes its requests alone. The exit
 status is 1 where a table says otherwise.
 """
@@ -20,7 +20,7 @@ from second_reading.routes import DRAWING, command_of
 from second_reading.words import CAUSES_OF_BYTES, OpeningRefused, REASONS, Refusal
 
 TOP = os.path.dirname(os.path.dirname(os.path.abspath(__file__)))
-DATA = os.path.join(TOP, "crates", "ks_talk_cases", "data")
+DATA = os.path.join(TOP, "crates", "ks_run_cases", "data")
 TABLES = ("logins", "tokens", "rows", "relations", "trusts", "revocations", "keys", "wire", "faults")
 STATUSES = {"Shape": 7, "Policy": 7, "BadKey": 7, "Folder": 8, "Keys": 9, "Random": 10}
 PIECE = 64

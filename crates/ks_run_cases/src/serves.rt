@@ -1,10 +1,10 @@
 //! The table of `serve`.
 
-use crate::runs::{WHOLE, desk_of, serve_at};
-use crate::talks::{Known, names};
+use crate::run::{Outside, ROOM, WHOLE, desk_of, folder, run_over};
+use crate::talks::names;
 use anyhow::Result;
 use ks_outside::{MemoryDesk, MemoryDir, MemoryLink, MemorySink, MemorySource};
-use ks_tables::Case;
+use ks_tables::{Case, Row};
 use std::alloc::Global;
 use std::sync::Wait;
 use std::thread::Threads;
@@ -13,21 +13,50 @@ use std::thread::Threads;
 /// status, and the names of the responses on the links that each desk took back.
 pub fn serves<R: AllocGlobal + Threads + Wait + Sync>(
     rt: &R,
-    known: &Known,
+    outside: &Outside<'_>,
+    known: &[Row],
     case: &Case,
 ) -> Result<String> {
     let alloc = rt.alloc();
-    let mut words = Vec::new(alloc);
-    for word in ["serve", "o1.json", "keys", "127.0.0.1:0"] {
-        words.push(word)?;
-    }
-    for word in case.str(2)?.split_whitespace() {
-        words.push(word)?;
-    }
+    let command = format!(in alloc; "serve o1.json keys 127.0.0.1:0 {}", case.str(2)?)?;
+    let mut dir = folder(alloc, "", 0)?;
+    let desks = desks(alloc, *outside, case)?;
+    let end = run_over(rt, command.as_str(), outside, &mut dir, desks)?;
+    said(alloc, known, end.status, end.desks.as_slice())
+}
+
+/// The two desks of a case.
+fn desks(
+    alloc: Global,
+    mut outside: Outside<'_>,
+    case: &Case,
+) -> Result<Vec<(MemoryDesk, MemoryDir)>> {
     let mut desks = Vec::new(alloc);
-    desks.push(desk(alloc, case.str(0)?, 0)?)?;
-    desks.push(desk(alloc, case.str(1)?, case.number(3)?)?)?;
-    let (status, desks) = serve_at(rt, words.as_slice(), known.file.as_bytes(), desks)?;
+    desks.push(desk_of(alloc, &outside, links(alloc, case.str(0)?)?)?)?;
+    outside.fails.accept = case.number(3)?;
+    desks.push(desk_of(alloc, &outside, links(alloc, case.str(1)?)?)?)?;
+    Ok(desks)
+}
+
+/// The links of these inputs.
+fn links(alloc: Global, inputs: &str) -> Result<Vec<MemoryLink>> {
+    let mut links = Vec::new(alloc);
+    for input in inputs.split(';') {
+        if !input.is_empty() {
+            let source = MemorySource::new(alloc, input.as_bytes(), &[], WHOLE)?;
+            links.push(MemoryLink::new(source, MemorySink::new(alloc, ROOM, &[], WHOLE)?))?;
+        }
+    }
+    Ok(links)
+}
+
+/// The status, and the names of what was written to the links of each desk.
+fn said(
+    alloc: Global,
+    known: &[Row],
+    status: u8,
+    desks: &[(MemoryDesk, MemoryDir)],
+) -> Result<String> {
     let mut said = format!(in alloc; "{status}:")?;
     for (at, (desk, _place)) in desks.iter().enumerate() {
         if at > 0 {
@@ -38,24 +67,11 @@ pub fn serves<R: AllocGlobal + Threads + Wait + Sync>(
     Ok(said)
 }
 
-/// A desk of these links, of which this accept fails, with an empty folder.
-fn desk(alloc: Global, text: &str, failing: u64) -> Result<(MemoryDesk, MemoryDir)> {
-    let mut links = Vec::new(alloc);
-    for input in text.split(';') {
-        if !input.is_empty() {
-            let source = MemorySource::new(alloc, input.as_bytes(), &[], WHOLE)?;
-            links.push(MemoryLink::new(source, MemorySink::new(alloc, WHOLE, &[], WHOLE)?))?;
-        }
-    }
-    let place = MemoryDir::new(alloc, &[], &[], None)?;
-    Ok((desk_of(alloc, links, failing)?, place))
-}
-
 /// What was written to each link.
-fn push_links(alloc: Global, said: &mut String, known: &Known, links: &[MemoryLink]) -> Result<()> {
+fn push_links(alloc: Global, said: &mut String, known: &[Row], links: &[MemoryLink]) -> Result<()> {
     for (at, link) in links.iter().enumerate() {
         said.push_str(if at > 0 { "; " } else { " " })?;
-        said.push_str(names(alloc, known.responses.as_slice(), link.written())?.as_str())?;
+        said.push_str(names(alloc, known, link.written())?.as_str())?;
     }
     Ok(())
 }

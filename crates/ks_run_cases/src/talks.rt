@@ -1,12 +1,10 @@
 //! The tables of `talk` and of `serve`, which have the same responses.
 
-use crate::runs::{End, Outside, WHOLE, run_on};
-use crate::serves::serves;
+use crate::run::{End, Outside, WHOLE, run};
+use crate::session::TALK;
 use anyhow::{Context, Result, bail, ensure};
-use ks_tables::{Case, Row, read_rows, try_table};
+use ks_tables::{Case, Row};
 use std::alloc::Global;
-use std::fs;
-use std::rt::Files;
 use std::sync::Wait;
 use std::thread::Threads;
 
@@ -15,35 +13,6 @@ const SHORT: usize = 1_000;
 
 /// The most responses that are named.
 const MOST: u32 = 100;
-
-/// What all connections stand on: the opening file, and the responses by their names.
-pub struct Known {
-    pub file: String,
-    pub responses: Vec<Row>,
-}
-
-impl Drop for Known {
-    fn drop(self) {
-        let Known {
-            file: _,
-            responses: _,
-        } = self;
-    }
-}
-
-pub fn try_tables<R: Files + Print + AllocGlobal + Threads + Wait + Sync>(rt: &R) -> Result<()> {
-    let known = Known {
-        file: fs::read_to_string(rt, "o1.json")?,
-        responses: read_rows(rt, "talk_responses")?,
-    };
-    try_table(rt, "talks", |_alloc, case| talks(rt, &known, case))?;
-    try_table(
-        rt,
-        "talk_faults",
-        |_alloc, case| talk_faults(rt, &known, case),
-    )?;
-    try_table(rt, "serves", |_alloc, case| serves(rt, &known, case))
-}
 
 /// The bytes of the response of this name, behind which stand `close` where it ends the connection, and `head` where its body
 /// is left out.
@@ -102,64 +71,80 @@ pub fn names(alloc: Global, known: &[Row], bytes: &[u8]) -> Result<String> {
     bail!("more responses")
 }
 
-/// Runs `talk`.
-fn talk<R: AllocGlobal + Threads + Wait + Sync>(
-    rt: &R,
-    input: &[u8],
-    outside: &Outside<'_>,
-) -> Result<End> {
-    run_on(rt, &["talk", "o1.json", "keys"], input, outside)
-}
-
 /// Of an input: the names of the responses, which are the same in single bytes.
-fn talks<R: AllocGlobal + Threads + Wait + Sync>(
+pub fn talks<R: AllocGlobal + Threads + Wait + Sync>(
     rt: &R,
-    known: &Known,
+    outside: &Outside<'_>,
+    known: &[Row],
     case: &Case,
 ) -> Result<String> {
     let input = case.bytes(0);
-    let whole = talk(rt, input, &Outside::pieces(known.file.as_bytes(), WHOLE))?;
-    ensure!(whole.status == 0, "status {}", whole.status);
+    let whole = talk(rt, outside, input, WHOLE)?;
     if input.len() < SHORT {
-        let single = talk(rt, input, &Outside::pieces(known.file.as_bytes(), 1))?;
+        let single = talk(rt, outside, input, 1)?;
         ensure!(
-            single.status == 0 && single.written.as_slice() == whole.written.as_slice(),
+            single.as_slice() == whole.as_slice(),
             "in single bytes otherwise"
         );
     }
-    names(
-        rt.alloc(),
-        known.responses.as_slice(),
-        whole.written.as_slice(),
-    )
+    names(rt.alloc(), known, whole.as_slice())
+}
+
+/// What is written for an input in pieces of at most this length, with the status 0.
+fn talk<R: AllocGlobal + Threads + Wait + Sync>(
+    rt: &R,
+    outside: &Outside<'_>,
+    input: &[u8],
+    longest: usize,
+) -> Result<Vec<u8>> {
+    let outside = Outside {
+        input,
+        longest,
+        ..*outside
+    };
+    let end = run(rt, TALK, &outside)?;
+    ensure!(end.status == 0, "status {}", end.status);
+    Ok(end.written)
 }
 
 /// Of an input, the length of the pieces, the read and the write that fail, and responses: the status, and how much of the
 /// responses was written.
-fn talk_faults<R: AllocGlobal + Threads + Wait + Sync>(
+pub fn talk_faults<R: AllocGlobal + Threads + Wait + Sync>(
     rt: &R,
-    known: &Known,
+    outside: &Outside<'_>,
+    known: &[Row],
     case: &Case,
 ) -> Result<String> {
     let alloc = rt.alloc();
-    let mut outside = Outside::pieces(known.file.as_bytes(), case.size(1)?);
-    outside.read = case.number(2)?;
-    outside.write = case.number(3)?;
-    let End {
-        status,
-        written,
-        ..
-    } = talk(rt, case.bytes(0), &outside)?;
-    let mut all = Vec::new(alloc);
-    for name in case.str(4)?.split(", ") {
-        all.extend_from_slice(response(alloc, known.responses.as_slice(), name)?.as_slice())?;
-    }
-    ensure!(
-        all.as_slice().starts_with(written.as_slice()),
-        "no front of them"
-    );
+    let mut fails = outside.fails;
+    fails.read = case.number(2)?;
+    fails.write = case.number(3)?;
+    let outside = Outside {
+        input: case.bytes(0),
+        longest: case.size(1)?,
+        fails,
+        ..*outside
+    };
+    let all = responses(alloc, known, case.str(4)?)?;
+    let end = run(rt, TALK, &outside)?;
+    front(alloc, &end, all.as_slice())
+}
+
+/// The status, and how much of these bytes was written.
+fn front(alloc: Global, end: &End, all: &[u8]) -> Result<String> {
+    let (status, written) = (end.status, end.written.as_slice());
+    ensure!(all.starts_with(written), "no front of them");
     if written.len() == all.len() {
         return Ok(format!(in alloc; "{status}, whole")?);
     }
     Ok(format!(in alloc; "{status}, {} bytes", written.len())?)
+}
+
+/// The bytes of the responses of these names.
+fn responses(alloc: Global, known: &[Row], names: &str) -> Result<Vec<u8>> {
+    let mut bytes = Vec::new(alloc);
+    for name in names.split(", ") {
+        bytes.extend_from_slice(response(alloc, known, name)?.as_slice())?;
+    }
+    Ok(bytes)
 }

@@ -60,11 +60,23 @@ pub fn expanded(alloc: Global, text: &str, own: &Names, common: &Names) -> Resul
     Ok(made)
 }
 
-/// The bytes of a request, with the length of its body for `<length>`.
+/// The text of a request, with the length of its body for `<length>`.
 pub fn with_length(alloc: Global, text: &str) -> Result<String> {
     let Some((front, rest)) = text.split_once(LENGTH) else {
         return Ok(String::from_str(alloc, text)?);
     };
     let (_, body) = text.split_once("\r\n\r\n").context("no body")?;
     Ok(format!(in alloc; "{front}{}{rest}", body.len())?)
+}
+
+/// The token of a response; the empty text where it has none.
+pub fn token_of(response: &[u8]) -> Result<&str> {
+    let response = std::str::from_utf8(response)?;
+    let Some((_, rest)) = response.split_once("X-Subject-Token: ") else {
+        return Ok("");
+    };
+    match rest.split_once("\r\n") {
+        Some((token, _)) => Ok(token),
+        None => Ok(""),
+    }
 }

@@ -2,13 +2,14 @@
 
 use anyhow::{Context, Result, bail};
 
-/// The numbers of the calls that fail, from 1: of reading the opening file, of the folder, of drawing, of reading the input
-/// and of writing. 0 stands for none.
+/// The numbers of the calls that fail, from 1: of reading the opening file, of the folder, of drawing, of accepting a link, of
+/// reading the input and of writing. 0 stands for none.
 #[derive(Clone, Copy)]
 pub struct Fails {
     pub file: u64,
     pub folder: u64,
     pub fill: u64,
+    pub accept: u64,
     pub read: u64,
     pub write: u64,
 }
@@ -18,6 +19,7 @@ impl Fails {
         file: 0,
         folder: 0,
         fill: 0,
+        accept: 0,
         read: 0,
         write: 0,
     };
@@ -39,10 +41,5 @@ impl Fails {
             _ => bail!("nothing that fails"),
         }
         Ok(fails)
-    }
-
-    /// Whether the connection itself fails.
-    pub fn is_of_connection(&self) -> bool {
-        self.read != 0 || self.write != 0
     }
 }

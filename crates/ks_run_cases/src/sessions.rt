@@ -1,0 +1,138 @@
+//! The tables of sessions.
+
+use crate::names::token_of;
+use crate::run::{End, WHOLE, run};
+use crate::session::{Session, TALK};
+use crate::world::World;
+use anyhow::{Result, bail, ensure};
+use ks_tables::{Row, read_rows};
+use std::rt::Files;
+use std::sync::Wait;
+use std::thread::Threads;
+
+/// Longer inputs are given whole alone.
+const SHORT: usize = 4_000;
+
+/// Where the connection fails, no piece is longer.
+const PIECE: usize = 64;
+
+/// The most of an answer that is printed.
+const SHOWN: usize = 400;
+
+/// Tries each session of the table of this name, and prints each that is answered otherwise, and then how many held and
+/// how many requests these had.
+pub fn try_table<R: Files + Print + AllocGlobal + Threads + Wait + Sync>(
+    rt: &R,
+    world: &World,
+    table: &str,
+) -> Result<()> {
+    let rows = read_rows(rt, table)?;
+    let (held, requests) = held(rt, world, table, rows.as_slice())?;
+    println!(rt; "{table} {held} with {requests} requests")?;
+    Ok(())
+}
+
+/// How many sessions hold, and how many requests these have. A row with a name begins one.
+fn held<R: Files + Print + AllocGlobal + Threads + Wait + Sync>(
+    rt: &R,
+    world: &World,
+    table: &str,
+    rows: &[Row],
+) -> Result<(u64, usize)> {
+    let (mut held, mut requests): (u64, usize) = (0, 0);
+    for (at, row) in rows.iter().enumerate() {
+        let name = row.case().str(0)?;
+        if name.is_empty() {
+            continue;
+        }
+        let session = front(rows.split_at(at).1);
+        match try_session(rt, world, name, session) {
+            Ok(()) => {
+                held = held.saturating_add(1);
+                requests = requests.saturating_add(session.len());
+            }
+            Err(found) => println!(rt; "{table}, {name}: {found}")?,
+        }
+    }
+    Ok((held, requests))
+}
+
+/// The rows of the session that the first row begins.
+fn front(rows: &[Row]) -> &[Row] {
+    for (at, row) in rows.iter().enumerate() {
+        if at > 0 && !row.case().bytes(0).is_empty() {
+            return rows.split_at(at).0;
+        }
+    }
+    rows
+}
+
+/// Fails where a session is answered otherwise: whole, or a short one in single bytes.
+fn try_session<R: Files + AllocGlobal + Threads + Wait + Sync>(
+    rt: &R,
+    world: &World,
+    name: &str,
+    rows: &[Row],
+) -> Result<()> {
+    let session = read_session(rt, world, name, rows)?;
+    let is_cut = session.fails.read != 0 || session.fails.write != 0;
+    let outside = session.outside(if is_cut { PIECE } else { WHOLE });
+    try_end(&session, rows, &run(rt, TALK, &outside)?)?;
+    if is_cut || outside.input.len() > SHORT {
+        return Ok(());
+    }
+    try_end(&session, rows, &run(rt, TALK, &session.outside(1))?)
+}
+
+/// The session of these rows.
+fn read_session<R: Files + AllocGlobal>(
+    rt: &R,
+    world: &World,
+    name: &str,
+    rows: &[Row],
+) -> Result<Session> {
+    let setting = world.setting(name);
+    let opening = setting.str(1)?;
+    let opening = if opening.is_empty() { "o1" } else { opening };
+    let mut session = Session::over(rt, world, opening)?;
+    session.set(rt, world, &setting)?;
+    for row in rows {
+        add_row(rt, world, &mut session, row)?;
+    }
+    Ok(session)
+}
+
+/// Adds the request of a row, and lets its name stand for the token of its response.
+fn add_row<R: AllocGlobal>(rt: &R, world: &World, session: &mut Session, row: &Row) -> Result<()> {
+    let case = row.case();
+    let (token, alloc) = (case.str(1)?, rt.alloc());
+    session.ask(alloc, world, case.str(2)?, case.str(3)?, case.str(4)?)?;
+    if !token.is_empty() {
+        session.names.add(alloc, token, token_of(case.bytes(5))?)?;
+    }
+    Ok(())
+}
+
+/// Fails where the end is not that of the session, or what was written is not what these rows expect: all, or where a write
+/// fails a front.
+fn try_end(session: &Session, rows: &[Row], end: &End) -> Result<()> {
+    ensure!(end.status == session.status, "status {}", end.status);
+    let is_cut = session.fails.write != 0;
+    let mut rest = end.written.as_slice();
+    for row in rows {
+        let response = row.case().bytes(5);
+        match rest.strip_prefix(response) {
+            Some(behind) => rest = behind,
+            None if is_cut && response.starts_with(rest) => return Ok(()),
+            None => bail!("line {}: {}", row.line, shown(rest)?),
+        }
+    }
+    ensure!(!is_cut, "all was written");
+    ensure!(rest.is_empty(), "and then {}", shown(rest)?);
+    Ok(())
+}
+
+/// The front of some bytes.
+fn shown(bytes: &[u8]) -> Result<&str> {
+    Ok(std::str::from_utf8(&bytes[..bytes.len().min(SHOWN)])?)
+}
