@@ -5,7 +5,7 @@
 
 The tables of sessions are those that README.txt of crates/ks_run_cases/data names. With --write the responses, and the tokens
 that are sealed by hand, are worked out anew and written into the tables: whoever adds a session writes its requests alone. The exit
-status is 1 where a table says otherwise.
+status is 1 where a table says otherwise, or where the table of routes leaves out a method of a route's path.
 """
 
 import os
@@ -16,12 +16,12 @@ from tables import cell, expanded, is_case, rows, spelled, with_length
 from second_reading.ciphers import key_of, seal
 from second_reading.machine import Machine, wire
 from second_reading.requests import Bad, requests
-from second_reading.routes import DRAWING, command_of
-from second_reading.words import CAUSES_OF_BYTES, OpeningRefused, REASONS, Refusal
+from second_reading.routes import DRAWING, ROUTES, command_of, ids_of
+from second_reading.words import CAUSES_OF_BYTES, METHODS, OpeningRefused, REASONS, Refusal
 
 TOP = os.path.dirname(os.path.dirname(os.path.abspath(__file__)))
 DATA = os.path.join(TOP, "crates", "ks_run_cases", "data")
-TABLES = ("logins", "tokens", "rows", "relations", "trusts", "revocations", "keys", "wire", "faults")
+TABLES = ("logins", "tokens", "rows", "relations", "trusts", "revocations", "keys", "routes", "wire", "faults", "bodies", "opened")
 STATUSES = {"Shape": 7, "Policy": 7, "BadKey": 7, "Folder": 8, "Keys": 9, "Random": 10}
 PIECE = 64
 
@@ -133,6 +133,19 @@ def wrong_openings():
         status = found if isinstance(found, int) else 0
         if (status, derived) != (opening.status, opening.passwords):
             yield f"openings: {opening.name}: status {status}, {derived} passwords derived"
+
+
+def untried_routes():
+    """The methods that no request of the table of routes asks of a path which fits a route's pattern."""
+    asked = set()
+    for row in rows(path_of("routes")):
+        method, target = row[4].replace(b"<login>", NAMES["login"]).decode().split(" ")[:2]
+        path = target.partition("?")[0]
+        asked.update((method, pattern) for _, pattern, _, _ in ROUTES if ids_of(pattern, path) is not None)
+    for pattern in dict.fromkeys(route[1] for route in ROUTES):
+        for method in METHODS:
+            if (method, pattern) not in asked:
+                yield f"routes: no request asks for {method} of {pattern}"
 
 
 # Sessions.
@@ -268,7 +281,7 @@ def anew(name, last):
 def main():
     tables = {name: anew(name, last_of_sessions()) for name in TABLES}
     tables.update(cuts=anew("cuts", last_of_cut), sealed=anew("sealed", last_of_sealed), many=anew("many", last_of_many))
-    wrong, sessions, responses = list(wrong_openings()), 0, 0
+    wrong, sessions, responses = [*wrong_openings(), *untried_routes()], 0, 0
     for name, lines in tables.items():
         with open(path_of(name), encoding="utf-8") as file:
             given = file.readlines()

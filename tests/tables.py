@@ -3,6 +3,8 @@
 import re
 
 ESCAPE = re.compile(r"\\(?:r|n|(\d*)(x?)\{([^}]*)\})")
+# So many of one character are told by their number.
+RUN = re.compile(r"([^\\{}\r\n])\1{63,}")
 
 
 def cell(text):
@@ -23,6 +25,7 @@ def spelled(data):
     """The text of a cell that stands for some bytes."""
     text = data.decode("utf-8", "surrogateescape")
     text = re.sub(r"[\\|]|[^\r\n -~\u00a0-\uffff]", lambda match: "\\x{%s}" % match[0].encode("utf-8", "surrogateescape").hex(), text)
+    text = RUN.sub(lambda match: "\\%d{%s}" % (len(match[0]), match[1]), text)
     return text.replace("\r", "\\r").replace("\n", "\\n")
 
 

@@ -27,7 +27,7 @@ use std::sync::Wait;
 use std::thread::Threads;
 
 /// The tables of sessions.
-const TABLES: [&str; 9] = [
+const TABLES: [&str; 12] = [
     "logins",
     "tokens",
     "rows",
@@ -35,8 +35,11 @@ const TABLES: [&str; 9] = [
     "trusts",
     "revocations",
     "keys",
+    "routes",
     "wire",
     "faults",
+    "bodies",
+    "opened",
 ];
 
 fn main(rt: HostRuntime) -> Result<()> {

@@ -91,14 +91,22 @@ fn read_session<R: Files + AllocGlobal>(
     name: &str,
     rows: &[Row],
 ) -> Result<Session> {
-    let setting = world.setting(name);
+    let mut session = opened_session(rt, world, name)?;
+    for row in rows {
+        add_row(rt, world, &mut session, row)?;
+    }
+    Ok(session)
+}
+
+/// The session of this name before its requests.
+fn opened_session<R: Files + AllocGlobal>(rt: &R, world: &World, name: &str) -> Result<Session> {
+    let Some(setting) = world.setting(name) else {
+        return Session::over(rt, world, "o1");
+    };
     let opening = setting.str(1)?;
     let opening = if opening.is_empty() { "o1" } else { opening };
     let mut session = Session::over(rt, world, opening)?;
     session.set(rt, world, &setting)?;
-    for row in rows {
-        add_row(rt, world, &mut session, row)?;
-    }
     Ok(session)
 }
 

@@ -12,7 +12,7 @@ use std::thread::Threads;
 const SHORT: usize = 1_000;
 
 /// The most responses that are named.
-const MOST: u32 = 100;
+const MOST: u32 = 2_000;
 
 /// The bytes of the response of this name, behind which stand `close` where it ends the connection, and `head` where its body
 /// is left out.

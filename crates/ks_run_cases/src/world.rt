@@ -73,9 +73,9 @@ impl World {
         })
     }
 
-    /// How a session opens and ends; all cells are empty where the table does not say.
-    pub fn setting(&self, session: &str) -> Case<'_> {
-        row_of(self.sessions.as_slice(), session).unwrap_or(Case::new(&[]))
+    /// How a session opens and ends, where it does so otherwise than most.
+    pub fn setting(&self, session: &str) -> Option<Case<'_>> {
+        row_of(self.sessions.as_slice(), session)
     }
 
     /// A cell with what its names stand for.

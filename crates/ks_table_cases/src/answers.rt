@@ -1,120 +1,64 @@
-//! What calls answer, in words.
+//! What changes of tables answer, without the ids that a refusal names.
 
-use anyhow::Result;
-use ks_base::{Id, Kind, RowFault, TreeFault};
-use std::alloc::Global;
+use ks_base::{Kind, RowFault, TreeFault, TrustFault};
+use ks_revoke::RevokeFault;
 
-/// Why a call was refused.
-pub trait Fault: Drop {
-    /// The name of the variant, and its kind and id behind it.
-    fn shown(&self, alloc: Global) -> Result<String>;
+#[derive(Clone, Copy, Debug)]
+pub enum Answer {
+    Done,
+    /// The row stands already.
+    Stands,
+    Full(Kind),
+    Absent(Kind),
+    NameTaken,
+    IdTaken,
+    /// Any other refusal.
+    Refused,
 }
 
-pub fn copied(alloc: Global, text: &str) -> Result<String> {
-    Ok(String::from_str(alloc, text)?)
-}
-
-/// What a change answered.
-pub fn done<F: Fault>(alloc: Global, answer: Result<(), F>) -> Result<String> {
+pub fn of_tree(answer: Result<(), TreeFault>) -> Answer {
     match answer {
-        Ok(()) => copied(alloc, "ok"),
-        Err(fault) => fault.shown(alloc),
+        Ok(()) => Answer::Done,
+        Err(TreeFault::Full(kind)) => Answer::Full(kind),
+        Err(TreeFault::NameTaken(_)) => Answer::NameTaken,
+        Err(TreeFault::IdTaken(_)) => Answer::IdTaken,
+        Err(_) => Answer::Refused,
     }
 }
 
-/// What a change answered that says whether it is new.
-pub fn done_new<F: Fault>(alloc: Global, answer: Result<bool, F>) -> Result<String> {
+pub fn of_row(answer: Result<(), RowFault>) -> Answer {
     match answer {
-        Ok(true) => copied(alloc, "new"),
-        Ok(false) => copied(alloc, "stands"),
-        Err(fault) => fault.shown(alloc),
+        Ok(()) => Answer::Done,
+        Err(fault) => of_new(Err(fault)),
     }
 }
 
-pub fn yes_or_no(alloc: Global, holds: bool) -> Result<String> {
-    copied(alloc, if holds { "yes" } else { "no" })
-}
-
-/// The id that was found, if one was.
-pub fn found(alloc: Global, id: Option<&Id>) -> Result<String> {
-    match id {
-        Some(id) => copied(alloc, id_text(id)?),
-        None => copied(alloc, "none"),
+/// Of an addition that says whether the row is new.
+pub fn of_new(answer: Result<bool, RowFault>) -> Answer {
+    match answer {
+        Ok(true) => Answer::Done,
+        Ok(false) => Answer::Stands,
+        Err(RowFault::Full(kind)) => Answer::Full(kind),
+        Err(RowFault::Absent(kind, _)) => Answer::Absent(kind),
+        Err(RowFault::NameTaken(_)) => Answer::NameTaken,
+        Err(RowFault::IdTaken(_)) => Answer::IdTaken,
+        Err(_) => Answer::Refused,
     }
 }
 
-pub fn id_text(id: &Id) -> Result<&str> {
-    Ok(std::str::from_utf8(id.as_slice())?)
-}
-
-/// The ids in their order, with blanks between them.
-pub fn ids_text(alloc: Global, ids: &[Id]) -> Result<String> {
-    if ids.is_empty() {
-        return copied(alloc, "none");
-    }
-    let mut text = String::new(alloc);
-    for id in ids {
-        if !text.is_empty() {
-            text.push(' ')?;
-        }
-        text.push_str(id_text(id)?)?;
-    }
-    Ok(text)
-}
-
-/// The text as a word, in quotes where it needs them.
-pub fn push_word(text: &mut String, word: &str) -> Result<()> {
-    if word.is_empty() || word.contains(' ') {
-        text.push('"')?;
-        text.push_str(word)?;
-        text.push('"')?;
-    } else {
-        text.push_str(word)?;
-    }
-    Ok(())
-}
-
-pub fn with_id(alloc: Global, name: &str, id: &Id) -> Result<String> {
-    let id = id_text(id)?;
-    Ok(format!(in alloc; "{name} {id}")?)
-}
-
-fn absent(alloc: Global, kind: Kind, id: &Id) -> Result<String> {
-    let id = id_text(id)?;
-    Ok(format!(in alloc; "Absent {kind:?} {id}")?)
-}
-
-pub fn full(alloc: Global, kind: Kind) -> Result<String> {
-    Ok(format!(in alloc; "Full {kind:?}")?)
-}
-
-impl Fault for TreeFault {
-    fn shown(&self, alloc: Global) -> Result<String> {
-        match self {
-            TreeFault::Absent(kind, id) => absent(alloc, *kind, id),
-            TreeFault::NoParent(id) => with_id(alloc, "NoParent", id),
-            TreeFault::TooDeep => copied(alloc, "TooDeep"),
-            TreeFault::HasChildren(id) => with_id(alloc, "HasChildren", id),
-            TreeFault::EnabledBelow(id) => with_id(alloc, "EnabledBelow", id),
-            TreeFault::DisabledAbove(id) => with_id(alloc, "DisabledAbove", id),
-            TreeFault::DomainEnabled => copied(alloc, "DomainEnabled"),
-            TreeFault::NameTaken(id) => with_id(alloc, "NameTaken", id),
-            TreeFault::Full(kind) => full(alloc, *kind),
-            TreeFault::IdTaken(id) => with_id(alloc, "IdTaken", id),
-            TreeFault::Memory => copied(alloc, "Memory"),
-        }
+pub fn of_trust(answer: Result<(), TrustFault>) -> Answer {
+    match answer {
+        Ok(()) => Answer::Done,
+        Err(TrustFault::Full(kind)) => Answer::Full(kind),
+        Err(TrustFault::IdTaken(_)) => Answer::IdTaken,
+        Err(_) => Answer::Refused,
     }
 }
 
-impl Fault for RowFault {
-    fn shown(&self, alloc: Global) -> Result<String> {
-        match self {
-            RowFault::Absent(kind, id) => absent(alloc, *kind, id),
-            RowFault::Prohibited => copied(alloc, "Prohibited"),
-            RowFault::NameTaken(id) => with_id(alloc, "NameTaken", id),
-            RowFault::Full(kind) => full(alloc, *kind),
-            RowFault::IdTaken(id) => with_id(alloc, "IdTaken", id),
-            RowFault::Memory => copied(alloc, "Memory"),
-        }
+pub fn of_event(answer: Result<(), RevokeFault>) -> Answer {
+    match answer {
+        Ok(()) => Answer::Done,
+        Err(RevokeFault::Full(kind)) => Answer::Full(kind),
+        Err(RevokeFault::Memory) => Answer::Refused,
     }
 }

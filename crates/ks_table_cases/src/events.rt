@@ -1,10 +1,6 @@
-//! Calls on revocations.
+//! Revocations, each at the greatest moment of its time.
 ghost use Rattle.std.specs.Prelude.{◌≡◌};
 
-use crate::answers::{Fault, copied, done, full, yes_or_no};
-use crate::history;
-use crate::things::{holder, thing, thing_text};
-use crate::words::Words;
 use anyhow::Result;
 use ks_base::{EventRow, Revoke};
 use ks_revoke::{RevokeFault, Revoked};
@@ -53,69 +49,4 @@ impl Events {
         }
         Ok(rows)
     }
-}
-
-impl Fault for RevokeFault {
-    fn shown(&self, alloc: Global) -> Result<String> {
-        match self {
-            RevokeFault::Full(kind) => full(alloc, *kind),
-            RevokeFault::Memory => copied(alloc, "Memory"),
-        }
-    }
-}
-
-/// What a call of this name answers, if it is one on revocations.
-pub fn call(
-    alloc: Global,
-    events: &mut Events,
-    name: &str,
-    words: &mut Words,
-) -> Result<Option<String>> {
-    let said = match name {
-        "life" => {
-            *events = Events::new(alloc, words.number()?);
-            copied(alloc, "ok")
-        }
-        "room" => done(
-            alloc,
-            events.revoked.room(usize::try_from(words.number()?)?),
-        ),
-        "revoke" => done(alloc, events.add(&thing(words)?)),
-        "advance" => {
-            events.advance(words.number()?);
-            copied(alloc, "ok")
-        }
-        "is_revoked" => tested(alloc, events, words),
-        "kept" => rows_text(alloc, events.revoked.kept()?.as_slice()),
-        "marks" => rows_text(alloc, events.marks(alloc)?.as_slice()),
-        "random_events" => history::random_run(alloc, words.number()?, words.number()?),
-        _ => return Ok(None),
-    };
-    Ok(Some(said?))
-}
-
-/// Of `HOLDER issued N`.
-fn tested(alloc: Global, events: &Events, words: &mut Words) -> Result<String> {
-    let holder = holder(words)?;
-    let _trustor = &holder.trustor;
-    words.pass("issued")?;
-    let issued = words.number()?;
-    yes_or_no(alloc, events.revoked.test(&holder, issued))
-}
-
-/// What each names, with its moment, and commas between them.
-fn rows_text(alloc: Global, rows: &[EventRow]) -> Result<String> {
-    if rows.is_empty() {
-        return copied(alloc, "none");
-    }
-    let mut text = String::new(alloc);
-    for row in rows {
-        if !text.is_empty() {
-            text.push_str(", ")?;
-        }
-        let what = thing_text(alloc, &row.what)?;
-        let moment = row.moment;
-        write!(text, "{what} at {moment}")?;
-    }
-    Ok(text)
 }

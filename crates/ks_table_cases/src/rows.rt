@@ -1,155 +1,148 @@
-//! Rows in words: what a call gives of one, and what is shown of one.
-//!
-//! | Row | Words |
-//! |---|---|
-//! | domain | `ID named NAME`, `described TEXT` where its description is not empty, `disabled` where it is |
-//! | project | `ID in DOMAIN under PARENT named NAME`, the same |
-//! | user | `ID in DOMAIN named NAME`, `disabled` |
-//! | group | `ID in DOMAIN named NAME`, `described TEXT` |
-//! | role | `ID named NAME`, `described TEXT` |
+//! Rows of each kind, made of two words.
+ghost use Rattle.std.specs.Prelude.{◌≡◌, IfOk};
 
-use crate::answers::{id_text, push_word};
-use crate::words::Words;
-use anyhow::Result;
-use ks_base::{DomainRow, GroupRow, Id, ProjectRow, RoleRow, Text, UserRow};
+use anyhow::{Result, bail};
+use ks_base::{
+    Actor, DomainRow, GrantRow, GroupRow, Id, IdList, ImplyRow, MemberRow, RoleRow, Target, Text,
+    TrustRow, UserRow,
+};
 use std::alloc::Global;
 
-/// The name and the description.
-fn named(alloc: Global, words: &mut Words) -> Result<(Text, Text)> {
-    words.pass("named")?;
-    let name = words.text(alloc)?;
-    let description = if words.takes("described") {
-        words.text(alloc)?
-    } else {
-        Text::of(alloc, "")?
-    };
-    Ok((name, description))
+/// How many members a group has, implications a role, and grants a user, of those that are made by number.
+const EACH: u64 = 512;
+
+/// The two words of a row. A domain, a user, a group and a role has an id and a name; a membership a group and a user; an
+/// implication the prior role and the implied one; a grant a user and a role; a trust an id and a role; and a revocation a
+/// user, its second word being of no account.
+#[derive(Clone, Copy)]
+pub struct Pair {
+    pub first: Id,
+    pub second: Id,
 }
 
-pub fn domain(alloc: Global, words: &mut Words) -> Result<DomainRow> {
-    let id = words.id()?;
-    let (name, description) = named(alloc, words)?;
-    Ok(DomainRow {
-        id,
-        name,
-        description,
-        enabled: !words.takes("disabled"),
-    })
-}
-
-pub fn project(alloc: Global, words: &mut Words) -> Result<ProjectRow> {
-    let id = words.id()?;
-    words.pass("in")?;
-    let domain = words.id()?;
-    words.pass("under")?;
-    let parent = words.id()?;
-    let (name, description) = named(alloc, words)?;
-    Ok(ProjectRow {
-        id,
-        domain,
-        parent,
-        name,
-        description,
-        enabled: !words.takes("disabled"),
-    })
-}
-
-pub fn user(alloc: Global, words: &mut Words) -> Result<UserRow> {
-    let id = words.id()?;
-    words.pass("in")?;
-    let domain = words.id()?;
-    words.pass("named")?;
-    Ok(UserRow {
-        id,
-        domain,
-        name: words.text(alloc)?,
-        enabled: !words.takes("disabled"),
-        password: None,
-    })
-}
-
-pub fn group(alloc: Global, words: &mut Words) -> Result<GroupRow> {
-    let id = words.id()?;
-    words.pass("in")?;
-    let domain = words.id()?;
-    let (name, description) = named(alloc, words)?;
-    Ok(GroupRow {
-        id,
-        domain,
-        name,
-        description,
-    })
-}
-
-pub fn role(alloc: Global, words: &mut Words) -> Result<RoleRow> {
-    let id = words.id()?;
-    let (name, description) = named(alloc, words)?;
-    Ok(RoleRow {
-        id,
-        name,
-        description,
-    })
-}
-
-fn push_field(text: &mut String, word: &str, value: &str) -> Result<()> {
-    text.push(' ')?;
-    text.push_str(word)?;
-    text.push(' ')?;
-    push_word(text, value)
-}
-
-fn push_name(text: &mut String, name: &Text, description: &Text) -> Result<()> {
-    push_field(text, "named", name.as_str())?;
-    if !description.as_str().is_empty() {
-        push_field(text, "described", description.as_str())?;
+impl Pair {
+    pub fn read(first: &str, second: &str) -> Result<Pair> {
+        Ok(Pair {
+            first: id(first)?,
+            second: id(second)?,
+        })
     }
-    Ok(())
-}
 
-fn push_state(text: &mut String, enabled: bool) -> Result<()> {
-    if !enabled {
-        text.push_str(" disabled")?;
+    /// The row that has this number among those with an id.
+    pub fn numbered(alloc: Global, number: u64) -> Result<Pair> {
+        let id = digits(alloc, number)?;
+        Ok(Pair {
+            first: id,
+            second: id,
+        })
     }
-    Ok(())
+
+    /// The row that has this number among those that relate two ids.
+    pub fn related(alloc: Global, number: u64) -> Result<Pair> {
+        Ok(Pair {
+            first: digits(alloc, number / EACH)?,
+            second: digits(alloc, number % EACH)?,
+        })
+    }
+
+    fn name(&self, alloc: Global) -> Result<Text> {
+        let name = std::str::from_utf8(self.second.as_slice())?;
+        Ok(Text::of(alloc, name)?)
+    }
+
+    /// A disabled domain, which may be dropped.
+    pub fn domain(&self, alloc: Global) -> Result<DomainRow> {
+        Ok(DomainRow {
+            id: self.first,
+            name: self.name(alloc)?,
+            description: Text::of(alloc, "")?,
+            enabled: false,
+        })
+    }
+
+    pub fn user(&self, alloc: Global) -> Result<UserRow> {
+        Ok(UserRow {
+            id: self.first,
+            domain: id("d")?,
+            name: self.name(alloc)?,
+            enabled: true,
+            password: None,
+        })
+    }
+
+    pub fn group(&self, alloc: Global) -> Result<GroupRow> {
+        Ok(GroupRow {
+            id: self.first,
+            domain: id("d")?,
+            name: self.name(alloc)?,
+            description: Text::of(alloc, "")?,
+        })
+    }
+
+    pub fn role(&self, alloc: Global) -> Result<RoleRow> {
+        Ok(RoleRow {
+            id: self.first,
+            name: self.name(alloc)?,
+            description: Text::of(alloc, "")?,
+        })
+    }
+
+    pub fn member(&self) -> MemberRow {
+        MemberRow {
+            group: self.first,
+            user: self.second,
+        }
+    }
+
+    pub fn implication(&self) -> ImplyRow {
+        ImplyRow {
+            prior: self.first,
+            implied: self.second,
+        }
+    }
+
+    pub fn grant(&self) -> GrantRow {
+        GrantRow {
+            actor: Actor::User(self.first),
+            target: Target::System,
+            inherited: false,
+            role: self.second,
+        }
+    }
+
+    pub fn trust(&self, alloc: Global) -> Result<TrustRow>
+        ensures { IfOk result (λ row. row.parent ≡ None) }
+    {
+        Ok(TrustRow {
+            id: self.first,
+            trustor: id("ann")?,
+            trustee: id("bob")?,
+            project: id("p")?,
+            roles: listed(alloc, &self.second)?,
+            impersonation: false,
+            expires: None,
+            remaining: None,
+            count: 0,
+            parent: None,
+        })
+    }
 }
 
-fn push_place(text: &mut String, domain: &Id) -> Result<()> {
-    push_field(text, "in", id_text(domain)?)
+/// The list of this one id.
+pub fn listed(alloc: Global, id: &Id) -> Result<IdList> {
+    let mut ids = IdList::new(alloc);
+    ids.push(*id)?;
+    Ok(ids)
 }
 
-pub fn domain_text(alloc: Global, row: &DomainRow) -> Result<String> {
-    let mut text = String::from_str(alloc, id_text(&row.id)?)?;
-    push_name(&mut text, &row.name, &row.description)?;
-    push_state(&mut text, row.enabled)?;
-    Ok(text)
+pub fn id(word: &str) -> Result<Id> {
+    match Id::read(word.as_bytes()) {
+        Ok(id) => Ok(id),
+        Err(_) => bail!("`{word}` is no id"),
+    }
 }
 
-pub fn project_text(alloc: Global, row: &ProjectRow) -> Result<String> {
-    let mut text = String::from_str(alloc, id_text(&row.id)?)?;
-    push_place(&mut text, &row.domain)?;
-    push_field(&mut text, "under", id_text(&row.parent)?)?;
-    push_name(&mut text, &row.name, &row.description)?;
-    push_state(&mut text, row.enabled)?;
-    Ok(text)
-}
-
-pub fn user_text(alloc: Global, row: &UserRow) -> Result<String> {
-    let mut text = String::from_str(alloc, id_text(&row.id)?)?;
-    push_place(&mut text, &row.domain)?;
-    push_field(&mut text, "named", row.name.as_str())?;
-    push_state(&mut text, row.enabled)?;
-    Ok(text)
-}
-
-pub fn group_text(alloc: Global, row: &GroupRow) -> Result<String> {
-    let mut text = String::from_str(alloc, id_text(&row.id)?)?;
-    push_place(&mut text, &row.domain)?;
-    push_name(&mut text, &row.name, &row.description)?;
-    Ok(text)
-}
-
-pub fn role_text(alloc: Global, row: &RoleRow) -> Result<String> {
-    let mut text = String::from_str(alloc, id_text(&row.id)?)?;
-    push_name(&mut text, &row.name, &row.description)?;
-    Ok(text)
+/// The number in six digits.
+fn digits(alloc: Global, number: u64) -> Result<Id> {
+    id(format!(in alloc; "{number:06}")?.as_str())
 }

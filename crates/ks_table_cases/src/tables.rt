@@ -1,0 +1,113 @@
+//! All tables, and the rows that come and go.
+
+use crate::answers::{Answer, of_event, of_new, of_row, of_tree, of_trust};
+use crate::events::Events;
+use crate::rows::{Pair, listed};
+use anyhow::{Result, bail};
+use ks_assign::Grants;
+use ks_base::{Kind, Revoke};
+use ks_people::People;
+use ks_roles::Roles;
+use ks_tree::Tree;
+use ks_trust::Trusts;
+use std::alloc::Global;
+
+/// How long tokens live, in seconds.
+const LIFE: u64 = 3_600;
+
+/// The tables that are filled.
+pub struct Tables {
+    alloc: Global,
+    tree: Tree,
+    people: People,
+    roles: Roles,
+    grants: Grants,
+    trusts: Trusts,
+    events: Events,
+}
+
+impl Drop for Tables {
+    fn drop(self) {
+        let Tables {
+            alloc: _,
+            tree: _,
+            people: _,
+            roles: _,
+            grants: _,
+            trusts: _,
+            events: _,
+        } = self;
+    }
+}
+
+impl Tables {
+    /// Empty tables.
+    pub fn new(alloc: Global) -> Tables {
+        Tables {
+            alloc,
+            tree: Tree::new(alloc),
+            people: People::new(alloc),
+            roles: Roles::new(alloc),
+            grants: Grants::new(alloc),
+            trusts: Trusts::new(alloc),
+            events: Events::new(alloc, LIFE),
+        }
+    }
+
+    /// Adds a row of this kind.
+    pub fn add(&mut self, kind: Kind, pair: &Pair) -> Result<Answer> {
+        let alloc = self.alloc;
+        match kind {
+            Kind::Domain => Ok(of_tree(self.tree.add_domain(pair.domain(alloc)?))),
+            Kind::User => Ok(of_row(self.people.add_user(pair.user(alloc)?))),
+            Kind::Group => Ok(of_row(self.people.add_group(pair.group(alloc)?))),
+            Kind::Member => Ok(of_new(self.people.join_group(pair.member()))),
+            Kind::Role => Ok(of_row(self.roles.add(pair.role(alloc)?))),
+            Kind::Implication => Ok(of_new(self.roles.imply(pair.implication()))),
+            Kind::Grant => Ok(self.grant(pair)),
+            Kind::Trust => self.trust(pair),
+            Kind::Event => Ok(of_event(self.events.add(&Revoke::User(pair.first)))),
+            Kind::Project => bail!("no projects are made"),
+        }
+    }
+
+    fn grant(&mut self, pair: &Pair) -> Answer {
+        let row = pair.grant();
+        let (_actor, _target) = (&row.actor, &row.target);
+        of_new(self.grants.grant(row))
+    }
+
+    /// A trust of somebody who has all roles.
+    fn trust(&mut self, pair: &Pair) -> Result<Answer> {
+        let row = pair.trust(self.alloc)?;
+        let held = listed(self.alloc, &pair.second)?;
+        Ok(of_trust(self.trusts.create(row, &held, 0)))
+    }
+
+    /// Takes a row of this kind out.
+    pub fn remove(&mut self, kind: Kind, pair: &Pair) -> Result<Answer> {
+        match kind {
+            Kind::Domain => Ok(of_tree(self.tree.drop_domain(&pair.first))),
+            Kind::Group => Ok(of_row(self.people.drop_group(&pair.first))),
+            Kind::Member => Ok(of_row(self.people.leave_group(&pair.member()))),
+            Kind::Role => Ok(of_row(self.roles.drop_role(&pair.first))),
+            Kind::Implication => Ok(of_row(self.roles.unimply(&pair.implication()))),
+            Kind::Grant => Ok(of_row(self.grants.ungrant(&pair.grant()))),
+            Kind::Trust => self.end_trust(pair),
+            Kind::Project | Kind::User | Kind::Event => bail!("none of these is taken out"),
+        }
+    }
+
+    fn end_trust(&mut self, pair: &Pair) -> Result<Answer> {
+        let Ok(gone) = self.trusts.with_children(&listed(self.alloc, &pair.first)?) else {
+            bail!("out of memory");
+        };
+        self.trusts.drop_all(&gone);
+        Ok(Answer::Done)
+    }
+
+    /// Moves the greatest moment on.
+    pub fn advance(&mut self, moment: u64) {
+        self.events.advance(moment);
+    }
+}

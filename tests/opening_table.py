@@ -1,0 +1,172 @@
+#!/usr/bin/env python3
+"""Runs the built program on opening files, on words of the command line and on bodies that are no text, as tables say.
+
+    tests/opening_table.py
+
+The tables are `opening_lines`, `command_words` and `no_texts` in crates/ks_run_cases/data, whose README.txt says what they hold.
+Beside these, each list of an opening file is given one row more than may stand, and the system gives no random bytes. The program is
+bin/ks of this repository; the environment's KS names another. The exit status is 1 where it ends or answers otherwise.
+"""
+
+import json
+import os
+import re
+import subprocess
+import sys
+import tempfile
+
+sys.dont_write_bytecode = True
+from tables import expanded, rows, with_length
+
+TOP = os.path.dirname(os.path.dirname(os.path.abspath(__file__)))
+KS = os.path.abspath(os.environ.get("KS") or os.path.join(TOP, "bin", "ks"))
+DATA = os.path.join(TOP, "crates", "ks_run_cases", "data")
+
+USAGE = "usage: ks check | ks talk FILE FOLDER | ks serve FILE FOLDER ADDRESS [--workers N] [--connections N] | ks setup FOLDER | ks rotate FOLDER [--max N]"
+NOT_JSON = b'{"error":{"code":400,"message":"The body is not JSON.","title":"Bad Request"}}'
+NAMES = {name.decode(): text for name, text in rows(os.path.join(DATA, "parts.txt"))}
+
+wrong = []
+
+
+def table(name):
+    """The cases of a table."""
+    return rows(os.path.join(DATA, name + ".txt"))
+
+
+def expect(what, got, wanted):
+    """Notes where these differ."""
+    if got != wanted:
+        wrong.append(what)
+        print(f"opening_table: {what[:200]}: {got!r} for {wanted!r}", file=sys.stderr)
+
+
+def run(words, folder, given=b"", tracer=()):
+    """The status, the output and what is said, of the program in a folder; a port that the system chose is told as 0."""
+    ended = subprocess.run([*tracer, KS, *words], cwd=folder, input=given, capture_output=True, timeout=300)
+    said = re.sub(r"(?<=listening on 127\.0\.0\.1:)\d+", "0", ended.stderr.decode())
+    return ended.returncode, ended.stdout, said.removesuffix("\n")
+
+
+def lay_out(folder, files):
+    """A folder of keys: its contents by their indices."""
+    os.mkdir(folder)
+    for index, content in files.items():
+        with open(os.path.join(folder, str(index)), "wb") as file:
+            file.write(content)
+
+
+# Opening files.
+
+
+def try_opening(work, content, line):
+    """An opening file is refused with this line, or opens where there is none."""
+    with open(os.path.join(work, "f"), "wb") as file:
+        file.write(content)
+    wanted = (7, b"", f"ks: f: {line}") if line else (0, b"", "")
+    expect(f"opening {content[:150]!r}", run(["talk", "f", "keys"], work), wanted)
+
+
+def numbered(count, *names, **fields):
+    """Rows with a number in each of these fields, beside the others."""
+    return [{**fields, **{name: f"n{number:05}" for name in names}} for number in range(count)]
+
+
+def pairs(first, firsts, second, seconds, count, **fields):
+    """So many rows with different pairs of ids that stand."""
+    both = [(one, other) for one in range(firsts) for other in range(seconds)]
+    return [{**fields, first: f"n{one:05}", second: f"n{other:05}"} for one, other in both[:count]]
+
+
+def full_files():
+    """For each list of an opening file its limit, and a file with one row more whose rows hold together but for that."""
+    home = {"domain_id": "default"}
+    users, groups = numbered(1024, "id", "name", **home), numbered(512, "id", "name", **home)
+    roles = numbered(1024, "id", "name")
+    yield "domains", 1024, {"domains": numbered(1025, "id", "name")}
+    yield "projects", 65536, {"projects": numbered(65537, "id", "name", **home)}
+    yield "users", 65536, {"users": numbered(65537, "id", "name", **home)}
+    yield "groups", 16384, {"groups": numbered(16385, "id", "name", **home)}
+    yield "members", 262144, {"users": users, "groups": groups, "members": pairs("group", 512, "user", 513, 262145)}
+    yield "roles", 1024, {"roles": numbered(1025, "id", "name")}
+    yield "implications", 8192, {"roles": roles, "implications": pairs("prior", 91, "implied", 91, 8193)}
+    assignments = pairs("user", 512, "role", 513, 262145, domain="default")
+    yield "assignments", 262144, {"users": users, "roles": roles, "assignments": assignments}
+
+
+def try_openings(work):
+    """The opening files of the table; how many there are."""
+    cases = table("opening_lines")
+    for content, line in cases:
+        try_opening(work, expanded(content, NAMES), line.decode())
+    return len(cases)
+
+
+def try_full(work):
+    """Opening files with a row, and with a rule, more than may stand; how many there are."""
+    full = list(full_files())
+    for name, limit, file in full:
+        try_opening(work, json.dumps(file, separators=(",", ":")).encode(), f"{name}: more than {limit} {name}")
+    rules = json.dumps({"policy": {f"n{number}": "@" for number in range(1025)}}).encode()
+    try_opening(work, rules, "policy: more than 1024 rules, the default ones among them")
+    return len(full) + 1
+
+
+def try_without_random(work):
+    """An opening file with a password is refused where the system gives no random bytes, if an strace may see to that."""
+    tracer = "strace -f -qq -o /dev/null -e inject=getrandom:error=EIO".split()
+    try:
+        can_trace = subprocess.run([*tracer, "true"], capture_output=True, check=False).returncode == 0
+    except FileNotFoundError:
+        can_trace = False
+    if not can_trace:
+        print("opening_table: skipped: no random bytes, for want of an strace that may trace")
+        return
+    user = {"id": "u", "domain_id": "default", "name": "U", "password": "p"}
+    with open(os.path.join(work, "f"), "w", encoding="utf-8") as file:
+        json.dump({"settings": {"rounds": 1}, "users": [user]}, file)
+    expect("no random bytes", run(["talk", "f", "keys"], work, tracer=tracer), (10, b"", "ks: there were no random bytes"))
+
+
+# Words of the command line.
+
+
+def try_words(words, status, output, line):
+    """The program ends so where `f` is an opening file over a folder, `keys` a folder of eleven keys and `none` an empty one."""
+    with tempfile.TemporaryDirectory() as work:
+        with open(os.path.join(work, "f"), "wb") as file:
+            file.write(b"{}")
+        lay_out(os.path.join(work, "keys"), {index: NAMES["primary"] for index in range(11)})
+        lay_out(os.path.join(work, "none"), {})
+        given = ["" if word == "''" else word for word in words.decode().split()]
+        wanted = (int(status), output, USAGE if line == b"usage" else line.decode())
+        expect(f"words {words.decode()}", run(given, work), wanted)
+
+
+# Bodies.
+
+
+def try_bodies(work, requests):
+    """Bodies that are no text are refused on one connection, each as no JSON."""
+    fields = f"Content-Length: {len(NOT_JSON)}\r\nContent-Type: application/json\r\nVary: X-Auth-Token\r\n"
+    response = f"HTTP/1.1 400 Bad Request\r\n{fields}\r\n".encode() + NOT_JSON
+    given = b"".join(with_length(expanded(request, NAMES)) for request in requests)
+    ended = run(["talk", os.path.join(DATA, "o1.json"), "keys"], work, given)
+    expect("bodies that are no text", ended, (0, response * len(requests), ""))
+
+
+def main():
+    words, requests = table("command_words"), [row[0] for row in table("no_texts")]
+    with tempfile.TemporaryDirectory() as work:
+        lay_out(os.path.join(work, "keys"), {3: NAMES["staged"], 7: NAMES["primary"]})
+        files = try_openings(work) + try_full(work)
+        try_without_random(work)
+        try_bodies(work, requests)
+    for case in words:
+        try_words(*case)
+    print(f"opening_table: {files} opening files, {len(words)} command lines, {len(requests)} bodies, {len(wrong)} otherwise")
+    return 1 if wrong or not words or not requests else 0
+
+
+if __name__ == "__main__":
+    sys.exit(main())
