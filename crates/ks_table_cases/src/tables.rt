@@ -64,17 +64,11 @@ impl Tables {
             Kind::Member => Ok(of_new(self.people.join_group(pair.member()))),
             Kind::Role => Ok(of_row(self.roles.add(pair.role(alloc)?))),
             Kind::Implication => Ok(of_new(self.roles.imply(pair.implication()))),
-            Kind::Grant => Ok(self.grant(pair)),
+            Kind::Grant => Ok(of_new(self.grants.grant(pair.grant()))),
             Kind::Trust => self.trust(pair),
             Kind::Event => Ok(of_event(self.events.add(&Revoke::User(pair.first)))),
             Kind::Project => bail!("no projects are made"),
         }
-    }
-
-    fn grant(&mut self, pair: &Pair) -> Answer {
-        let row = pair.grant();
-        let (_actor, _target) = (&row.actor, &row.target);
-        of_new(self.grants.grant(row))
     }
 
     /// A trust of somebody who has all roles.
