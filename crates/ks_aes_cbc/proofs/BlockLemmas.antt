@@ -1,6 +1,6 @@
 -- Blocks of 16 bytes, written out and by index, and sums of blocks.
 use Rattle.std.proofs.Common.{◌≡◌, ℕ, zero, suc, ◌<◌, ◌≤◌, List, [], ◌∷◌, ◌++◌, map, length, slice_index, refl, sym, ap, ◌∙◌, arith}
-use Rattle.std.proofs.lemmas.List.{length-map, get_or-map}
+use Rattle.std.proofs.lemmas.List.{length-map}
 use Rattle.std.proofs.lemmas.List.FromFn.{fill_by_all}
 use Rattle.std.specs.Prelude.{bit_xor}
 use Rattle.ks_aes_cbc.specs.Aes.{AreBytes, IsBlock, xor_bytes}
@@ -113,11 +113,3 @@ xor_bytes_from out a b lo la lb each =
     fill_by_all (λ k. bit_xor (slice_index a k) (slice_index b k)) out 16 0 lo each
     ∙ sym (fill_by_all (λ k. bit_xor (slice_index a k) (slice_index b k)) (xor_bytes a b) 16 0 (length-xor_bytes a b 16 la lb)
     (λ k lt. xor_bytes-at a b k (omega arith) (omega arith)))
-
--- a list of 16 whose elements are f of another's is its map
-pub map_from : (f : ℕ → ℕ) (out s : List ℕ) → length out ≡ 16 → length s ≡ 16
-    → ((k : ℕ) → k < 16 → slice_index out k ≡ f (slice_index s k)) → out ≡ map f s
-map_from f out s lo ls each =
-    fill_by_all (λ k. f (slice_index s k)) out 16 0 lo each
-    ∙ sym (fill_by_all (λ k. f (slice_index s k)) (map f s) 16 0 (length-map s f ∙ ls)
-    (λ k lt. get_or-map f s k 0 0 (omega arith)))

@@ -1,5 +1,5 @@
 -- The cipher has an inverse, and each undoes the other on blocks.
-use Rattle.std.proofs.Common.{◌≡◌, ℕ, zero, suc, ◌+◌, ◌-◌, ◌*◌, ◌<◌, List, [], ◌∷◌, slice_index, refl, sym, ap, ◌∙◌, arith}
+use Rattle.std.proofs.Common.{◌≡◌, ℕ, zero, suc, ◌+◌, ◌-◌, ◌*◌, ◌<◌, List, [], ◌∷◌, slice_index, refl, ap, ◌∙◌, arith}
 use Rattle.ks_aes_cbc.specs.Aes.{AreBytes, IsBlock, sub_bytes, shift_rows, mix_columns, xor_bytes, word, turned_word, next_round_key, round_constant, round_key, after_rounds, aes}
 use Rattle.ks_aes_cbc.specs.Inverse.{unsub_bytes, unshift_rows, unmix_columns, undone_rounds, unaes}
 use Rattle.ks_aes_cbc.proofs.Fields.{times_x_byte}
@@ -119,7 +119,3 @@ aes-unaes key c hk hc =
     ap (λ s. xor_bytes (shift_rows (sub_bytes s)) (round_key key 10)) (redone-unaes key c 0 9 refl hk hc)
     ∙ ap (λ s. xor_bytes s (round_key key 10)) (redo_steps (undone_rounds key c 0) (undone_rounds_block key c 0 hk hc))
     ∙ xor_block_cancel c (round_key key 10) hc (round_key_block key 10 hk)
-
--- equal results come from equal blocks
-pub aes_same : (key p q : List ℕ) → IsBlock key → IsBlock p → IsBlock q → aes key p ≡ aes key q → p ≡ q
-aes_same key p q hk hp hq e = sym (unaes-aes key p hk hp) ∙ ap (unaes key) e ∙ unaes-aes key q hk hq

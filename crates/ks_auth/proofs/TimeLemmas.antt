@@ -1,14 +1,15 @@
 -- A token that is held is in time: it can still be asked for, so that the live revocations are those that count.
 use Rattle.std.proofs.Common.{◌≡◌, ℕ, ◌+◌, ◌<◌, ◌≤◌, Bool, true, false, List, Option, Some, None, Result, Ok, Err, arith, refl, subst}
 use Rattle.std.specs.Prelude.{nat_lt, nat_le}
-use Rattle.std.proofs.lemmas.Bool.Decides.{nat_tests}
+use Rattle.std.proofs.lemmas.Bool.{ltb-true, leb-true}
 use Rattle.ks_base.specs.Revocation.{window}
 use Rattle.ks_base.specs.Rows.{Text}
+use Rattle.ks_base.specs.Results.{◌>>=◌, found, need}
 use Rattle.ks_fernet.specs.declared.opening.OpenAnswer.{OpenAnswer}
 use Rattle.ks_fernet.specs.declared.opening.OpenAnswer.TheVariants.{NotText, No, Yes}
 use Rattle.ks_machine.specs.Attempts as attempts
 use Rattle.ks_machine.specs.Attempts.{Attempt, Go, Stop, Lacks, Known, decided}
-use Rattle.ks_machine.specs.TokenLines.{◌>>=◌, end_of, found, need, payload_lines, token_lines}
+use Rattle.ks_machine.specs.TokenLines.{end_of, payload_lines, token_lines}
 use Rattle.ks_machine.specs.Validity.{opens}
 use Rattle.ks_machine.specs.declared.lines.ReadToken.{ReadToken}
 use Rattle.ks_machine.specs.declared.why.Why.{Why}
@@ -25,12 +26,6 @@ pub ok_found : {A B : Type 0} (o : Option A) (w : Why) (f : A → Result B Why) 
 ok_found (Some x) w f b is = (x, refl, is)
 ok_found None w f b is = cc
 
-lt_from : (a b : ℕ) → nat_lt a b ≡ true → a < b
-lt_from a b is = grind (arith, nat_tests, is)
-
-le_from : (a b : ℕ) → nat_le a b ≡ true → a ≤ b
-le_from a b is = grind (arith, nat_tests, is)
-
 in_time_by : (late : Bool) (moment expires issued life : ℕ) → moment < end_of late expires → expires ≤ issued + life → moment < issued + life + window
 in_time_by true moment expires issued life before span = omega (arith, before, span)
 in_time_by false moment expires issued life before span = omega (arith, before, span)
@@ -45,7 +40,7 @@ lines_in_time life moment late issued plain held is =
     let span = ok_need (nat_le payload.0.expires (issued + life)) why.Span _ held expired.1 in
     let same : issued ≡ held.issued = cc in
     subst (λ (n : ℕ). moment < n + life + window) same
-    (in_time_by late moment payload.0.expires issued life (lt_from moment (end_of late payload.0.expires) expired.0) (le_from payload.0.expires (issued + life) span.0))
+    (in_time_by late moment payload.0.expires issued life (ltb-true moment (end_of late payload.0.expires) expired.0) (leb-true payload.0.expires (issued + life) span.0))
 
 decided_ok : {A : Type 0} (r : Result A Why) (a : A) → decided r ≡ Go a → r ≡ Ok a
 decided_ok (Ok x) a is = cc

@@ -1,8 +1,8 @@
 //! The roles of a token, and the line that it has some.
 ghost use Rattle.std.specs.Prelude.{◌≡◌, ◌↔◌, ℕ, List, Some, IfOk};
-ghost use Rattle.std.specs.List.{list_all, list_any};
+ghost use Rattle.std.specs.List.{list_all};
 ghost use Rattle.ks_base.specs.Roles.{Effective};
-ghost use Rattle.ks_base.specs.Rows.{same, trust_of};
+ghost use Rattle.ks_base.specs.Rows.{has_id, trust_of};
 ghost use Rattle.ks_base.specs.Tables.{Among};
 ghost use Rattle.ks_auth.specs.Answers.{rows_told};
 ghost use Rattle.ks_machine.specs.Effective.{closure, roles_at};
@@ -99,7 +99,7 @@ fn keeps_roles(alloc: Global, tables: &Tables, id: &Id, trust: &TrustRow) -> Res
 
 /// Whether the list has all of these.
 fn have_all(held: &[Id], roles: &[Id]) -> bool
-    ensures { result ≡ list_all (λ role. list_any (λ id. same id role) held.now) roles.now }
+    ensures { result ≡ list_all (has_id held.now) roles.now }
 {
     for role in roles {
         if !held.contains(role) {

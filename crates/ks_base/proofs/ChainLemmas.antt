@@ -1,42 +1,27 @@
 -- Chains of trusts end, so what is computed of them is what is said of them.
-use Rattle.std.proofs.Common.{◌≡◌, ℕ, zero, suc, ◌<◌, ◌≤◌, Bool, true, false, ◌||◌, cond, nat_lt, inl, inr, List, [], ◌∷◌, length, Option, Some, None, IsSome, is_some, refl, sym, ap, subst, ◌∙◌, arith}
+use Rattle.std.proofs.Common.{◌≡◌, ℕ, zero, suc, ◌<◌, ◌≤◌, Bool, true, false, ◌||◌, cond, nat_lt, inl, inr, List, [], ◌∷◌, length, Option, Some, None, IsSome, refl, sym, ap, subst, ◌∙◌, arith}
 use Rattle.std.specs.Prelude.{◌↔◌}
 use Rattle.std.specs.List.{filter, list_any}
 use Rattle.std.specs.Option.{option_map_or}
 use Rattle.std.proofs.lemmas.Bool.Decides.{nat_tests}
+use Rattle.std.proofs.lemmas.Bool.{or_left, or_right}
 use Rattle.ks_base.specs.declared.trusts.TrustRow.{TrustRow}
-use Rattle.ks_base.specs.Rows.{Id, trust_of}
-use Rattle.ks_base.specs.Tables.{id_cmp, Among}
-use Rattle.ks_base.specs.Trusts.{parent_trust, IsClimb, DescendsFrom, LeadsTo, IsChained, AreChained, lineage_by, lineage_within, last_trustor, first_trustor, first_of_new, goes}
+use Rattle.ks_base.specs.Rows.{Id}
+use Rattle.ks_base.specs.Tables.{id_cmp, Among, with_higher}
+use Rattle.ks_base.specs.Trusts.{parent_trust, IsClimb, DescendsFrom, LeadsTo, IsChained, AreChained, lineage_within, last_trustor, first_trustor, first_of_new, goes}
 use Rattle.ks_base.proofs.RowLemmas.{found_among}
+use Rattle.ks_base.proofs.ListLemmas.{no_more_by, fewer_here, fewer_behind}
 
 -- how many trusts have a higher count
 higher : ℕ → List TrustRow → ℕ
 higher n trusts = length (filter (λ trust. nat_lt n trust.count) trusts)
 
-fewer_by : (a b : Bool) (x : TrustRow) (xs ys : List TrustRow) → (a ≡ true → b ≡ true) → length xs ≤ length ys → length (cond a (x ∷ xs) xs) ≤ length (cond b (x ∷ ys) ys)
-fewer_by true true x xs ys more le = omega (arith, le)
-fewer_by true false x xs ys more le = let both = more refl in cc
-fewer_by false true x xs ys more le = omega (arith, le)
-fewer_by false false x xs ys more le = le
-
 fewer : (n m : ℕ) (trusts : List TrustRow) → n ≤ m → higher m trusts ≤ higher n trusts
 unfolding higher
 fewer n m [] le = omega arith
 fewer n m (trust ∷ trusts) le =
-    fewer_by (nat_lt m trust.count) (nat_lt n trust.count) trust (filter (λ t. nat_lt m t.count) trusts) (filter (λ t. nat_lt n t.count) trusts)
+    no_more_by (nat_lt m trust.count) (nat_lt n trust.count) trust (filter (λ t. nat_lt m t.count) trusts) (filter (λ t. nat_lt n t.count) trusts)
     (λ is. grind (arith, nat_tests)) (fewer n m trusts le)
-
-more_by : (a b : Bool) (x : TrustRow) (xs ys : List TrustRow) → a ≡ false → b ≡ true → length xs ≤ length ys → length (cond a (x ∷ xs) xs) < length (cond b (x ∷ ys) ys)
-more_by true b x xs ys none some le = cc
-more_by false true x xs ys none some le = omega (arith, le)
-more_by false false x xs ys none some le = cc
-
-less_by : (a b : Bool) (x : TrustRow) (xs ys : List TrustRow) → (a ≡ true → b ≡ true) → length xs < length ys → length (cond a (x ∷ xs) xs) < length (cond b (x ∷ ys) ys)
-less_by true true x xs ys more lt = omega (arith, lt)
-less_by true false x xs ys more lt = let both = more refl in cc
-less_by false true x xs ys more lt = omega (arith, lt)
-less_by false false x xs ys more lt = lt
 
 -- above a higher count there are fewer
 higher_less : (n : ℕ) (trusts : List TrustRow) (parent : TrustRow) → Among trusts parent → n < parent.count → higher parent.count trusts < higher n trusts
@@ -45,10 +30,10 @@ higher_less n [] parent among lt = absurd among
 higher_less n (trust ∷ trusts) parent (inl same) lt =
     let a : nat_lt parent.count trust.count ≡ false = rw same (grind (arith, nat_tests)) in
     let b : nat_lt n trust.count ≡ true = rw same (grind (arith, nat_tests)) in
-    more_by (nat_lt parent.count trust.count) (nat_lt n trust.count) trust (filter (λ t. nat_lt parent.count t.count) trusts) (filter (λ t. nat_lt n t.count) trusts)
+    fewer_here (nat_lt parent.count trust.count) (nat_lt n trust.count) trust (filter (λ t. nat_lt parent.count t.count) trusts) (filter (λ t. nat_lt n t.count) trusts)
     a b (fewer n parent.count trusts (omega (arith, lt)))
 higher_less n (trust ∷ trusts) parent (inr among) lt =
-    less_by (nat_lt parent.count trust.count) (nat_lt n trust.count) trust (filter (λ t. nat_lt parent.count t.count) trusts) (filter (λ t. nat_lt n t.count) trusts)
+    fewer_behind (nat_lt parent.count trust.count) (nat_lt n trust.count) trust (filter (λ t. nat_lt parent.count t.count) trusts) (filter (λ t. nat_lt n t.count) trusts)
     (λ is. grind (arith, nat_tests)) (higher_less n trusts parent among lt)
 
 most_by : (a : Bool) (x : TrustRow) (xs : List TrustRow) (n : ℕ) → length xs ≤ n → length (cond a (x ∷ xs) xs) ≤ suc n
@@ -79,12 +64,12 @@ step_less trusts trust parent chained found =
 pub none_above : (steps : ℕ) (trusts : List TrustRow) (trust : TrustRow) → parent_trust trusts trust.parent ≡ None → lineage_within steps trusts trust ≡ []
 unfolding lineage_within
 none_above zero trusts trust none = refl
-none_above (suc steps) trusts trust none = ap (lineage_by (lineage_within steps trusts)) none
+none_above (suc steps) trusts trust none = ap (with_higher (lineage_within steps trusts)) none
 
 pub some_above : (steps : ℕ) (trusts : List TrustRow) (trust parent : TrustRow) → parent_trust trusts trust.parent ≡ Some parent →
     lineage_within (suc steps) trusts trust ≡ parent ∷ lineage_within steps trusts parent
 unfolding lineage_within
-some_above steps trusts trust parent some = ap (lineage_by (lineage_within steps trusts)) some
+some_above steps trusts trust parent some = ap (with_higher (lineage_within steps trusts)) some
 
 pub last_up : (trust parent : TrustRow) (above : List TrustRow) → last_trustor trust (parent ∷ above) ≡ last_trustor parent above
 unfolding last_trustor
@@ -181,18 +166,6 @@ touched_up : (trusts : List TrustRow) (touched : TrustRow → Bool) (trust paren
     Touched trusts touched parent → Touched trusts touched trust
 touched_up trusts touched trust parent found (top, (climb, steps), is) = (top, (parent ∷ climb, (found, steps)), is)
 
-or_true : (a b : Bool) → (a ≡ true → b ≡ true) → (a || b) ≡ true → b ≡ true
-or_true true b same is = same refl
-or_true false b same is = is
-
-left_true : (a b : Bool) → a ≡ true → (a || b) ≡ true
-left_true true b is = refl
-left_true false b is = cc
-
-right_true : (a b : Bool) → b ≡ true → (a || b) ≡ true
-right_true true b is = refl
-right_true false b is = is
-
 touched_by : (steps : ℕ) (trusts : List TrustRow) (touched : TrustRow → Bool) (trust : TrustRow) (here : Bool) (above : Option TrustRow) → touched trust ≡ here →
     parent_trust trusts trust.parent ≡ above → list_any touched (trust ∷ lineage_within steps trusts trust) ≡ true → Touched trusts touched trust
 unfolding lineage_within
@@ -206,13 +179,13 @@ touched_by (suc steps) trusts touched trust false (Some parent) is found any =
 any_by : (steps : ℕ) (trusts : List TrustRow) (touched : TrustRow → Bool) (trust top : TrustRow) (climb : List TrustRow) → AreChained trusts → IsChained trusts trust →
     higher trust.count trusts ≤ steps → IsClimb trusts trust climb top → touched top ≡ true → list_any touched (trust ∷ lineage_within steps trusts trust) ≡ true
 any_by steps trusts touched trust top [] all chained enough climb is =
-    left_true (touched trust) (list_any touched (lineage_within steps trusts trust)) (ap touched climb ∙ is)
+    or_left (touched trust) (list_any touched (lineage_within steps trusts trust)) (ap touched climb ∙ is)
 any_by zero trusts touched trust top (parent ∷ climb) all chained enough (found, rest) is =
     absurd (omega (arith, step_less trusts trust parent chained found, enough))
 any_by (suc steps) trusts touched trust top (parent ∷ climb) all chained enough (found, rest) is =
     let fewer : higher parent.count trusts ≤ steps = omega (arith, step_less trusts trust parent chained found, enough) in
     let there = any_by steps trusts touched parent top climb all (all parent (parent_among trusts trust.parent parent found)) fewer rest is in
-    right_true (touched trust) (list_any touched (lineage_within (suc steps) trusts trust)) (ap (list_any touched) (some_above steps trusts trust parent found) ∙ there)
+    or_right (touched trust) (list_any touched (lineage_within (suc steps) trusts trust)) (ap (list_any touched) (some_above steps trusts trust parent found) ∙ there)
 
 pub goes_from : (trusts : List TrustRow) (touched : TrustRow → Bool) (trust : TrustRow) → AreChained trusts → IsChained trusts trust →
     (goes trusts touched trust ≡ true) ↔ Touched trusts touched trust

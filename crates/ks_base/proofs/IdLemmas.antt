@@ -1,13 +1,19 @@
-use Rattle.std.proofs.Common.{◌≡◌, ℕ, ◌+◌, ◌-◌, ◌<◌, ◌≤◌, Bool, true, false, not, ◌&&◌, ◌==◌, cond, nat_lt, List, [], ◌∷◌, ◌++◌, length, take, drop, replicate, Some, None, refl, ap, ◌∙◌, arith, length-append}
+use Rattle.std.proofs.Common.{◌≡◌, ℕ, ◌+◌, ◌-◌, ◌<◌, ◌≤◌, Bool, true, false, not, ◌&&◌, ◌==◌, cond, nat_lt, List, [], ◌∷◌, ◌++◌, length, take, drop, replicate, Some, None, refl, ap, ◌∙◌, arith, length-append, Ok, Err, sym, get_or}
 use Rattle.std.proofs.Math.Seq.{take-append_seam, drop-append_seam}
 use Rattle.std.proofs.lemmas.List.{drop-replicate, length-replicate}
-use Rattle.std.proofs.lemmas.Bool.{and_parts}
+use Rattle.std.proofs.lemmas.Bool.{and_parts, and_from, and_left, and_right, not-true, lt-ltb, le-leb, lt-leb}
 use Rattle.std.proofs.lemmas.Bool.Decides.{nat_tests}
 use Rattle.std.proofs.lemmas.Str.{IsUtf8-from_ascii}
 use Rattle.std.proofs.lemmas.Str.Ascii.{IsAscii-nil, IsAscii-cons}
+use Rattle.std.proofs.lemmas.List.Folds.{list_all_at}
+use Rattle.std.proofs.lemmas.List.Quantifiers.{position-Some}
+use Rattle.std.specs.Prelude.{IfOk, Result, is_ok, nat_le}
 use Rattle.std.specs.List.{list_all, position, prefix_len}
 use Rattle.std.specs.Str.{IsAscii, IsUtf8}
-use Rattle.ks_base.specs.Ids.{IsId, is_id_byte}
+use Rattle.ks_base.specs.Ids.{IsId, is_id_byte, is_id, IsFirstBadByte}
+use Rattle.ks_base.specs.declared.id.IdFault.{IdFault}
+use Rattle.ks_base.specs.declared.id.IdFault.TheVariants.{Empty, TooLong, Byte}
+use Rattle.ks_base.specs.declared.limits.TheConstants.{ID_BYTES}
 
 good_byte : (b : Bool) (m n : ℕ) (t : Bool) → (n ≤ m → t ≡ true) → n + 1 ≤ cond (not (not b)) (1 + m) 0 → (b && t) ≡ true
 good_byte true m n t others h = others (omega arith)
@@ -51,3 +57,24 @@ id_is_ascii (b ∷ bs) all =
 -- an id is ASCII, and so it is a text
 pub id_is_utf8 : (text : List ℕ) → IsId text → IsUtf8 text
 id_is_utf8 text is = IsUtf8-from_ascii text (id_is_ascii text is.2)
+
+-- what is read is an id, and what is refused is none
+
+is_id_true : (text : List ℕ) → IsId text → is_id text ≡ true
+is_id_true text id =
+    and_from (nat_lt 0 (length text)) (nat_le (length text) ID_BYTES && list_all is_id_byte text) (lt-ltb 0 (length text) id.0)
+    (and_from (nat_le (length text) ID_BYTES) (list_all is_id_byte text) (le-leb (length text) ID_BYTES id.1) id.2)
+
+pub is_id_read : (r : Result (List ℕ) IdFault) (text : List ℕ) → IfOk r (λ id. (id ≡ text) × IsId text)
+    → (r ≡ Err Empty → text ≡ []) → (r ≡ Err TooLong → ID_BYTES < length text)
+    → ((place : ℕ) → r ≡ Err (Byte place) → IsFirstBadByte text place) → is_ok r ≡ is_id text
+is_id_read (Ok id) text ok empty long byte = sym (is_id_true text ok.1)
+is_id_read (Err Empty) text ok empty long byte = ap (λ t. is_id t) (sym (empty refl))
+is_id_read (Err TooLong) text ok empty long byte =
+    sym (and_right (nat_lt 0 (length text)) (nat_le (length text) ID_BYTES && list_all is_id_byte text)
+    (and_left (nat_le (length text) ID_BYTES) (list_all is_id_byte text) (lt-leb (length text) ID_BYTES (long refl))))
+is_id_read (Err (Byte place)) text ok empty long byte =
+    let at = position-Some (λ b. not (is_id_byte b)) text place 0 (byte place refl) in
+    let bad = list_all_at is_id_byte text place 0 at.0 (not-true (is_id_byte (get_or text place 0)) at.1) in
+    sym (and_right (nat_lt 0 (length text)) (nat_le (length text) ID_BYTES && list_all is_id_byte text)
+    (and_right (nat_le (length text) ID_BYTES) (list_all is_id_byte text) bad))

@@ -1,8 +1,13 @@
+pub mod AmongLemmas
 pub mod ChainLemmas
 pub mod IdLemmas
+pub mod ListLemmas
+pub mod OptionLemmas
 pub mod PairLemmas
 pub mod PlaceLemmas
 pub mod RefusalLemmas
 pub mod RowLemmas
 pub mod TableLemmas
+pub mod TrustLemmas
+pub mod TruthLemmas
 pub mod WalkLemmas

@@ -1,4 +1,4 @@
-use Rattle.std.proofs.Common.{IsSome, ◌≡◌, ℕ, zero, suc, ◌<◌, ◌≤◌, false, List, [], ◌∷◌, length, get_or, Option, Some, None, Result, Ok, Err, refl, sym, ap, ◌∙◌, subst, arith, add-one}
+use Rattle.std.proofs.Common.{IsSome, ◌≡◌, ℕ, zero, suc, ◌<◌, ◌≤◌, false, List, [], ◌∷◌, length, get_or, Option, Some, None, Result, Ok, Err, refl, sym, ap, ◌∙◌, subst, arith, add-one, is_some, true}
 use Rattle.std.proofs.Math.ListN.{set}
 use Rattle.std.specs.List.{AllByRecursion, insert, remove}
 use Rattle.std.specs.List.Sorted.{IsBinarySearchResult, IsSortedBy, IsSearchInRange}
@@ -8,8 +8,11 @@ use Rattle.std.specs.Ordering.{is_lt, ordering_reverse}
 use Rattle.std.specs.Cmp.{IsTotalOrder}
 use Rattle.std.proofs.lemmas.Cmp.{alike_right}
 use Rattle.std.proofs.lemmas.List.Sorted.{searchable_from_sorted}
-use Rattle.ks_base.specs.Tables.{AreAbove, IsAscending, find_row, drop_row, put_row}
+use Rattle.ks_base.specs.Tables.{AreAbove, IsAscending, find_row, drop_row, put_row, id_cmp}
 use Rattle.ks_base.proofs.TableLemmas.{ascending_put, ascending_drop}
+use Rattle.ks_base.proofs.RowLemmas.{find_by_id}
+use Rattle.ks_base.proofs.ListLemmas.{any_found}
+use Rattle.ks_base.specs.Rows.{Id, has_id, same}
 use Rattle.ks_base.specs.Places.{IsFoundAt, IsGapAt, IsPlace}
 
 -- a row behind one that is below it all
@@ -145,3 +148,12 @@ unfolding put_row
 put_standing cmp exact row [] i is = absurd is
 put_standing cmp exact row (next ∷ rows) zero is = rw is (ap (λ (x : _). x ∷ rows) (sym (exact next row is)))
 put_standing cmp exact row (next ∷ rows) (suc i) is = rw is.0 (ap (λ (l : List _). next ∷ l) (put_standing cmp exact row rows i is.1))
+
+-- a search of ids that ascend finds whether one is among them
+pub found_is_had : (id : Id) (ids : List Id) (i : ℕ) → IsFoundAt id_cmp (λ other. other) id ids i → true ≡ has_id ids id
+found_is_had id ids i place =
+    sym (ap is_some (find_found id_cmp (λ other. other) id ids i id place)) ∙ ap is_some (find_by_id (λ other. other) id ids) ∙ any_found (λ other. same other id) ids
+
+pub gap_is_not_had : (id : Id) (ids : List Id) (i : ℕ) → IsGapAt id_cmp (λ other. other) id ids i → false ≡ has_id ids id
+gap_is_not_had id ids i place =
+    sym (ap is_some (find_gap id_cmp (λ other. other) id ids i place)) ∙ ap is_some (find_by_id (λ other. other) id ids) ∙ any_found (λ other. same other id) ids

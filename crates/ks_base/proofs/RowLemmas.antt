@@ -1,5 +1,5 @@
 -- What a table holds after each change, for the crates above.
-use Rattle.std.proofs.Common.{◌≡◌, ℕ, suc, ◌+◌, Bool, true, false, not, cond, ◌⊎◌, inl, inr, List, [], ◌∷◌, length, Option, Some, None, IsSome, is_some, refl, sym, ap, subst, ◌∙◌, arith}
+use Rattle.std.proofs.Common.{◌≡◌, ℕ, ◌+◌, Bool, true, false, not, cond, ◌⊎◌, inl, inr, List, [], ◌∷◌, length, Option, Some, None, is_some, refl, sym, ap, subst, ◌∙◌, arith}
 use Rattle.std.specs.declared.cmp.Ordering.{Ordering}
 use Rattle.std.specs.declared.cmp.Ordering.TheVariants.{Less, Equal, Greater}
 use Rattle.std.specs.Bool.{Decides}
@@ -11,6 +11,7 @@ use Rattle.std.proofs.lemmas.Cmp.{tied_itself, nat_list_cmp_total}
 use Rattle.std.proofs.lemmas.Slice.Eq.{bytes_eq-Decides}
 use Rattle.ks_base.specs.Tables.{id_cmp, AreAbove, IsAscending, has_key, find_row, drop_row, put_by, put_row, Among, passing}
 use Rattle.ks_base.specs.OrderLaws.{id_exact}
+use Rattle.ks_base.proofs.OptionLemmas.{some_is}
 
 -- ids are the same to their order and as bytes
 same_tests : (o : Ordering) (b : Bool) → (o ≡ Equal → b ≡ true) → (b ≡ true → o ≡ Equal) → is_eq o ≡ b
@@ -66,21 +67,6 @@ find_put_other cmp key o k row [] other = rw other refl
 find_put_other cmp key o k row (next ∷ rows) other =
     find_put_other_by cmp key o k row next rows (put_row cmp key row rows) (cmp (key next) (key row)) refl other (find_put_other cmp key o k row rows other)
 
--- nothing is found that was left out
-find_left_by : {X : Type 0} (p : X → Bool) (row : X) (rows : List X) (b : Bool) → p row ≡ b → find p rows ≡ None →
-    find p (cond (not b) (row ∷ rows) rows) ≡ None
-find_left_by p row rows true e none = none
-find_left_by p row rows false e none = rw e none
-
-find_left : {X : Type 0} (p : X → Bool) (rows : List X) → find p (filter (λ row. not (p row)) rows) ≡ None
-find_left p [] = refl
-find_left p (row ∷ rows) = find_left_by p row (filter (λ next. not (p next)) rows) (p row) refl (find_left p rows)
-
-pub find_drop : {K X : Type 0} (cmp : K → K → Ordering) (key : X → K) (k : K) (rows : List X) →
-    find_row cmp key k (drop_row cmp key k rows) ≡ None
-unfolding find_row drop_row
-find_drop cmp key k rows = find_left (has_key cmp key k) rows
-
 find_passed_by : {X : Type 0} (p q : X → Bool) (row : X) (rows others : List X) (b : Bool) → q row ≡ b → (p row ≡ true → q row ≡ true) →
     find p rows ≡ find p others → find p (cond b (row ∷ rows) rows) ≡ find p (row ∷ others)
 find_passed_by p q row rows others true e pass same = ap (cond (p row) (Some row)) same
@@ -95,7 +81,7 @@ pub find_passed : {X : Type 0} (p q : X → Bool) → ((row : X) → p row ≡ t
 find_passed p q pass [] = refl
 find_passed p q pass (row ∷ rows) = find_passed_by p q row (filter q rows) rows (q row) refl (pass row) (find_passed p q pass rows)
 
-eq_is : (o : Ordering) → is_eq o ≡ true → o ≡ Equal
+pub eq_is : (o : Ordering) → is_eq o ≡ true → o ≡ Equal
 eq_is Less e = cc
 eq_is Equal e = refl
 eq_is Greater e = cc
@@ -112,7 +98,7 @@ find_drop_other cmp key o k j rows other =
     find_passed (has_key cmp key j) (λ row. not (has_key cmp key k row)) (λ row found. other_by cmp o (key row) k j (is_eq (cmp (key row) k)) refl other found) rows
 
 -- above a key nothing has it
-find_above : {K X : Type 0} (cmp : K → K → Ordering) (key : X → K) → IsTotalOrder cmp → (k low : K) (rows : List X) →
+pub find_above : {K X : Type 0} (cmp : K → K → Ordering) (key : X → K) → IsTotalOrder cmp → (k low : K) (rows : List X) →
     cmp low k ≡ Equal → AreAbove cmp key low rows → find (has_key cmp key k) rows ≡ None
 find_above cmp key o k low [] same above = refl
 find_above cmp key o k low (row ∷ rows) same above =
@@ -165,34 +151,6 @@ length_put_new cmp key row (next ∷ rows) none =
     let both = find_none_by next (find (has_key cmp key (key row)) rows) (has_key cmp key (key row) next) none in
     omega (arith, length_put_new_by row next rows (put_row cmp key row rows) (cmp (key next) (key row)) both.0 (length_put_new cmp key row rows both.1))
 
--- a row below the first is none of them
-find_below : {K X : Type 0} (cmp : K → K → Ordering) (key : X → K) → IsTotalOrder cmp → (k low : K) (rows : List X) →
-    cmp low k ≡ Greater → AreAbove cmp key low rows → find (has_key cmp key k) rows ≡ None
-find_below cmp key o k low [] greater above = refl
-find_below cmp key o k low (row ∷ rows) greater above =
-    let less : cmp k low ≡ Less = o.antisymm k low ∙ ap ordering_reverse greater in
-    let far : cmp (key row) k ≡ Greater = o.antisymm (key row) k ∙ ap ordering_reverse (o.trans k low (key row) less above.0) in
-    rw far (find_below cmp key o k low rows greater above.1)
-
-length_put_standing_by : {X : Type 0} (row next : X) (rows behind : List X) (o : Ordering) → (o ≡ Greater → ⊥) →
-    (o ≡ Less → length behind ≡ length rows) → length (put_by o row next rows behind) ≡ suc (length rows)
-length_put_standing_by row next rows behind Less within more = ap suc (more refl)
-length_put_standing_by row next rows behind Equal within more = refl
-length_put_standing_by row next rows behind Greater within more = absurd (within refl)
-
-none_is : {X : Type 0} (o : Option X) → o ≡ None → is_some o ≡ true → ⊥
-none_is None e some = cc
-none_is (Some row) e some = cc
-
-pub length_put_standing : {K X : Type 0} (cmp : K → K → Ordering) (key : X → K) → IsTotalOrder cmp → (row : X) (rows : List X) →
-    IsAscending cmp key rows → IsSome (find_row cmp key (key row) rows) → length (put_row cmp key row rows) ≡ length rows
-unfolding find_row put_row
-length_put_standing cmp key o row [] up some = cc
-length_put_standing cmp key o row (next ∷ rows) up some =
-    length_put_standing_by row next rows (put_row cmp key row rows) (cmp (key next) (key row))
-    (λ greater. none_is (find (has_key cmp key (key row)) (next ∷ rows)) (rw greater (find_below cmp key o (key row) (key next) rows greater up.0)) some)
-    (λ less. length_put_standing cmp key o row rows up.1 (let still = rw less at some in still))
-
 -- a row that is found is one of them, and has the key
 found_by : {K X : Type 0} (cmp : K → K → Ordering) (key : X → K) (k : K) (next row : X) (rest : Option X) (b : Bool) → has_key cmp key k next ≡ b →
     cond b (Some next) rest ≡ Some row → ((next ≡ row) × (cmp (key row) k ≡ Equal)) ⊎ (rest ≡ Some row)
@@ -215,11 +173,14 @@ found_among cmp key k (next ∷ rows) row found =
     let rest = find (has_key cmp key k) rows in
     found_among_by cmp key k next row rows rest (found_by cmp key k next row rest (has_key cmp key k next) refl found) (found_among cmp key k rows row)
 
-above_among : {K X : Type 0} (cmp : K → K → Ordering) (key : X → K) (low : K) (rows : List X) (row : X) →
+pub above_among : {K X : Type 0} (cmp : K → K → Ordering) (key : X → K) (low : K) (rows : List X) (row : X) →
     AreAbove cmp key low rows → Among rows row → cmp low (key row) ≡ Less
 above_among cmp key low [] row above among = absurd among
 above_among cmp key low (next ∷ rows) row above (inl same) = subst (λ (x : _). cmp low (key x) ≡ Less) same above.0
 above_among cmp key low (next ∷ rows) row above (inr later) = above_among cmp key low rows row above.1 later
+
+pub id_found : {R : Type 0} (id_of : R → List ℕ) (id : List ℕ) (rows : List R) (row : R) → find_row id_cmp id_of id rows ≡ Some row → id_of row ≡ id
+id_found id_of id rows row found = id_exact (id_of row) id (found_among id_cmp id_of id rows row found).1
 
 -- and each of them is found by its key
 pub among_found : {K X : Type 0} (cmp : K → K → Ordering) (key : X → K) → IsTotalOrder cmp → (rows : List X) (row : X) →
@@ -316,16 +277,7 @@ pub among_drop : {K X : Type 0} (cmp : K → K → Ordering) (key : X → K) (k 
 unfolding drop_row
 among_drop cmp key k rows x among = among_filter (λ row. not (has_key cmp key k row)) rows x among
 
-pub drop_among : {K X : Type 0} (cmp : K → K → Ordering) (key : X → K) (k : K) (rows : List X) (x : X) →
-    Among rows x → not (has_key cmp key k x) ≡ true → Among (drop_row cmp key k rows) x
-unfolding drop_row
-drop_among cmp key k rows x among other = filter_among (λ row. not (has_key cmp key k row)) rows x among other
-
 -- a search of a set finds the row exactly if it is one of them
-some_is : {X : Type 0} (o : Option X) → is_some o ≡ true → (row : X) × (o ≡ Some row)
-some_is None some = cc
-some_is (Some row) some = (row, refl)
-
 pub has-Decides : {X : Type 0} (cmp : X → X → Ordering) → IsTotalOrder cmp → ((a b : X) → cmp a b ≡ Equal → a ≡ b) → (row : X) (rows : List X) →
     IsAscending cmp (λ next. next) rows → Decides (is_some (find_row cmp (λ next. next) row rows)) (Among rows row)
 has-Decides cmp o exact row rows up =

@@ -5,7 +5,8 @@ use Rattle.std.specs.declared.cmp.Ordering.TheVariants.{Less, Equal, Greater}
 use Rattle.std.specs.Ordering.{ordering_reverse}
 use Rattle.std.specs.Cmp.{IsTotalOrder}
 use Rattle.std.proofs.lemmas.Cmp.{tied_back}
-use Rattle.ks_base.specs.Tables.{AreAbove, IsAscending, has_key, drop_row, put_by, put_row}
+use Rattle.ks_base.specs.Tables.{AreAbove, IsAscending, has_key, drop_row, put_by, put_row, id_cmp}
+use Rattle.ks_base.specs.Rows.{Id}
 
 -- what stands above a key stands above each key that is lower or the same
 pub above_lower : {K X : Type 0} (cmp : K → K → Ordering) (key : X → K) → IsTotalOrder cmp → (a b : K) (rows : List X) →
@@ -109,3 +110,17 @@ ascending_part cmp key less other test (row ∷ rows) alike up =
     ascending_part_by less other row (filter test rows) (test row)
     (λ passes. above_part cmp key less other test row rows (λ next also. alike row next passes also) up.0)
     (ascending_part cmp key less other test rows alike up.1)
+
+-- ids ascend as their rows do
+
+above_ids : {X : Type 0} (key : X → Id) (low : Id) (rows : List X) → AreAbove id_cmp key low rows → AreAbove id_cmp (λ id. id) low (map key rows)
+above_ids key low [] above = tt
+above_ids key low (row ∷ rows) above = (above.0, above_ids key low rows above.1)
+
+pub ids_ascend : {X : Type 0} (key : X → Id) (rows : List X) → IsAscending id_cmp key rows → IsAscending id_cmp (λ id. id) (map key rows)
+ids_ascend key [] up = tt
+ids_ascend key (row ∷ rows) up = (above_ids key (key row) rows up.0, ids_ascend key rows up.1)
+
+pub some_ids_ascend : {X : Type 0} (key : X → Id) (test : X → Bool) (rows : List X) → IsAscending id_cmp key rows →
+    IsAscending id_cmp (λ id. id) (map key (filter test rows))
+some_ids_ascend key test rows up = ids_ascend key (filter test rows) (ascending_filter id_cmp key test rows up)

@@ -1,5 +1,5 @@
 -- Ids: 1 to 64 bytes of digits, ASCII letters, '_' and '-'.
-use Rattle.std.specs.Prelude.{◌≡◌, ℕ, ◌<◌, ◌≤◌, Bool, true, not, ◌&&◌, ◌||◌, ◌==◌, nat_le, List, length, Some}
+use Rattle.std.specs.Prelude.{◌≡◌, ℕ, ◌<◌, ◌≤◌, Bool, true, not, ◌&&◌, ◌||◌, ◌==◌, nat_le, nat_lt, List, length, Some}
 use Rattle.std.specs.List.{list_all, position}
 use Rattle.ks_base.specs.declared.limits.TheConstants.{ID_BYTES}
 
@@ -12,6 +12,10 @@ is_id_byte b = is_between 48 57 b || (is_between 65 90 b || (is_between 97 122 b
 
 abbrev pub IsId : List ℕ → Type 0
 IsId text = (0 < length text) × (length text ≤ ID_BYTES) × (list_all is_id_byte text ≡ true)
+
+-- the same, computed
+abbrev pub is_id : List ℕ → Bool
+is_id text = nat_lt 0 (length text) && (nat_le (length text) ID_BYTES && list_all is_id_byte text)
 
 -- the first byte that no id may hold is the one at this place
 abbrev pub IsFirstBadByte : List ℕ → ℕ → Type 0

@@ -5,6 +5,7 @@ pub mod Orders
 pub mod Places
 pub mod Tables
 pub mod Refusals
+pub mod Results
 pub mod Limits
 pub mod Rows
 pub mod Tree

@@ -1,6 +1,7 @@
 -- The rows of a state as lists (Identity API v3), and how they are found. Each list stands in the order of
 -- its ids; grants, memberships and implications in the order in which they are shown.
 use Rattle.std.specs.Prelude.{ℕ, Bool, List, Option}
+use Rattle.std.specs.List.{list_any}
 use Rattle.std.specs.Str.{bytes_eq}
 use Rattle.ks_base.specs.declared.rows.DomainRow.{DomainRow}
 use Rattle.ks_base.specs.declared.rows.ProjectRow.{ProjectRow}
@@ -22,6 +23,9 @@ Text = List ℕ
 
 abbrev pub same : Id → Id → Bool
 same a b = bytes_eq a b
+
+abbrev pub has_id : List Id → Id → Bool
+has_id ids id = list_any (λ other. same other id) ids
 
 -- the lists of rows of a state
 pub record Rows : Type 0 where

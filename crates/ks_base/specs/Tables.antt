@@ -49,3 +49,8 @@ Among (next ∷ rows) row = (next ≡ row) ⊎ Among rows row
 abbrev pub passing : {X : Type 0} → (X → Bool) → Option X → Option X
 passing test None = None
 passing test (Some row) = cond (test row) (Some row) None
+
+-- a row, where there is one, and those above it
+abbrev pub with_higher : {X : Type 0} → (X → List X) → Option X → List X
+with_higher higher None = []
+with_higher higher (Some row) = row ∷ higher row

@@ -1,7 +1,8 @@
 -- The tree of projects (Identity API v3, projects).
-use Rattle.std.specs.Prelude.{ℕ, zero, suc, Bool, not, ◌&&◌, if◌then◌else◌, List, [], ◌∷◌, length, map, filter, Option, Some, None}
+use Rattle.std.specs.Prelude.{ℕ, zero, suc, Bool, not, ◌&&◌, if◌then◌else◌, List, [], length, map, Option, Some, None}
 use Rattle.ks_base.specs.declared.rows.ProjectRow.{ProjectRow}
 use Rattle.ks_base.specs.Rows.{Id, same, project_of}
+use Rattle.ks_base.specs.Tables.{with_higher}
 
 -- a project whose parent is its own domain's id is a top project, whatever else has that id
 abbrev pub is_top : ProjectRow → Bool
@@ -11,22 +12,14 @@ is_top project = same project.parent project.domain
 abbrev pub is_child_of : Id → ProjectRow → Bool
 is_child_of parent project = not (is_top project) && same project.parent parent
 
-abbrev pub children : Id → List ProjectRow → List ProjectRow
-children parent projects = filter (is_child_of parent) projects
-
 -- the project right above one: none above a top project, and none where the parent does not stand
 abbrev pub parent_of : List ProjectRow → ProjectRow → Option ProjectRow
 parent_of projects project = if is_top project then None else project_of project.parent projects
 
--- a parent, where there is one, and the projects above it
-abbrev pub with_parent : (ProjectRow → List ProjectRow) → Option ProjectRow → List ProjectRow
-with_parent higher None = []
-with_parent higher (Some parent) = parent ∷ higher parent
-
 -- the projects above one, nearest first, in at most so many steps: from parent to parent up to a top project
 unfoldable pub above_within : ℕ → List ProjectRow → ProjectRow → List ProjectRow
 above_within zero projects project = []
-above_within (suc steps) projects project = with_parent (above_within steps projects) (parent_of projects project)
+above_within (suc steps) projects project = with_higher (above_within steps projects) (parent_of projects project)
 
 -- as many steps as there are projects suffice
 abbrev pub above : List ProjectRow → ProjectRow → List ProjectRow

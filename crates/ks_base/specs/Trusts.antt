@@ -10,11 +10,8 @@ use Rattle.ks_base.specs.declared.faults.TrustFault.TheVariants as fault
 use Rattle.ks_base.specs.declared.trusts.TrustRow.{TrustRow}
 use Rattle.ks_base.specs.Limits.{limit}
 use Rattle.ks_base.specs.Refusals.{fault_if, first_of}
-use Rattle.ks_base.specs.Rows.{Id, same, trust_of}
-use Rattle.ks_base.specs.Tables.{Among}
-
-abbrev pub has_id : List Id → Id → Bool
-has_id ids id = list_any (λ other. same other id) ids
+use Rattle.ks_base.specs.Rows.{Id, same, trust_of, has_id}
+use Rattle.ks_base.specs.Tables.{Among, with_higher}
 
 -- chains
 
@@ -50,15 +47,10 @@ AreChained trusts = (trust : TrustRow) → Among trusts trust → IsChained trus
 
 -- the same, computed
 
--- a parent, where it stands, and the trusts above it
-abbrev pub lineage_by : (TrustRow → List TrustRow) → Option TrustRow → List TrustRow
-lineage_by higher None = []
-lineage_by higher (Some parent) = parent ∷ higher parent
-
 -- the trusts above one, nearest first, in at most so many steps
 unfoldable pub lineage_within : ℕ → List TrustRow → TrustRow → List TrustRow
 lineage_within zero trusts trust = []
-lineage_within (suc steps) trusts trust = lineage_by (lineage_within steps trusts) (parent_trust trusts trust.parent)
+lineage_within (suc steps) trusts trust = with_higher (lineage_within steps trusts) (parent_trust trusts trust.parent)
 
 -- as many steps as there are trusts suffice
 abbrev pub lineage : List TrustRow → TrustRow → List TrustRow

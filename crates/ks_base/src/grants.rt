@@ -1,5 +1,6 @@
 ghost use Rattle.std.specs.Prelude.{◌≡◌};
 ghost use Rattle.std.specs.Option.{option_copied};
+ghost use Rattle.ks_base.specs.Grants.{is_at_target, is_of_actor};
 ghost use Rattle.ks_base.specs.Orders.{actor_rank, actor_id, actor_cmp, target_rank, target_id, target_cmp};
 
 use crate::{Id, Memory, Ordered, TryCopy};
@@ -97,6 +98,31 @@ impl Target {
             (Target::Project(id), Target::Project(other_id)) => id.cmp(other_id),
             (Target::Domain(id), Target::Domain(other_id)) => id.cmp(other_id),
             (_, _) => self.rank().cmp(&other.rank()),
+        }
+    }
+}
+
+impl GrantRow {
+    /// Whether this actor has the grant.
+    pub fn is_of(&self, who: &Actor) -> bool
+        ensures { result ≡ is_of_actor who.now self.now }
+    {
+        match (&self.actor, who) {
+            (Actor::User(id), Actor::User(wanted)) => id == wanted,
+            (Actor::Group(id), Actor::Group(wanted)) => id == wanted,
+            (Actor::User(_), Actor::Group(_)) | (Actor::Group(_), Actor::User(_)) => false,
+        }
+    }
+
+    /// Whether it is granted at this target.
+    pub fn is_at(&self, place: &Target) -> bool
+        ensures { result ≡ is_at_target place.now self.now }
+    {
+        match (&self.target, place) {
+            (Target::Project(id), Target::Project(wanted)) => id == wanted,
+            (Target::Domain(id), Target::Domain(wanted)) => id == wanted,
+            (Target::System, Target::System) => true,
+            (_, _) => false,
         }
     }
 }

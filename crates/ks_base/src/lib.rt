@@ -7,6 +7,7 @@ mod events;
 mod faults;
 mod grants;
 mod id;
+mod ids;
 mod key;
 mod kinds;
 mod laws;
@@ -31,6 +32,7 @@ pub use events::{EventRow, Holder, Revoke};
 pub use faults::{KeysFault, LoadFault, RowFault, TreeFault, TrustFault};
 pub use grants::{Actor, GrantRow, ImplyRow, Target};
 pub use id::{Id, IdFault};
+pub use ids::has_id;
 pub use key::Key;
 pub use kinds::Kind;
 pub use laws::{

@@ -9,9 +9,9 @@ use Rattle.ks_base.specs.Roles.{Acts}
 use Rattle.ks_base.specs.Rows.{Id}
 use Rattle.ks_base.specs.Tables.{Among}
 use Rattle.ks_base.proofs.RowLemmas.{among_filter, filter_among}
+use Rattle.ks_base.proofs.AmongLemmas.{map_among, among_mapped, has_id-Decides}
 use Rattle.ks_base.specs.People.{is_of_user}
 use Rattle.ks_effective.specs.Actors.{include}
-use Rattle.ks_effective.proofs.ListLemmas.{among_map, map_among, any-Decides}
 
 -- the groups of a user are those that it is a member of
 abbrev groups_in : Id → List MemberRow → List Id
@@ -22,9 +22,9 @@ membership row user group group_is user_is = λ i. record { group = group_is i; 
 
 group_member : (members : List MemberRow) (user group : Id) → Among (groups_in user members) group → Among members (record { group = group; user = user })
 group_member members user group among =
-    let one = among_map (λ (row : MemberRow). row.group) (filter (is_of_user user) members) group among in
-    let kept = among_filter (is_of_user user) members one.item one.stands in
-    subst (Among members) (membership one.item user group one.image ((bytes_eq-Decides one.item.user user).0 kept.1)) kept.0
+    let one = among_mapped (λ (row : MemberRow). row.group) (filter (is_of_user user) members) group among in
+    let kept = among_filter (is_of_user user) members one.0 one.1 in
+    subst (Among members) (membership one.0 user group one.2 ((bytes_eq-Decides one.0.user user).0 kept.1)) kept.0
 
 member_group : (members : List MemberRow) (user group : Id) → Among members (record { group = group; user = user }) → Among (groups_in user members) group
 member_group members user group among =
@@ -37,7 +37,7 @@ pub include-Decides : (members : List MemberRow) (user : Id) (groups : List Id) 
     Decides (include (record { user = user; groups = groups }) actor) (Acts members user actor)
 include-Decides members user groups is (actor.User id) = bytes_eq-Decides id user
 include-Decides members user groups is (actor.Group id) =
-    let any = any-Decides id groups in (
+    let any = has_id-Decides id groups in (
       λ found. group_member members user id (subst (λ (ids : List Id). Among ids id) is (any.0 found)),
       λ among. any.1 (subst (λ (ids : List Id). Among ids id) (sym is) (member_group members user id among)),
     )

@@ -1,4 +1,5 @@
 use Rattle.std.proofs.Common.{◌≡◌, List, map, Result, Ok, Err, sym, subst}
+use Rattle.std.proofs.lemmas.Bool.{and_parts, and_from}
 use Rattle.std.specs.Bool.{Decides}
 use Rattle.std.specs.List.{filter}
 use Rattle.std.specs.Prelude.{◌↔◌, IfOk}
@@ -9,11 +10,11 @@ use Rattle.ks_base.specs.Roles.{Acts, Reaches, Walks, IsImplied, Effective}
 use Rattle.ks_base.specs.Rows.{Id, Rows}
 use Rattle.ks_base.specs.Tables.{Among}
 use Rattle.ks_base.proofs.RowLemmas.{among_filter, filter_among}
+use Rattle.ks_base.proofs.AmongLemmas.{map_among, among_mapped}
 use Rattle.ks_effective.specs.declared.reach.Reach.{Reach}
 use Rattle.ks_effective.specs.Actors.{ActorsOf, include}
 use Rattle.ks_effective.specs.Reach.{includes}
 use Rattle.ks_effective.specs.Granted.{counts}
-use Rattle.ks_effective.proofs.ListLemmas.{among_map, map_among, both_true, true_both}
 
 -- the actors and the places that were looked up are those of the state
 abbrev pub AreActors : Rows → Id → ActorsOf → Type 0
@@ -28,22 +29,22 @@ roles_in rows actors reach = map (λ row. row.role) (filter (counts actors reach
 effective_by : (rows : Rows) (user : Id) (wanted : Target) (actors : ActorsOf) (reach : Reach) (role prior : Id) → AreActors rows user actors → IsReach rows wanted reach →
     Among (roles_in rows actors reach) prior → Walks rows.implications prior role → Effective rows user wanted role
 effective_by rows user wanted actors reach role prior acts reaches among walks =
-    let one = among_map (λ (row : GrantRow). row.role) (filter (counts actors reach) rows.grants) prior among in
-    let kept = among_filter (counts actors reach) rows.grants one.item one.stands in
-    let both = both_true (include actors one.item.actor) (includes reach one.item) kept.1 in
+    let one = among_mapped (λ (row : GrantRow). row.role) (filter (counts actors reach) rows.grants) prior among in
+    let kept = among_filter (counts actors reach) rows.grants one.0 one.1 in
+    let both = and_parts (include actors one.0.actor) (includes reach one.0) kept.1 in
     record {
-      grant = one.item;
+      grant = one.0;
       stands = kept.0;
-      acts = (acts one.item.actor).0 both.0;
-      reaches = (reaches one.item).0 both.1;
-      walks = subst (λ (id : Id). Walks rows.implications id role) (sym one.image) walks;
+      acts = (acts one.0.actor).0 both.0;
+      reaches = (reaches one.0).0 both.1;
+      walks = subst (λ (id : Id). Walks rows.implications id role) (sym one.2) walks;
     }
 
 granted_by : (rows : Rows) (user : Id) (wanted : Target) (actors : ActorsOf) (reach : Reach) (role : Id) → AreActors rows user actors → IsReach rows wanted reach →
     (effective : Effective rows user wanted role) → Among (roles_in rows actors reach) effective.grant.role
 granted_by rows user wanted actors reach role acts reaches effective =
     let grant = effective.grant in
-    let both = true_both (include actors grant.actor) (includes reach grant) ((acts grant.actor).1 effective.acts) ((reaches grant).1 effective.reaches) in
+    let both = and_from (include actors grant.actor) (includes reach grant) ((acts grant.actor).1 effective.acts) ((reaches grant).1 effective.reaches) in
     map_among (λ (row : GrantRow). row.role) (filter (counts actors reach) rows.grants) grant (filter_among (counts actors reach) rows.grants grant effective.stands both)
 
 -- the roles that the counting grants imply are the effective ones

@@ -1,4 +1,3 @@
-pub mod ListLemmas
 pub mod ActorLemmas
 pub mod ReachLemmas
 pub mod GrantedLemmas

@@ -13,9 +13,10 @@ use Rattle.ks_base.specs.Rows.{Id, project_of}
 use Rattle.ks_base.specs.Tables.{id_cmp, IsAscending, Among}
 use Rattle.ks_base.specs.Tree.{ancestors}
 use Rattle.ks_base.proofs.RowLemmas.{found_among, among_found}
+use Rattle.ks_base.proofs.AmongLemmas.{has_id-Decides}
+use Rattle.ks_base.specs.Revocation.{has}
 use Rattle.ks_effective.specs.declared.reach.Reach.TheVariants as reach
-use Rattle.ks_effective.specs.Reach.{is_given, reached_from, includes}
-use Rattle.ks_effective.proofs.ListLemmas.{any-Decides}
+use Rattle.ks_effective.specs.Reach.{reached_from, includes}
 
 -- a project that is found stands
 pub found_stands : (projects : List ProjectRow) (id : Id) (row : ProjectRow) → project_of id projects ≡ Some row → Among projects row × (row.id ≡ id)
@@ -25,18 +26,18 @@ found_stands projects id row found =
 
 -- the domain of the project that is found is the one that it lies in
 domain_lies : (projects : List ProjectRow) (id at : Id) (found : Option ProjectRow) → project_of id projects ≡ found →
-    is_given (option_map (λ row. row.domain) found) at ≡ true → LiesIn projects at id
+    has (option_map (λ row. row.domain) found) at ≡ true → LiesIn projects at id
 domain_lies projects id at None is given = cc
 domain_lies projects id at (Some row) is given =
     let both = found_stands projects id row is in
     record { row = row; stands = both.0; id_is = both.1; domain_is = (bytes_eq-Decides row.domain at).0 given }
 
 lies_domain : (projects : List ProjectRow) (id at : Id) → IsAscending id_cmp (λ row. row.id) projects → LiesIn projects at id →
-    is_given (option_map (λ row. row.domain) (project_of id projects)) at ≡ true
+    has (option_map (λ row. row.domain) (project_of id projects)) at ≡ true
 lies_domain projects id at up lies =
     let found : project_of lies.row.id projects ≡ Some lies.row = among_found id_cmp (λ (row : ProjectRow). row.id) nat_list_cmp_total projects lies.row up lies.stands in
     let there : project_of id projects ≡ Some lies.row = subst (λ (k : Id). project_of k projects ≡ Some lies.row) lies.id_is found in
-    ap (λ (o : Option ProjectRow). is_given (option_map (λ row. row.domain) o) at) there ∙ (bytes_eq-Decides lies.row.domain at).1 lies.domain_is
+    ap (λ (o : Option ProjectRow). has (option_map (λ row. row.domain) o) at) there ∙ (bytes_eq-Decides lies.row.domain at).1 lies.domain_is
 
 -- the grants that reach a domain are found by where they stand
 on_domain : (projects : List ProjectRow) (id : Id) (inherited : Bool) (granted : Target) →
@@ -59,7 +60,7 @@ on_project : (projects : List ProjectRow) (id : Id) → IsAscending id_cmp (λ r
 on_project projects id up false (target.Domain at) = (λ is. cc, λ is. cc)
 on_project projects id up false (target.Project at) = (λ is. ap target.Project ((bytes_eq-Decides at id).0 is), λ is. let alike : at ≡ id = cc in (bytes_eq-Decides at id).1 alike)
 on_project projects id up true (target.Domain at) = (λ is. domain_lies projects id at (project_of id projects) refl is, λ lies. lies_domain projects id at up lies)
-on_project projects id up true (target.Project at) = any-Decides at (ancestors projects id)
+on_project projects id up true (target.Project at) = has_id-Decides at (ancestors projects id)
 on_project projects id up false target.System = (λ is. cc, λ is. cc)
 on_project projects id up true target.System = (λ is. cc, λ none. absurd none)
 

@@ -6,10 +6,10 @@ use Rattle.ks_base.specs.declared.grants.Target.TheVariants as target
 use Rattle.ks_base.specs.declared.rows.ProjectRow.{ProjectRow}
 use Rattle.ks_base.specs.Roles.{Reaches, Effective}
 use Rattle.ks_base.specs.Rows.{Id, Rows, project_of}
-use Rattle.ks_base.specs.Tables.{Among}
-use Rattle.ks_base.specs.Tree.{is_top, parent_of, with_parent, above_within, above, ancestors_in, ancestors}
+use Rattle.ks_base.specs.Tables.{Among, with_higher}
+use Rattle.ks_base.specs.Tree.{is_top, parent_of, above_within, above, ancestors_in, ancestors}
+use Rattle.ks_base.proofs.AmongLemmas.{among_mapped}
 use Rattle.ks_effective.specs.Tops.{highest, IsTopIn, LeadsUp}
-use Rattle.ks_effective.proofs.ListLemmas.{among_map}
 use Rattle.ks_effective.proofs.ReachLemmas.{found_stands}
 
 -- a parent is the project that is found by its own id
@@ -32,7 +32,7 @@ unfolding above_within
 parent_below projects zero project parent is top = let both = parent_by projects project parent (is_top project) is in cc
 parent_below projects (suc steps) project parent is top =
     let both = parent_by projects project parent (is_top project) is in
-    let P : Option ProjectRow → Type 0 = λ found. IsTrue (is_top (highest project (with_parent (above_within steps projects) found))) in
+    let P : Option ProjectRow → Type 0 = λ found. IsTrue (is_top (highest project (with_higher (above_within steps projects) found))) in
     record { fewer = steps; less = omega arith; leads = subst P is top; stands = both.1 }
 
 -- and so each project above it leads there in fewer steps
@@ -50,7 +50,7 @@ higher (suc n) projects steps project higher_one top among = by (parent_of proje
         let near = below.less in
         record { fewer = far.fewer; less = omega (arith, far.less, near); leads = far.leads; stands = far.stands }
 
-    by : (found : Option ProjectRow) → parent_of projects project ≡ found → Among (with_parent (above_within n projects) found) higher_one →
+    by : (found : Option ProjectRow) → parent_of projects project ≡ found → Among (with_higher (above_within n projects) found) higher_one →
         ((parent : ProjectRow) (fewer : ℕ) → IsTopIn projects fewer parent → Among (above_within n projects parent) higher_one → IsBelow projects fewer higher_one) → IsBelow projects steps higher_one
     by None is among rest = absurd among
     by (Some parent) is among rest = onto parent (parent_below projects steps project parent is top) among (rest parent)
@@ -74,9 +74,9 @@ record IsOver (projects : List ProjectRow) (steps : ℕ) (project : ProjectRow) 
 over : (projects : List ProjectRow) (steps : ℕ) (project : ProjectRow) (id : Id) → IsTopIn projects steps project →
     Among (map (λ row. row.id) (above projects project)) id → IsOver projects steps project id
 over projects steps project id top among =
-    let one = among_map (λ (row : ProjectRow). row.id) (above projects project) id among in
-    let below = higher (length projects) projects steps project one.item top one.stands in
-    record { row = one.item; among = one.stands; below = below; found = subst (λ (k : Id). project_of k projects ≡ Some one.item) one.image below.stands }
+    let one = among_mapped (λ (row : ProjectRow). row.id) (above projects project) id among in
+    let below = higher (length projects) projects steps project one.0 top one.1 in
+    record { row = one.0; among = one.1; below = below; found = subst (λ (k : Id). project_of k projects ≡ Some one.0) one.2 below.stands }
 
 none_over_itself : (projects : List ProjectRow) (id : Id) (found : Option ProjectRow) → project_of id projects ≡ found → IfSome found (LeadsUp projects) →
     Among (ancestors_in projects found) id → ⊥

@@ -1,16 +1,13 @@
 -- The grants that reach a target, found by where they stand (OS-INHERIT).
-use Rattle.std.specs.Prelude.{Bool, true, false, Option, Some, None}
+use Rattle.std.specs.Prelude.{Bool, true, false}
 use Rattle.std.specs.List.{list_any}
 use Rattle.ks_base.specs.declared.grants.GrantRow.{GrantRow}
 use Rattle.ks_base.specs.declared.grants.Target.{Target}
 use Rattle.ks_base.specs.declared.grants.Target.TheVariants as target
-use Rattle.ks_base.specs.Rows.{Id, same}
+use Rattle.ks_base.specs.Rows.{same}
+use Rattle.ks_base.specs.Revocation.{has}
 use Rattle.ks_effective.specs.declared.reach.Reach.{Reach}
 use Rattle.ks_effective.specs.declared.reach.Reach.TheVariants as reach
-
-abbrev pub is_given : Option Id → Id → Bool
-is_given None id = false
-is_given (Some given) id = same given id
 
 -- on the target itself a grant is not inherited; on a project's domain and on its ancestors it is
 abbrev pub reached_from : Reach → Bool → Target → Bool
@@ -25,7 +22,7 @@ reached_from (reach.Domain id) true at = false
 reached_from (reach.Project id domain ancestors) inherited target.System = false
 reached_from (reach.Project id domain ancestors) false (target.Domain at) = false
 reached_from (reach.Project id domain ancestors) false (target.Project at) = same at id
-reached_from (reach.Project id domain ancestors) true (target.Domain at) = is_given domain at
+reached_from (reach.Project id domain ancestors) true (target.Domain at) = has domain at
 reached_from (reach.Project id domain ancestors) true (target.Project at) = list_any (λ ancestor. same ancestor at) ancestors
 
 abbrev pub includes : Reach → GrantRow → Bool

@@ -1,12 +1,9 @@
 ghost use Rattle.std.specs.Prelude.{◌≡◌, ◌↔◌, IfOk, IsTrue};
-ghost use Rattle.std.specs.List.{list_any};
 ghost use Rattle.ks_base.specs.declared.grants.Actor.{Actor};
-ghost use Rattle.ks_base.specs.Rows.{same};
 ghost use Rattle.ks_base.specs.Roles.{Acts};
-ghost use Rattle.ks_base.specs.Tables.{id_cmp, IsAscending};
 ghost use Rattle.ks_effective.specs.Actors.{include};
 
-use ks_base::{Actor, Id, IdList, Memory};
+use ks_base::{Actor, Id, IdList, Memory, has_id};
 use ks_people::People;
 use std::marker::Model;
 
@@ -28,17 +25,6 @@ impl Model for Actors {
     ghost invariant = { λ actors. IsAscending id_cmp (λ id. id) actors.groups };
 }
 
-/// Whether the id is one of these, which ascend.
-fn is_among(ids: &[Id], id: &Id) -> bool
-    requires { IsAscending id_cmp (λ next. next) ids.now }
-    ensures { result ≡ list_any (λ next. same next id.now) ids.now }
-{
-    match ids.binary_search(id) {
-        Ok(_) => true,
-        Err(_) => false,
-    }
-}
-
 impl Actors {
     /// The actors that act for this user.
     pub fn of(people: &People, user: &Id) -> Result<Actors, Memory>
@@ -56,7 +42,7 @@ impl Actors {
     {
         match actor {
             Actor::User(id) => *id == self.user,
-            Actor::Group(id) => is_among(self.groups.as_slice(), id),
+            Actor::Group(id) => has_id(self.groups.as_slice(), id),
         }
     }
 }

@@ -1,15 +1,16 @@
 -- What base64 decodes are bytes.
-use Rattle.std.proofs.Common.{◌≡◌, ℕ, zero, suc, ◌+◌, ◌*◌, ◌/◌, ◌<◌, Bool, List, [], ◌∷◌, ◌++◌, length, take, drop, slice_index, refl, arith, inl, inr, sym, ◌∙◌, ◌⊎◌}
-use Rattle.std.proofs.lemmas.List.{get_or-drop}
+use Rattle.std.proofs.Common.{◌≡◌, ℕ, zero, suc, ◌+◌, ◌*◌, ◌/◌, ◌<◌, Bool, List, [], ◌∷◌, length, drop, slice_index, refl, arith, inl, inr, sym, ◌∙◌, ◌⊎◌}
 use Rattle.std.specs.declared.option.Option.{Option}
 use Rattle.std.specs.declared.option.Option.TheVariants.{None, Some}
 use Rattle.std.specs.declared.result.Result.{Result}
 use Rattle.std.specs.declared.result.Result.TheVariants.{Ok, Err}
+use Rattle.ks_aes_cbc.specs.Aes.{AreBytes}
+use Rattle.ks_aes_cbc.proofs.BlockLemmas.{AreBytes-append}
+use Rattle.ks_aes_cbc.proofs.Chains.{AreBytes-take, AreBytes-drop}
 use Rattle.base64.specs.declared.decode.DecodeError.{DecodeError}
 use Rattle.base64.specs.declared.engine.DecodePaddingMode.{DecodePaddingMode}
 use Rattle.base64.specs.Decode.{IsDecodeTable, decode_error, decode_group, decoded_bytes, group_bytes, group_error, groups_before_last, groups_bytes, groups_error, lone_error, no_leftover, or_else, push_leftover, scan, scan_last, scan_steps, suffix_bytes, suffix_error, symbol_error}
 use Rattle.base64.proofs.Decoding.{IsLeftover, IsLeftover_next, scan-cons_err, scan-cons_ok}
-use Rattle.ks_fernet.specs.Base64Url.{AreBytes}
 
 neither : (x y : Option DecodeError) → or_else x y ≡ None → (x ≡ None) × (y ≡ None)
 neither None y h = (refl, h)
@@ -20,20 +21,6 @@ symbol_below dec s i table bytes none = elim (table (slice_index s i) (bytes i))
   | inl bad ↦ cc (rw bad at none)
   | inr small ↦ small
 ]
-
-pub AreBytes-append : (a b : List ℕ) → AreBytes a → AreBytes b → AreBytes (a ++ b)
-AreBytes-append [] b ha hb i = hb i
-AreBytes-append (x ∷ a) b ha hb zero = ha 0
-AreBytes-append (x ∷ a) b ha hb (suc i) = AreBytes-append a b (λ k. ha (suc k)) hb i
-
-pub AreBytes-take : (n : ℕ) (a : List ℕ) → AreBytes a → AreBytes (take n a)
-AreBytes-take zero a h i = omega arith
-AreBytes-take (suc n) [] h i = omega arith
-AreBytes-take (suc n) (x ∷ a) h zero = h 0
-AreBytes-take (suc n) (x ∷ a) h (suc i) = AreBytes-take n a (λ k. h (suc k)) i
-
-pub AreBytes-drop : (n : ℕ) (a : List ℕ) → AreBytes a → AreBytes (drop n a)
-AreBytes-drop n a h i = rw (get_or-drop n a i 0) (h (n + i))
 
 AreBytes-decode_group : (a b c d : ℕ) → a < 64 → b < 64 → c < 64 → d < 64 → AreBytes (decode_group a b c d)
 AreBytes-decode_group a b c d la lb lc ld zero = omega arith

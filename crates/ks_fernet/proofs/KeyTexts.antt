@@ -2,13 +2,15 @@
 use Rattle.std.proofs.Common.{◌≡◌, ◌≢◌, ◌⊎◌, ◌↔◌, ℕ, ◌<◌, ◌≤◌, List, [], ◌∷◌, ◌++◌, length, take, drop, refl, sym, ap, ◌∙◌, arith, inl, inr, Some, None}
 use Rattle.std.proofs.lemmas.Bool.{cases_eq, ne_eqb}
 use Rattle.std.proofs.lemmas.List.{length-append, append-nil, take-append-drop, take_at, drop_at, length-take-le, length-drop}
+use Rattle.std.proofs.lemmas.Option.{same_Some}
+use Rattle.ks_aes_cbc.proofs.BlockLemmas.{AreBytes-append}
+use Rattle.ks_aes_cbc.proofs.Chains.{AreBytes-take, AreBytes-drop}
 use Rattle.base64.specs.Rfc4648.{encode_symbols, padding_len}
 use Rattle.ks_base.specs.declared.key.Key.{Key}
 use Rattle.ks_fernet.specs.declared.key_text.KeyText.{KeyText}
 use Rattle.ks_fernet.specs.declared.key_text.KeyText.TheVariants.{Key as A, NotAKey}
 use Rattle.ks_fernet.specs.Base64Url.{bare_text, bytes_of, padded_text, symbols}
 use Rattle.ks_fernet.specs.KeyText.{IsKeyText, key_in, key_of, key_read}
-use Rattle.ks_fernet.proofs.DecodedBytes.{AreBytes-append, AreBytes-take, AreBytes-drop}
 use Rattle.ks_fernet.proofs.Spelling.{length-bare, length-padded, option_cases, read_spelled, spelled_read}
 
 -- the key in 32 bytes
@@ -23,12 +25,9 @@ pub key_in_other : (bytes : List ℕ) → length bytes ≢ 32 → key_in bytes �
 unfolding key_in
 key_in_other bytes other = rw (ne_eqb (length bytes) 32 other) refl
 
-some_key : (a b : Key) → Some a ≡ Some b → a ≡ b
-some_key a b h = cc
-
 key_parts : (bytes : List ℕ) (key : Key) → key_in bytes ≡ Some key → (length bytes ≡ 32) × (halves bytes ≡ key)
 key_parts bytes key found = elim (cases_eq (length bytes) 32) [
-  | inl long ↦ (long, some_key (halves bytes) key (sym (key_in_bytes bytes long) ∙ found))
+  | inl long ↦ (long, same_Some (halves bytes) key (sym (key_in_bytes bytes long) ∙ found))
   | inr other ↦ cc (sym (key_in_other bytes other) ∙ found)
 ]
 
@@ -94,7 +93,7 @@ key_of_long text long = none_key_of text (λ key is. elim is.spelled [
 pub read_key_iff : (text : List ℕ) (answer : KeyText) → key_read answer ≡ key_of text → (key : Key) → (answer ≡ A key) ↔ IsKeyText text key
 read_key_iff text (A found) same key = (
   λ e. spelled_key text key (sym same ∙ ap key_read e),
-  λ is. ap A (some_key found key (same ∙ key_of_spelled text key is)),
+  λ is. ap A (same_Some found key (same ∙ key_of_spelled text key is)),
 )
 read_key_iff text NotAKey same key = (λ e. cc, λ is. cc (same ∙ key_of_spelled text key is))
 

@@ -8,11 +8,12 @@ use Rattle.base64.specs.GeneralPurpose.{IsEncodedOver, encoded_size_of}
 use Rattle.base64.specs.declared.encode.EncodeSliceError.{EncodeSliceError}
 use Rattle.base64.proofs.EngineFacts.{IsAscii-encode_of}
 use Rattle.ks_aes_cbc.specs.Cbc.{cbc, pad, uncbc}
+use Rattle.ks_aes_cbc.specs.Aes.{AreBytes}
 use Rattle.ks_base.specs.declared.key.Key.{Key}
 use Rattle.ks_hmac.specs.Hmac.{hmac_of}
 use Rattle.ks_fernet.specs.declared.envelope.Envelope.{Envelope}
 use Rattle.ks_fernet.specs.declared.opening.OpenAnswer.TheVariants.{Yes}
-use Rattle.ks_fernet.specs.Base64Url.{AreBytes, bare_text}
+use Rattle.ks_fernet.specs.Base64Url.{bare_text}
 use Rattle.ks_fernet.specs.Opening.{open_of, signed_bytes, token_text}
 use Rattle.ks_fernet.specs.Token.{IsToken, token_bytes}
 use Rattle.ks_fernet.proofs.Openings.{answer_yes, open_of_some}

@@ -1,10 +1,11 @@
 -- A text and the bytes that it spells.
-use Rattle.std.proofs.Common.{◌≡◌, ◌≢◌, ◌⊎◌, ◌↔◌, ℕ, zero, suc, ◌+◌, ◌%◌, nat_lt, Bool, true, false, ◌&&◌, List, [], ◌∷◌, length, replicate, refl, sym, ap, ◌∙◌, arith, inl, inr, Option, Some, None, Result, Ok, Err}
-use Rattle.std.proofs.lemmas.Bool.{cases_Bool, cases_eq, ltb-true, lt-ltb, ne_eqb}
+use Rattle.std.proofs.Common.{◌≡◌, ◌≢◌, ◌⊎◌, ◌↔◌, ℕ, zero, suc, ◌+◌, ◌%◌, nat_lt, true, List, [], ◌∷◌, length, replicate, refl, sym, ap, ◌∙◌, arith, inl, inr, Option, Some, None, Result, Ok, Err}
+use Rattle.std.proofs.lemmas.Bool.{cases_Bool, cases_eq, ltb-true, lt-ltb, ne_eqb, and_parts}
 use Rattle.std.proofs.lemmas.List.{length-append, length-replicate, append-nil}
 use Rattle.std.specs.List.{list_all}
 use Rattle.std.specs.Result.{result_ok}
 use Rattle.std.specs.Str.{IsAscii}
+use Rattle.ks_aes_cbc.specs.Aes.{AreBytes}
 use Rattle.base64.specs.declared.decode.DecodeError.{DecodeError}
 use Rattle.base64.specs.declared.engine.general_purpose.GeneralPurpose.{GeneralPurpose}
 use Rattle.base64.specs.Decode.{decode_error, decode_outcome, decoded_bytes}
@@ -14,7 +15,7 @@ use Rattle.base64.specs.Rfc4648.{encode_symbols, padding_len, unpadded_len}
 use Rattle.base64.proofs.EngineFacts.{IsAscii-encode_of, decode_of-encode_of, decode_of_strict}
 use Rattle.base64.proofs.RoundTrip.{length-encode_symbols}
 use Rattle.base64.proofs.Tables.{IsDecodeTable_from, are_tables_inverse}
-use Rattle.ks_fernet.specs.Base64Url.{AreBytes, Spells, bare_text, bytes_of, padded_text, symbols}
+use Rattle.ks_fernet.specs.Base64Url.{Spells, bare_text, bytes_of, padded_text, symbols}
 use Rattle.ks_fernet.proofs.DecodedBytes.{AreBytes-decoded_bytes}
 
 padded_is : (bytes : List ℕ) → padded_text bytes ≡ encode_of url_safe bytes
@@ -46,10 +47,6 @@ some_decoded : (e : GeneralPurpose) (s b : List ℕ) → decode_of e s ≡ Ok b 
 unfolding decoded_of
 some_decoded e s b h = ap result_ok h
 
-pub decoded_none : (e : GeneralPurpose) (s : List ℕ) (x : DecodeError) → decode_of e s ≡ Err x → decoded_of e s ≡ None
-unfolding decoded_of
-decoded_none e s x h = ap result_ok h
-
 outcome_some : (x : Option DecodeError) (d b : List ℕ) → decode_outcome x d ≡ Ok b → (x ≡ None) × (d ≡ b)
 outcome_some None d b h = (refl, cc h)
 outcome_some (Some e) d b h = cc h
@@ -66,14 +63,10 @@ pub bytes_pass : (s : List ℕ) → AreBytes s → list_all (λ c. nat_lt c 256)
 bytes_pass [] h = refl
 bytes_pass (c ∷ s) h = rw (lt-ltb c 256 (h 0)) (bytes_pass s (λ i. h (suc i)))
 
-pub test_parts : (a b : Bool) → (a && b) ≡ true → (a ≡ true) × (b ≡ true)
-test_parts true b h = (refl, h)
-test_parts false b h = cc
-
 passed_bytes : (s : List ℕ) → list_all (λ c. nat_lt c 256) s ≡ true → AreBytes s
 passed_bytes [] h i = omega arith
-passed_bytes (c ∷ s) h zero = ltb-true c 256 (test_parts (nat_lt c 256) (list_all (λ x. nat_lt x 256) s) h).0
-passed_bytes (c ∷ s) h (suc i) = passed_bytes s (test_parts (nat_lt c 256) (list_all (λ x. nat_lt x 256) s) h).1 i
+passed_bytes (c ∷ s) h zero = ltb-true c 256 (and_parts (nat_lt c 256) (list_all (λ x. nat_lt x 256) s) h).0
+passed_bytes (c ∷ s) h (suc i) = passed_bytes s (and_parts (nat_lt c 256) (list_all (λ x. nat_lt x 256) s) h).1 i
 
 ascii_bytes : (s : List ℕ) → IsAscii s → AreBytes s
 ascii_bytes s h i = let low = h i in omega arith

@@ -1,15 +1,18 @@
 -- The parts of a token and its bytes.
 use Rattle.std.proofs.Common.{◌≡◌, ◌≢◌, ◌↔◌, ℕ, zero, suc, ◌+◌, ◌-◌, ◌%◌, ◌^◌, ◌<◌, ◌≤◌, ◌==◌, nat_lt, true, false, List, ◌∷◌, ◌++◌, length, take, drop, slice_index, refl, sym, ap, ◌∙◌, arith, inl, inr, Some, None}
-use Rattle.std.proofs.lemmas.Bool.{cases_Bool, cases_eq, cases_lt, le-leb, lt-leb, eqb-true, ne_eqb, lt-ltb, ltb-true}
+use Rattle.std.proofs.lemmas.Bool.{cases_Bool, cases_eq, cases_lt, le-leb, lt-leb, eqb-true, ne_eqb, lt-ltb, ltb-true, and_parts}
 use Rattle.std.proofs.lemmas.List.{append_assoc, drop-drop, drop-take, drop_at, drop_more, length-append, length-drop, length-take-le, take-append-drop, take-take, take_at}
 use Rattle.std.proofs.lemmas.Nat.{be_bytes_8, from_be_bytes-to_be_bytes_8}
+use Rattle.std.proofs.lemmas.Option.{same_Some}
 use Rattle.std.specs.Int.{w64, to_be_bytes, from_be_bytes}
+use Rattle.ks_aes_cbc.specs.Aes.{AreBytes}
+use Rattle.ks_aes_cbc.proofs.BlockLemmas.{AreBytes-cons, AreBytes-append}
+use Rattle.ks_aes_cbc.proofs.Chains.{AreBytes-take, AreBytes-drop}
 use Rattle.ks_fernet.specs.declared.envelope.Envelope.{Envelope}
-use Rattle.ks_fernet.specs.Base64Url.{AreBytes, Spells, bytes_of}
+use Rattle.ks_fernet.specs.Base64Url.{Spells, bytes_of}
 use Rattle.ks_fernet.specs.Opening.{signed_bytes}
 use Rattle.ks_fernet.specs.Token.{IsToken, IsTokenLength, envelope_in, envelope_of, is_token_length, parts_of, token_bytes}
-use Rattle.ks_fernet.proofs.DecodedBytes.{AreBytes-append, AreBytes-take, AreBytes-drop}
-use Rattle.ks_fernet.proofs.Spelling.{option_cases, read_spelled, spelled_read, test_parts}
+use Rattle.ks_fernet.proofs.Spelling.{option_cases, read_spelled, spelled_read}
 
 pub AreBytes-to_be_bytes : (n : ℕ) → AreBytes (to_be_bytes w64 n)
 AreBytes-to_be_bytes n zero = omega arith
@@ -21,10 +24,6 @@ AreBytes-to_be_bytes n (suc (suc (suc (suc (suc zero))))) = omega arith
 AreBytes-to_be_bytes n (suc (suc (suc (suc (suc (suc zero)))))) = omega arith
 AreBytes-to_be_bytes n (suc (suc (suc (suc (suc (suc (suc zero))))))) = omega arith
 AreBytes-to_be_bytes n (suc (suc (suc (suc (suc (suc (suc (suc i)))))))) = omega arith
-
-pub AreBytes-cons : (b : ℕ) (bytes : List ℕ) → b < 256 → AreBytes bytes → AreBytes (b ∷ bytes)
-AreBytes-cons b bytes low h zero = low
-AreBytes-cons b bytes low h (suc i) = h i
 
 pub AreBytes-token_bytes : (e : Envelope) → AreBytes e.iv → AreBytes e.ciphertext → AreBytes e.mac → AreBytes (token_bytes e)
 AreBytes-token_bytes e iv ciphertext mac =
@@ -87,7 +86,7 @@ length_test n h = rw (lt-ltb 57 n h.0, h.1) refl
 
 pub test_length : (n : ℕ) → is_token_length n ≡ true → IsTokenLength n
 test_length n h =
-    let parts = test_parts (nat_lt 57 n) ((n - 57) % 16 == 0) h in
+    let parts = and_parts (nat_lt 57 n) ((n - 57) % 16 == 0) h in
     (ltb-true 57 n parts.0, eqb-true ((n - 57) % 16) 0 parts.1)
 
 pub other_length : (n : ℕ) → is_token_length n ≡ false → ¬ IsTokenLength n
@@ -108,13 +107,10 @@ envelope_in_version bytes version = elim (cases_Bool (is_token_length (length by
   | inr short ↦ rw short refl
 ]
 
-some_envelope : (a b : Envelope) → Some a ≡ Some b → a ≡ b
-some_envelope a b h = cc
-
 pub in_parts : (bytes : List ℕ) (e : Envelope) → envelope_in bytes ≡ Some e → IsTokenLength (length bytes) × (slice_index bytes 0 ≡ 0x80) × (parts_of bytes ≡ e)
 in_parts bytes e found = elim (cases_Bool (is_token_length (length bytes))) [
   | inl long ↦ elim (cases_eq (slice_index bytes 0) 0x80) [
-    | inl version ↦ (test_length (length bytes) long, version, some_envelope (parts_of bytes) e (sym (envelope_in_parts bytes long version) ∙ found))
+    | inl version ↦ (test_length (length bytes) long, version, same_Some (parts_of bytes) e (sym (envelope_in_parts bytes long version) ∙ found))
     | inr other ↦ cc (sym (envelope_in_version bytes other) ∙ found)
   ]
   | inr short ↦ cc (sym (envelope_in_length bytes short) ∙ found)

@@ -1,5 +1,5 @@
 -- Base64 with the alphabet that is safe in URLs (RFC 4648, section 5).
-use Rattle.std.specs.Prelude.{◌≡◌, ℕ, ◌%◌, ◌<◌, ◌⊎◌, ◌==◌, nat_lt, true, false, if◌then◌else◌, List, length, slice_index, codes, Option, None}
+use Rattle.std.specs.Prelude.{◌≡◌, ℕ, ◌%◌, ◌⊎◌, ◌==◌, nat_lt, true, false, if◌then◌else◌, List, length, codes, Option, None}
 use Rattle.std.specs.List.{list_all}
 use Rattle.base64.specs.Engines.{url_safe, url_safe_no_pad}
 use Rattle.base64.specs.GeneralPurpose.{decoded_of}
@@ -15,10 +15,6 @@ padded_text bytes = encode symbols 61 true bytes
 -- the bytes with no padding
 unfoldable pub bare_text : List ℕ → List ℕ
 bare_text bytes = encode symbols 61 false bytes
-
--- each is a byte
-abbrev pub AreBytes : List ℕ → Type 0
-AreBytes bytes = (i : ℕ) → slice_index bytes i < 256
 
 -- the text spells these bytes: with full padding or with none, and unused bits are zero
 abbrev pub Spells : List ℕ → List ℕ → Type 0

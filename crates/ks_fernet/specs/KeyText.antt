@@ -1,10 +1,11 @@
 -- Fernet keys as texts: the 16 bytes that sign, and then the 16 that encipher.
 use Rattle.std.specs.Prelude.{◌≡◌, ℕ, ◌==◌, if◌then◌else◌, List, ◌++◌, length, take, drop, Option, Some, None}
 use Rattle.std.specs.Option.{option_and_then}
+use Rattle.ks_aes_cbc.specs.Aes.{AreBytes}
 use Rattle.ks_base.specs.declared.key.Key.{Key}
 use Rattle.ks_fernet.specs.declared.key_text.KeyText.{KeyText}
 use Rattle.ks_fernet.specs.declared.key_text.KeyText.TheVariants.{Key as A, NotAKey}
-use Rattle.ks_fernet.specs.Base64Url.{AreBytes, Spells, bytes_of}
+use Rattle.ks_fernet.specs.Base64Url.{Spells, bytes_of}
 
 -- the text spells this key
 pub record IsKeyText (text : List ℕ) (key : Key) : Type 0 where

@@ -3,3 +3,4 @@ pub mod KeyText
 pub mod Opened
 pub mod Opening
 pub mod Token
+pub use Rattle.ks_aes_cbc.specs.Aes

@@ -2,11 +2,12 @@
 use Rattle.std.specs.Prelude.{◌≡◌, ◌≢◌, ℕ, ◌-◌, ◌%◌, ◌^◌, ◌<◌, ◌≤◌, ◌==◌, ◌&&◌, nat_lt, nat_le, Bool, true, false, IsSome, if◌then◌else◌, List, ◌∷◌, ◌++◌, length, take, drop, slice_index, Option, Some, None}
 use Rattle.std.specs.Option.{option_and_then}
 use Rattle.std.specs.Int.{w64, to_be_bytes, from_be_bytes}
+use Rattle.ks_aes_cbc.specs.Aes.{AreBytes}
 use Rattle.ks_base.specs.declared.limits.TheConstants.{TOKEN_BYTES}
 use Rattle.ks_fernet.specs.declared.envelope.Envelope.{Envelope}
 use Rattle.ks_fernet.specs.declared.envelope.EnvelopeFault.{EnvelopeFault}
 use Rattle.ks_fernet.specs.declared.envelope.EnvelopeFault.TheVariants.{NotText, Length, Version, Memory}
-use Rattle.ks_fernet.specs.Base64Url.{AreBytes, Spells, bytes_of}
+use Rattle.ks_fernet.specs.Base64Url.{Spells, bytes_of}
 
 -- the bytes of a token: the version, the time with its highest byte first, the iv, the ciphertext and the mac
 abbrev pub token_bytes : Envelope → List ℕ

@@ -4,7 +4,8 @@
 ghost use Rattle.std.specs.Prelude.{◌≡◌, ◌↔◌, ◌⊎◌, ℕ, List, ◌∷◌, [], ◌++◌, length, Some, None};
 ghost use Rattle.ks_base.specs.declared.key.Key.{Key};
 ghost use Rattle.ks_fernet.specs.declared.envelope.Envelope.{Envelope};
-ghost use Rattle.ks_fernet.specs.Base64Url.{AreBytes, Spells, bare_text, bytes_of, padded_text};
+ghost use Rattle.ks_aes_cbc.specs.Aes.{AreBytes};
+ghost use Rattle.ks_fernet.specs.Base64Url.{Spells, bare_text, bytes_of, padded_text};
 ghost use Rattle.ks_fernet.specs.KeyText.{IsKeyText, key_of};
 ghost use Rattle.ks_fernet.specs.declared.opening.OpenAnswer.TheVariants.{NotText, No, Yes};
 ghost use Rattle.ks_fernet.specs.Opening.{Holds, HoldsNothing, open_of};

@@ -1,7 +1,7 @@
 ghost use Rattle.std.specs.Prelude.{◌≡◌, ◌≤◌, length, IfOk};
 ghost use Rattle.ks_base.specs.declared.limits.TheConstants.{TOKEN_BYTES};
 ghost use Rattle.ks_fernet.specs.declared.opening.OpenAnswer.TheVariants.{Yes};
-ghost use Rattle.ks_fernet.specs.Base64Url.{AreBytes};
+ghost use Rattle.ks_aes_cbc.specs.Aes.{AreBytes};
 ghost use Rattle.ks_fernet.specs.Opening.{open_of, signed_bytes, token_text};
 
 use crate::base64_url::bare_text;

@@ -1,6 +1,6 @@
 -- The sum of a chain of blocks, taken block by block.
 use Rattle.std.proofs.Common.{◌≡◌, ℕ, suc, ◌+◌, ◌<◌, List, ◌∷◌, ◌++◌, [], length, get_or, refl, arith, fold, bit_xor}
-use Rattle.std.proofs.lemmas.List.FromFn.{fill_by_all, length-map-range_with_len}
+use Rattle.std.proofs.lemmas.List.FromFn.{fill_by_all}
 use Rattle.ks_hmac.specs.Hmac.{hmac_of}
 use Rattle.ks_hmac.specs.Pbkdf2.{blocks_of, chain_from, column, pbkdf2_of, xor_sum}
 
@@ -41,9 +41,3 @@ unfolding chain_from pbkdf2_of
 part_sum_all password salt block sum n rounds part none =
     fill_by_all (λ k. xor_sum (column (blocks_of password salt rounds) k)) sum 32 0 part.long
     (λ k below. rw none at (part.completed k below))
-
--- a key has 32 bytes
-pub length_of_pbkdf2 : (password salt : List ℕ) (rounds : ℕ) → length (pbkdf2_of password salt rounds) ≡ 32
-unfolding pbkdf2_of
-length_of_pbkdf2 password salt rounds =
-    length-map-range_with_len (λ k. xor_sum (column (blocks_of password salt rounds) k)) 0 32

@@ -3,9 +3,9 @@ use Rattle.std.proofs.Common.{◌≡◌, ◌≢◌, ℕ, ◌+◌, ◌<◌, ◌�
 use Rattle.std.specs.Prelude.{All}
 use Rattle.std.specs.List.{list_any}
 use Rattle.std.proofs.lemmas.List.Folds.{list_any_at}
-use Rattle.ks_http.proofs.Basics.{false_from_not}
 use Rattle.std.proofs.lemmas.List.{append-nil, drop_min, length-take, take_all, take-append-le, take-append-drop, drop-append-le, length-append}
 use Rattle.std.proofs.Math.Seq.{drop-append_seam}
+use Rattle.std.proofs.lemmas.Bool.{false_from_ne_true}
 use Rattle.httparse.specs.Grammar.{ReadsRequest, print_request}
 use Rattle.httparse.specs.Spans.{IsHeaderWithin}
 use Rattle.httparse.specs.declared.spans.HeaderSpan.{HeaderSpan}
@@ -19,7 +19,7 @@ use Rattle.ks_http.specs.declared.look.Look.TheVariants.{Whole, Refused, More}
 use Rattle.ks_http.specs.declared.opening.Opening.{Opening}
 use Rattle.ks_http.specs.Heads.{opening_of}
 use Rattle.ks_http.specs.steps.Says.{Refuses}
-use Rattle.ks_http.specs.Next.{BeginsWith, IsRefused, headless, by_head, in_body, Ends, Comes, request_of}
+use Rattle.ks_http.specs.Next.{BeginsWith, IsRefused, headless, by_head, in_body, Ends}
 use Rattle.ks_http.proofs.WaitLemmas.{begun}
 use Rattle.ks_http.specs.steps.Buffers.{Fills, Filled, Finds, Looks, Glances, IsHeadAt, IsUndecided, FindsHead, Stands, FillsTo, OpensAt, Taken, TakesBody}
 
@@ -33,7 +33,7 @@ pub not_full : (held : List ℕ) → length (take 16384 held) ≢ 16384 → leng
 not_full held ne = let n = length-take 16384 held in omega arith
 
 all_fail : (p : ℕ → Bool) (xs : List ℕ) → list_any p xs ≡ false → All (λ b. p b ≡ false) xs
-all_fail p xs none = λ k d lt. false_from_not (p (get_or xs k d)) (λ yes. let some = list_any_at p xs k d lt yes in cc)
+all_fail p xs none = λ k d lt. false_from_ne_true (p (get_or xs k d)) (λ yes. let some = list_any_at p xs k d lt yes in cc)
 
 -- a look would see no line feed that was not there before
 pub no_feed_in : (held window fresh : List ℕ) (before at : ℕ) (found : Bool) → window ≡ take 16384 held → length window ≢ 16384 → at ≡ min before (length window)
@@ -59,25 +59,12 @@ glances held before headers (Whole spans) f = f
 glances held before headers (Refused cause) f = f
 glances held before headers More f = (λ u. f.0, f.1)
 
-pub stands_at_first : (held left : List ℕ) (o : Option (List ℕ)) → o ≡ Some left → Stands (held ++ left) held o
-stands_at_first held left o e = record { rest = left; left_is = e; whole_is = refl }
-
-pub stands_on : (whole held new : List ℕ) (left after : Option (List ℕ)) (count : ℕ) (s : Stands whole held left) → Filled held s.rest new after count → Stands whole new after
-stands_on whole held new left after count s f = record { rest = f.rest; left_is = f.left_is; whole_is = sym f.same ∙ s.whole_is }
-
 -- no byte came: what is in hand is all
 pub all_in_hand : (whole held new : List ℕ) (left after : Option (List ℕ)) (count : ℕ) (s : Stands whole held left) → Filled held s.rest new after count
     → count ≡ 0 → (new ≡ whole) × (after ≡ Some [])
 all_in_hand whole held new left after count s f none =
     let e = f.ended none in
     (sym (append-nil new) ∙ (ap (λ r. new ++ r) (sym e) ∙ (sym f.same ∙ s.whole_is)), f.left_is ∙ ap (λ r. Some r) e)
-
-pub fill_ends : (whole held new : List ℕ) (left after : Option (List ℕ)) (e : Ending) (s : Stands whole held left) → IsUndecided held
-    → Fills held s.rest new after (Err e) → Ends whole after e
-fill_ends whole held new left after End s u f = absurd f
-fill_ends whole held new left after (Bad cause) s u f = absurd f
-fill_ends whole held new left after ReadFault s u f = record { read = held; rest = s.rest; left_is = f.1; bytes_is = sym s.whole_is; begun = begun held u }
-fill_ends whole held new left after Memory s u f = tt
 
 pub fill_stops : (whole held new : List ℕ) (left after : Option (List ℕ)) (e : Ending) (size : ℕ) (s : Stands whole held left) → length held < size
     → Fills held s.rest new after (Err e) → FillsTo whole size new after (Err e)
@@ -87,10 +74,6 @@ fill_stops whole held new left after ReadFault size s few f =
     let same = ap (λ l. length l) f.0 in
     (record { rest = s.rest; left_is = f.1; whole_is = ap (λ l. l ++ s.rest) f.0 ∙ s.whole_is }, omega arith)
 fill_stops whole held new left after Memory size s few f = tt
-
-pub finds_whole : (whole held : List ℕ) (left : Option (List ℕ)) (headers : List HeaderSpan) (spans : RequestSpans) → Stands whole held left
-    → IsHeadAt (take 16384 held) headers spans → FindsHead whole held left headers (Ok spans)
-finds_whole whole held left headers spans s h = (s.rest, s.left_is, s.whole_is, h)
 
 pub finds_refused : (whole held : List ℕ) (left : Option (List ℕ)) (cause : HttpCause) → Stands whole held left
     → ((rest : List ℕ) → IsRefused (held ++ rest) cause) → Ends whole left (Bad cause)
@@ -102,12 +85,6 @@ finds_last whole held left headers r w l f = subst (λ o. FindsHead whole held o
 
 pub short_whole : (whole held new : List ℕ) (size count : ℕ) → new ≡ whole → length new ≡ length held + count → count ≡ 0 → length held < size → length whole < size
 short_whole whole held new size count e l z lt = let n = ap (λ b. length b) e in omega arith
-
-pub stops_body : (whole held : List ℕ) (size : ℕ) (left : Option (List ℕ)) (e : Ending) → FillsTo whole size held left (Err e) → TakesBody whole size held left (Err e)
-stops_body whole held size left End f = absurd f
-stops_body whole held size left (Bad cause) f = f
-stops_body whole held size left ReadFault f = f
-stops_body whole held size left Memory f = tt
 
 pub takes : (whole held new body : List ℕ) (size : ℕ) (left : Option (List ℕ)) → Stands whole held left → size ≤ length held → body ≡ take size held → new ≡ drop size held
     → Taken whole size new left body
@@ -156,21 +133,6 @@ refuses_head whole held left headers spans (Bad cause) f fits says =
 refuses_head whole held left headers spans Memory f fits says = tt
 refuses_head whole held left headers spans End f fits says = absurd says
 refuses_head whole held left headers spans ReadFault f fits says = absurd says
-
-pub comes_first : (whole held new body : List ℕ) (left after : Option (List ℕ)) (o : Opening) (f : OpensAt whole held left (Ok o))
-    → Taken (held ++ f.0) o.length new after body → Comes whole new after (Ok (request_of o body))
-comes_first whole held new body left after o f t = (
-  t.rest,
-  t.left_is,
-  record {
-    opening = o;
-    after = held ++ f.0;
-    opens = f.2;
-    enough = t.enough;
-    request_is = ap (λ b. request_of o b) t.body_is;
-    rest_is = t.rest_is;
-  },
-)
 
 pub body_ends : (whole held new : List ℕ) (left after : Option (List ℕ)) (o : Opening) (e : Ending) (f : OpensAt whole held left (Ok o))
     → TakesBody (held ++ f.0) o.length new after (Err e) → Ends whole after e

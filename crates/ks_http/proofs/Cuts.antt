@@ -1,13 +1,15 @@
 -- Cutting a text at a byte.
-use Rattle.std.proofs.Common.{◌≡◌, ℕ, ◌+◌, ◌<◌, ◌==◌, Bool, true, false, List, [], ◌∷◌, ◌++◌, length, take, drop, get_or, Option, Some, None, refl, sym, ap, ◌∙◌, subst, arith, cond, nat_lt}
-use Rattle.std.specs.Prelude.{option_map, ◌||◌, ◌≤◌, All}
-use Rattle.std.specs.List.{position, position_or_len, slice_split, list_any}
+use Rattle.std.proofs.Common.{◌≡◌, ℕ, ◌+◌, ◌<◌, ◌==◌, true, false, List, [], ◌∷◌, ◌++◌, length, take, drop, get_or, Option, Some, None, refl, sym, ap, ◌∙◌, subst, arith}
+use Rattle.std.specs.Prelude.{option_map, ◌||◌, All}
+use Rattle.std.specs.List.{position, slice_split, list_any}
 use Rattle.std.proofs.lemmas.Bool.{eqb-true}
-use Rattle.std.proofs.lemmas.Bool.Decides.{nat_tests}
 use Rattle.std.proofs.lemmas.List.{take-append-drop, drop_more, drop-drop, get_or-take, length-take-le, length-append}
 use Rattle.std.proofs.lemmas.List.Sums.{fails_before_first}
 use Rattle.std.proofs.lemmas.List.Quantifiers.{position-Some}
 use Rattle.std.proofs.lemmas.List.Splits.{slice_split_at, slice_split_none}
+use Rattle.std.proofs.Math.Bool.{or-false}
+use Rattle.std.proofs.lemmas.Option.{same_Some}
+use Rattle.ks_base.proofs.ListLemmas.{not_found}
 use Rattle.ks_http.specs.Lines.{cut_at, sides}
 use Rattle.ks_http.specs.Fields.{is_option, lists_option}
 
@@ -38,25 +40,17 @@ cuts_at a text k found =
           rw (get_or-take k text j d lt') (at'.2 j lt');
     }
 
-of_some : (p q : List ℕ × List ℕ) → Some p ≡ Some q → p ≡ q
-of_some p q e = cc
-
 cut_case : (a : ℕ) (text before behind : List ℕ) (o : Option ℕ) → position (λ b. b == a) text ≡ o
     → option_map (sides text) o ≡ Some (before, behind) → Cuts a text before behind
 cut_case a text before behind None found e = cc
 cut_case a text before behind (Some k) found e =
-    let pair = of_some (sides text k) _ e in
+    let pair = same_Some (sides text k) _ e in
     let b : take k text ≡ before = ap (λ p. p.0) pair in
     let h : drop (k + 1) text ≡ behind = ap (λ p. p.1) pair in
     subst (λ x. Cuts a text x behind) b (subst (λ y. Cuts a text (take k text) y) h (cuts_at a text k found))
 
 pub cut_some : (a : ℕ) (text before behind : List ℕ) → cut_at a text ≡ Some (before, behind) → Cuts a text before behind
 cut_some a text before behind e = cut_case a text before behind (position (λ b. b == a) text) refl e
-
-not_found : (p : ℕ → Bool) (xs : List ℕ) → position p xs ≡ None → length xs ≤ position_or_len p xs
-not_found p xs none = reaches (position_or_len p xs) (length xs) none where
-  reaches : (m n : ℕ) → cond (nat_lt m n) (Some m) None ≡ None → n ≤ m
-  reaches m n e = grind (arith, nat_tests)
 
 none_case : (a : ℕ) (text : List ℕ) (o : Option ℕ) → position (λ b. b == a) text ≡ o
     → option_map (sides text) o ≡ None → All (λ b. (b == a) ≡ false) text
@@ -84,9 +78,5 @@ pub lists_more : (word text part behind : List ℕ) → cut_at 44 text ≡ Some 
     → lists_option word text ≡ (is_option word part || lists_option word behind)
 lists_more word text part behind e = ap (λ parts. list_any (is_option word) parts) (parts_more 44 text part behind refl e)
 
-or_false : (b : Bool) → (b || false) ≡ b
-or_false true = refl
-or_false false = refl
-
 pub lists_last : (word text : List ℕ) → cut_at 44 text ≡ None → lists_option word text ≡ is_option word text
-lists_last word text e = ap (λ parts. list_any (is_option word) parts) (parts_last 44 text e) ∙ or_false (is_option word text)
+lists_last word text e = ap (λ parts. list_any (is_option word) parts) (parts_last 44 text e) ∙ or-false (is_option word text)

@@ -1,37 +1,16 @@
 -- What a look at the bytes so far says of the bytes however they go on.
-use Rattle.std.proofs.Common.{◌≡◌, ℕ, ◌≤◌, List, [], ◌++◌, length, take, drop, map, min, inl, inr, ap, ◌∙◌, subst, arith}
+use Rattle.std.proofs.Common.{ℕ, ◌≤◌, List, [], ◌++◌, length, drop, inl, inr, subst, arith}
 use Rattle.std.proofs.lemmas.Bool.{cases_lt}
-use Rattle.std.proofs.lemmas.List.{append-nil, length-take, length-map}
-use Rattle.httparse.specs.Grammar.{RequestHead, HasNoRequest, print_request}
-use Rattle.httparse.specs.Spans.{IsRequestAt, IsRequestOf, IsRequestWithin, RequestOverflows, header_bytes, name_and_value}
+use Rattle.std.proofs.lemmas.List.{append-nil}
+use Rattle.httparse.specs.Grammar.{HasNoRequest, print_request}
+use Rattle.httparse.specs.Spans.{RequestOverflows}
 use Rattle.httparse.specs.declared.spans.HeaderSpan.{HeaderSpan}
-use Rattle.httparse.specs.declared.spans.RequestSpans.{RequestSpans}
 use Rattle.ks_http.specs.declared.look.Look.{Look}
 use Rattle.ks_http.specs.declared.look.Look.TheVariants.{Whole, Refused, More}
 use Rattle.ks_http.specs.Next.{HasNoHead}
-use Rattle.ks_http.specs.steps.Buffers.{IsHeadAt, Finds, Judged}
+use Rattle.ks_http.specs.steps.Buffers.{Finds, Judged}
 use Rattle.ks_http.proofs.ScanLemmas.{unsettled_short, settled_stays}
 use Rattle.ks_http.proofs.WaitLemmas.{front_of, none_settled}
-
-few_fields : (buf : List ℕ) (headers : List HeaderSpan) (spans : RequestSpans) (h : RequestHead) → IsRequestAt buf headers spans h
-    → length headers ≤ 64 → length h.fields ≤ 64
-few_fields buf headers spans h at room =
-    let same : length (map (header_bytes buf) (take spans.headers headers)) ≡ length (map name_and_value h.fields) = ap (λ l. length l) at.fields in
-    let a : length (map (header_bytes buf) (take spans.headers headers)) ≡ min spans.headers (length headers) = length-map _ _ ∙ length-take spans.headers headers in
-    let b : length (map name_and_value h.fields) ≡ length h.fields = length-map _ _ in
-    omega arith
-
-pub head_at : (bytes : List ℕ) (headers : List HeaderSpan) (spans : RequestSpans) → length bytes ≤ 16384 → length headers ≤ 64
-    → IsRequestWithin bytes headers spans → IsRequestOf bytes headers spans → IsHeadAt bytes headers spans
-head_at bytes headers spans short room within of = record {
-  head = of.0;
-  begins = record {
-    reads = of.1.reads;
-    short = let len = of.1.len in let fits = within.section.len_fits in omega arith;
-    few = few_fields bytes headers spans of.0 of.1 room;
-  };
-  at = of.1;
-}
 
 pub none_over : (bytes more : List ℕ) (room : ℕ) → 64 ≤ room → RequestOverflows room bytes → HasNoHead (bytes ++ more)
 none_over bytes more room le over = λ head after begins. let many = over more head after begins.reads in let few = begins.few in omega arith

@@ -1,6 +1,6 @@
 -- The lines of a head are never refused, and a head ends with a line feed.
 use Rattle.std.proofs.Common.{◌≡◌, ℕ, zero, suc, ◌+◌, ◌-◌, ◌<◌, ◌≤◌, ◌==◌, Bool, true, false, List, [], ◌∷◌, ◌++◌, length, Some, refl, sym, ap, ◌∙◌, arith, append_assoc, nat_lt}
-use Rattle.std.specs.Prelude.{All, fold, slice_index, ◌&&◌}
+use Rattle.std.specs.Prelude.{All, fold, slice_index}
 use Rattle.std.specs.List.{flat_map, list_all, position, position_or_len}
 use Rattle.std.specs.Str.{is_utf8}
 use Rattle.std.proofs.lemmas.Str.{is_utf8-from_IsUtf8}
@@ -8,6 +8,7 @@ use Rattle.std.proofs.lemmas.Bool.Decides.{nat_tests}
 use Rattle.std.proofs.lemmas.List.{append-nil, take_at, drop_at, get_or_at, get_or_append_left, length-append}
 use Rattle.std.proofs.lemmas.List.Elements.{All-weaker, All-append, All-cons, All-head, All-tail}
 use Rattle.std.proofs.lemmas.List.Sums.{fold-append, position_or_len_is, list_all-from_AllPass, AllPass-from_list_all}
+use Rattle.std.proofs.lemmas.Bool.{and_from}
 use Rattle.httparse.specs.Grammar.{is_token_byte, is_token, is_uri_byte, is_value_byte, AllPass, IsToken, LineEnd, crlf, lf, print_end, print_blank, print_version, Field, IsField, print_field, RequestHead, IsRequestHead, print_request}
 use Rattle.httparse.proofs.GrammarLemmas.{print_request-append, cons-append}
 use Rattle.ks_http.specs.declared.lines.Place.{Place}
@@ -117,9 +118,6 @@ cut_first byte before behind same clear =
 
 -- the first line
 
-both : (a b : Bool) → a ≡ true → b ≡ true → (a && b) ≡ true
-both a b x y = rw (x, y) refl
-
 word : (text : List ℕ) → 0 < length text → AllPass is_uri_byte text → is_word text ≡ true
 unfolding is_word
 word [] some all = absurd (omega arith)
@@ -127,7 +125,7 @@ word (b ∷ text) some all = list_all-from_AllPass is_uri_byte (b ∷ text) all
 
 token : (text : List ℕ) → IsToken text → is_token text ≡ true
 token text is = let t : nat_lt 0 (length text) ≡ true = let some = is.0 in grind (arith, nat_tests) in
-    both (nat_lt 0 (length text)) (list_all is_token_byte text) t (list_all-from_AllPass is_token_byte text is.1)
+    and_from (nat_lt 0 (length text)) (list_all is_token_byte text) t (list_all-from_AllPass is_token_byte text is.1)
 
 version : (minor : ℕ) → minor ≤ 1 → is_version (print_version minor) ≡ true
 unfolding is_version

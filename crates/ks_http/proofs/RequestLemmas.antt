@@ -1,7 +1,7 @@
 -- The requests at the front of a stream: one more, those that follow, and what was read of the stream.
-use Rattle.std.proofs.Common.{◌≡◌, ℕ, ◌+◌, ◌<◌, false, List, [], ◌∷◌, ◌++◌, length, take, drop, refl, sym, ap, subst, ◌∙◌, arith, length-append, append_assoc}
+use Rattle.std.proofs.Common.{◌≡◌, ℕ, ◌+◌, ◌<◌, false, List, [], ◌∷◌, ◌++◌, length, take, refl, sym, ap, subst, ◌∙◌, arith, length-append, append_assoc}
 use Rattle.std.proofs.lemmas.List.{take-append-drop, length-take-le}
-use Rattle.std.proofs.Math.Seq.{take-append_seam, drop-append_seam}
+use Rattle.ks_base.proofs.ListLemmas.{take_front, drop_front}
 use Rattle.httparse.specs.Grammar.{print_request}
 use Rattle.ks_http.specs.declared.request.Request.{Request}
 use Rattle.ks_http.specs.Next.{IsFirst, request_of, Requests, Close, goes_on}
@@ -24,12 +24,6 @@ first_then count bytes [] mid others close first then =
 first_then count bytes (r ∷ requests) mid others close first then =
     goes_on count bytes first.0 r (requests ++ others) close first.1 first.2 first.3
     (first_then (count + 1) first.0 requests mid others close first.4 (subst (λ n. Requests n mid others close) (omega arith) then))
-
-take_front : (n : ℕ) (front back : List ℕ) → length front ≡ n → take n (front ++ back) ≡ front
-take_front n front back e = subst (λ m. take m (front ++ back) ≡ front) e (take-append_seam front back)
-
-drop_front : (n : ℕ) (front back : List ℕ) → length front ≡ n → drop n (front ++ back) ≡ back
-drop_front n front back e = subst (λ m. drop m (front ++ back) ≡ back) e (drop-append_seam front back)
 
 -- the bytes in front of those that were left, from which the same request comes
 first_short : (bytes : List ℕ) (request : Request) (tail rest : List ℕ) → IsFirst bytes request (tail ++ rest) →

@@ -1,5 +1,5 @@
 -- The content of a file, and the key in it.
-use Rattle.std.proofs.Common.{◌≡◌, ℕ, zero, suc, ◌+◌, ◌<◌, ◌≤◌, List, [], ◌∷◌, length, take, get_or, refl, arith, eq-eqb, ne_eqb, Option, Some, None, inl, inr}
+use Rattle.std.proofs.Common.{◌≡◌, ℕ, zero, suc, ◌+◌, ◌<◌, ◌≤◌, List, [], ◌∷◌, length, get_or, refl, arith, eq-eqb, ne_eqb, Option, Some, None, inl, inr}
 use Rattle.std.proofs.lemmas.Bool.{le-leb, lt-leb, cases_order}
 use Rattle.std.specs.Option.{option_and_then}
 use Rattle.ks_outside.specs.Files.{KeyFile, AreIndices, indices_of, content_at, short_content, Gives}
@@ -33,25 +33,6 @@ key_too_long content long = let no = lt-leb (length content) 64 long in rw no re
 pub key_in_short : (content : List ℕ) → length content ≤ 64 → key_in_file content ≡ key_of (line_of content)
 unfolding key_in_file
 key_in_short content short = let yes = le-leb (length content) 64 short in rw yes refl
-
-gives_short : (content into : List ℕ) (n : ℕ) → Gives (Some content) into (Some n) → key_in_file (take n into) ≡ key_in_file content
-gives_short content into n gives =
-    let long : n ≡ length content = cc gives.0 in
-    rw (long, gives.1) refl
-
-gives_key_of : (content : Option (List ℕ)) (into : List ℕ) (n : ℕ) → Gives (short_content content) into (Some n) →
-    key_in_file (take n into) ≡ option_and_then key_in_file content
-gives_key_of None into n gives = cc gives
-gives_key_of (Some content) into n gives = elim (cases_order (length content) 64) [
-  | inl same ↦ let yes = le-leb (length content) 64 (omega (arith, same)) in gives_short content into n (rw yes at gives)
-  | inr (inl under) ↦ let yes = le-leb (length content) 64 (omega (arith, under)) in gives_short content into n (rw yes at gives)
-  | inr (inr over) ↦ let no = lt-leb (length content) 64 over in let none : Some n ≡ None = rw no at gives in cc none
-]
-
--- the key in the piece that a read has filled is the key in the file
-pub gives_key : (index : ℕ) (files : List KeyFile) (into : List ℕ) (n : ℕ) → Gives (short_content (content_at index files)) into (Some n) →
-    key_in_file (take n into) ≡ key_at index files
-gives_key index files into n gives = gives_key_of (content_at index files) into n gives
 
 gives_none_of : (content : Option (List ℕ)) (into : List ℕ) → Gives (short_content content) into None →
     option_and_then key_in_file content ≡ None

@@ -6,13 +6,14 @@ use Rattle.ks_base.specs.declared.key.Key.{Key}
 use Rattle.ks_base.specs.declared.faults.KeysFault.TheVariants.{IndexEnd}
 use Rattle.ks_fernet.specs.KeyText.{IsKeyText}
 use Rattle.ks_outside.specs.Files.{AreIndices, KeyFile, content_at, indices_of, without}
+use Rattle.ks_outside.proofs.FileLemmas.{all_above, AllAbove}
 use Rattle.ks_keyfiles.specs.Folders.{folder_of, key_in_file, keys_in}
 use Rattle.ks_keyfiles.specs.Laws.{IsKey, MayRotate, newest}
 use Rattle.ks_keyfiles.specs.Rotations.{IsRotating, excess, highest, oldest, promoted, removals, removed, rotated, rotation_fault, staged_anew}
 use Rattle.ks_keyfiles.specs.Setups.{IsOneOf, key_text, set_up}
 use Rattle.ks_keyfiles.proofs.IndexLemmas.{promoted_rises, dropped_rises}
 use Rattle.ks_keyfiles.proofs.KeyFileLemmas.{file_is_read}
-use Rattle.ks_keyfiles.proofs.PromotionLemmas.{AllAbove, all_above, none_stands, promoted_listed, staged_first, staged_promoted}
+use Rattle.ks_keyfiles.proofs.PromotionLemmas.{none_stands, promoted_listed, staged_first, staged_promoted}
 use Rattle.ks_keyfiles.proofs.RemovalLemmas.{indices_dropped, none_removed, removed_is}
 
 -- a setup

@@ -3,28 +3,9 @@ use Rattle.std.proofs.Common.{◌≡◌, ◌⊎◌, ℕ, ◌+◌, ◌<◌, ◌�
 use Rattle.std.proofs.lemmas.Bool.{cases_order}
 use Rattle.std.proofs.lemmas.List.{map-append}
 use Rattle.ks_outside.specs.Files.{AreIndices, IsFree, KeyFile, Stands, content_at, files_above, files_below, indices_of, with_file, without}
+use Rattle.ks_outside.proofs.FileLemmas.{all_above, AllAbove}
 use Rattle.ks_keyfiles.specs.Rotations.{highest, promoted, promoted_by}
 use Rattle.ks_keyfiles.specs.steps.Removals.{promoted_indices}
-
--- every file is above the index
-pub record AllAbove (index : ℕ) (files : List KeyFile) : Type 0 where
-  pub below : files_below index files ≡ []
-  pub above : files_above index files ≡ files
-  pub content : content_at index files ≡ None
-
-pub all_above : (index low : ℕ) (files : List KeyFile) → index < low → AreIndices low (indices_of files) → AllAbove index files
-all_above index low [] under rising = record { below = refl; above = refl; content = refl }
-all_above index low (file ∷ files) under rising =
-    let r : AllAbove index files = all_above index (file.0 + 1) files (omega (arith, rising.0)) rising.2 in
-    let above : index < file.0 = omega (arith, rising.0) in
-    let t1 = le-ltb file.0 index (omega arith) in
-    let t2 = lt-ltb index file.0 above in
-    let t3 = ne_eqb file.0 index (λ e. omega (arith, e)) in
-    record {
-      below = rw (t1, r.below) refl;
-      above = rw (t2, r.above) refl;
-      content = rw (t3, r.content) refl;
-    }
 
 -- every file is below the index
 record AllBelow (index : ℕ) (files : List KeyFile) : Type 0 where

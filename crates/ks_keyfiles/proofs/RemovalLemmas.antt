@@ -3,11 +3,11 @@ use Rattle.std.proofs.Common.{◌≡◌, ◌⊎◌, ℕ, zero, suc, ◌+◌, ◌
 use Rattle.std.proofs.Math.Seq.{drop-cons}
 use Rattle.std.proofs.lemmas.List.{length-append, length-map, get_or-map, get_or_append_left}
 use Rattle.ks_outside.specs.Files.{AreIndices, KeyFile, Stands, indices_of, without}
+use Rattle.ks_outside.proofs.FileLemmas.{all_above, AllAbove}
 use Rattle.ks_keyfiles.specs.Rotations.{oldest, removals, removed}
 use Rattle.ks_keyfiles.specs.Setups.{IsOneOf}
 use Rattle.ks_keyfiles.specs.steps.Removals.{AreOldest}
 use Rattle.ks_keyfiles.proofs.IndexLemmas.{dropped_rises}
-use Rattle.ks_keyfiles.proofs.PromotionLemmas.{AllAbove, all_above}
 
 pub none_removed : (files : List KeyFile) → removed 0 files ≡ files
 unfolding removed

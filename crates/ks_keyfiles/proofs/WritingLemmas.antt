@@ -71,10 +71,6 @@ stopped staged primary files now TooMany cause left = absurd cause
 stopped staged primary files now AlreadySet cause left = absurd cause
 stopped staged primary files now IndexEnd cause left = absurd cause
 
-pub list_failed : (staged primary : Key) (files : List KeyFile) (now : Option (List KeyFile)) (fault : KeysFault) → IsCallFault fault → now ≡ Some files
-    → SetsUp staged primary files now (Err fault)
-list_failed staged primary files now fault cause same = stopped staged primary files now fault cause (inl same)
-
 pub first_failed : (staged primary : Key) (files : List KeyFile) (now : Option (List KeyFile)) (fault : KeysFault) → files ≡ [] → IsCallFault fault
     → (now ≡ Some files) ⊎ (now ≡ Some (with_file 1 (key_text primary) files)) → SetsUp staged primary files now (Err fault)
 first_failed staged primary [] now fault none cause (inl same) = stopped staged primary [] now fault cause (inl same)

@@ -1,7 +1,7 @@
 -- What holds of all contents of files, and of all folders.
 use Rattle.std.specs.Prelude.{◌≡◌, ◌↔◌, ◌⊎◌, ℕ, ◌-◌, ◌<◌, ◌≤◌, List, [], ◌∷◌, ◌++◌, length, drop, Some, None, Ok}
+use Rattle.ks_fernet.specs.Aes.{AreBytes}
 use Rattle.ks_base.specs.declared.key.Key.{Key}
-use Rattle.ks_fernet.specs.Base64Url.{AreBytes}
 use Rattle.ks_fernet.specs.KeyText.{IsKeyText}
 use Rattle.ks_outside.specs.Files.{AreIndices, KeyFile, content_at, indices_of}
 use Rattle.ks_keyfiles.specs.Folders.{folder_of, key_in_file}

@@ -3,7 +3,7 @@ use Rattle.std.proofs.Common.{◌≡◌, ℕ, Bool, true, false, ◌&&◌, ◌||
 use Rattle.std.specs.Prelude.{not, if◌then◌else◌}
 use Rattle.std.specs.List.{filter, list_any}
 use Rattle.std.specs.declared.cmp.Ordering.{Ordering}
-use Rattle.std.proofs.lemmas.Bool.{and_parts}
+use Rattle.std.proofs.lemmas.Bool.{and_parts, not-true, both_ways, and_from, or_parts}
 use Rattle.ks_base.specs.declared.events.Revoke.TheVariants as revoke
 use Rattle.ks_base.specs.declared.faults.RowFault.TheVariants as fault
 use Rattle.ks_base.specs.declared.grants.Actor.{Actor}
@@ -30,9 +30,12 @@ use Rattle.ks_base.specs.Rows.{Id, Rows, same, domain_of, group_of, project_of, 
 use Rattle.ks_base.specs.Tables.{Among, drop_row, find_row, has_key, id_cmp, put_row}
 use Rattle.ks_base.specs.Trees.{lies_in}
 use Rattle.ks_base.specs.Trusts.{goes, has_role, lineage, names_trust, use_trust, used}
-use Rattle.ks_base.proofs.RowLemmas.{among_drop, among_filter, among_put}
+use Rattle.ks_base.proofs.RowLemmas.{among_drop, among_filter, among_put, id_found}
+use Rattle.ks_base.proofs.OptionLemmas.{some_is}
+use Rattle.ks_base.proofs.AmongLemmas.{among_mapped, any_to}
+use Rattle.ks_base.proofs.ListLemmas.{find_kept}
 use Rattle.ks_laws.specs.Orderly.{AreAnchored, Each, IsGrantAnchored, IsImplicationAnchored, IsMemberAnchored, IsTrustAnchored}
-use Rattle.ks_laws.proofs.ListLemmas.{after_drop, among_mapped, any_to, each_of_all, found_is_among, found_kept, id_found, is_same, is_there, none_apply, some_there, stands_put, unless_fault}
+use Rattle.ks_laws.proofs.ListLemmas.{after_drop, each_of_all, found_is_among, is_same, is_there, none_apply, stands_put, unless_fault}
 use Rattle.ks_machine.specs.declared.change.Change.{Change}
 use Rattle.ks_machine.specs.declared.change.Change.TheVariants as change
 use Rattle.ks_machine.specs.Changes.{domain_dropped, group_dropped, is_actor_gone, is_domain_group, is_domain_project, is_domain_user, is_grant_left, is_id_of, is_left, is_of_domain, is_target_gone, project_dropped, role_dropped, rows_after, touches, user_dropped}
@@ -42,27 +45,11 @@ use Rattle.ks_machine.specs.Tables.{people, roles}
 
 -- tests
 
-is_out : (b : Bool) → not b ≡ true → b ≡ false
-is_out true is = cc
-is_out false is = refl
-
-left_out : (a b : Bool) → (a || b) ≡ false → a ≡ false
-left_out true b is = is
-left_out false b is = refl
-
-right_out : (a b : Bool) → (a || b) ≡ false → b ≡ false
-right_out true b is = cc
-right_out false b is = is
-
-contrary : (b : Bool) → b ≡ false → b ≡ true → ⊥
-contrary true isnt is = cc
-contrary false isnt is = cc
-
 none_of : {X : Type 0} (test : X → Bool) (xs : List X) (x : X) → list_any test xs ≡ false → Among xs x → test x ≡ false
 none_of test xs x none among = by (test x) refl
   where
     by : (b : Bool) → test x ≡ b → test x ≡ false
-    by true is = absurd (contrary (list_any test xs) none (any_to test xs x among is))
+    by true is = absurd (both_ways (list_any test xs) none (any_to test xs x among is))
     by false is = is
 
 -- the ids of rows that go
@@ -209,11 +196,7 @@ each_drop_by cmp P row rows each x among = each x (among_drop cmp (λ r. r) row 
 other_stands : {R : Type 0} (id_of : R → Id) (gone id : Id) (rows : List R) → same id gone ≡ false → IsStanding (find_row id_cmp id_of id rows) →
     IsStanding (find_row id_cmp id_of id (drop_row id_cmp id_of gone rows))
 other_stands id_of gone id rows out stands =
-    ap is_some (after_drop id_of gone rows id (λ is. contrary (same id gone) out (is_same id gone (sym is)))) ∙ stands
-
--- and what rows of a domain leave
-both_true : (a b : Bool) → a ≡ true → b ≡ true → (a && b) ≡ true
-both_true a b first second = rw (first, second) refl
+    ap is_some (after_drop id_of gone rows id (λ is. both_ways (same id gone) out (is_same id gone (sym is)))) ∙ stands
 
 home_apart : {R : Type 0} (id_of : R → Id) (passes : R → Bool) (rows : List R) (id : Id) (row : R) → is_id_of id_of passes rows id ≡ false →
     find_row id_cmp id_of id rows ≡ Some row → passes row ≡ false
@@ -222,24 +205,24 @@ home_apart id_of passes rows id row out found = by (passes row) refl
     here : passes row ≡ true → list_any (λ row. same (id_of row) id && passes row) rows ≡ true
     here is =
         any_to (λ row. same (id_of row) id && passes row) rows row (found_is_among id_of id rows row found)
-        (both_true (same (id_of row) id) (passes row) (is_same (id_of row) id (id_found id_of id rows row found)) is)
+        (and_from (same (id_of row) id) (passes row) (is_same (id_of row) id (id_found id_of id rows row found)) is)
 
     by : (b : Bool) → passes row ≡ b → passes row ≡ false
-    by true is = absurd (contrary (list_any (λ row. same (id_of row) id && passes row) rows) out (here is))
+    by true is = absurd (both_ways (list_any (λ row. same (id_of row) id && passes row) rows) out (here is))
     by false is = is
 
 left_stands : {R : Type 0} (id_of : R → Id) (passes : R → Bool) (rows : List R) (id : Id) → is_id_of id_of passes rows id ≡ false → IsStanding (find_row id_cmp id_of id rows) →
     IsStanding (find_row id_cmp id_of id (filter (λ row. not (passes row)) rows))
 unfolding find_row
-left_stands {R} id_of passes rows id out stands = by (some_there (find_row id_cmp id_of id rows) stands)
+left_stands {R} id_of passes rows id out stands = by (some_is (find_row id_cmp id_of id rows) stands)
   where
     by : (row : R) × (find_row id_cmp id_of id rows ≡ Some row) → IsStanding (find_row id_cmp id_of id (filter (λ row. not (passes row)) rows))
     by (row, found) =
-        ap is_some (found_kept (has_key id_cmp id_of id) (λ row. not (passes row)) rows row found (ap not (home_apart id_of passes rows id row out found)))
+        ap is_some (find_kept (has_key id_cmp id_of id) (λ row. not (passes row)) rows row found (ap not (home_apart id_of passes rows id row out found)))
 
 -- a trust that is left is not touched
 untouched : (trusts : List TrustRow) (touched : TrustRow → Bool) (trust : TrustRow) → not (goes trusts touched trust) ≡ true → touched trust ≡ false
-untouched trusts touched trust stays = left_out (touched trust) (list_any touched (lineage trusts trust)) (is_out (goes trusts touched trust) stays)
+untouched trusts touched trust stays = (or_parts (touched trust) (list_any touched (lineage trusts trust)) (not-true (goes trusts touched trust) stays)).0
 
 abbrev named : Id → Id → Bool
 named gone id = same id gone
@@ -262,7 +245,7 @@ no_target_of_user id target.System = refl
 
 other_actor : (id : Id) (who : Actor) → not (same_actor who (actor.User id)) ≡ true → is_actor_out (user_gone id) who ≡ false
 unfolding user_gone nowhere
-other_actor id (actor.User other) is = is_out (same other id) is
+other_actor id (actor.User other) is = not-true (same other id) is
 other_actor id (actor.Group other) is = refl
 
 user_spares : (rows : Rows) (id : Id) → Spares rows (user_dropped rows id) (user_gone id)
@@ -281,7 +264,7 @@ user_anchored rows id old =
     anchored_on rows (user_dropped rows id) (user_gone id) (user_spares rows id)
     (λ row among.
     let left = among_filter (λ row. not (is_of_user id row)) rows.members row among in
-    record { stood = old.members row left.0; group = refl; user = is_out (same row.user id) left.1 })
+    record { stood = old.members row left.0; group = refl; user = not-true (same row.user id) left.1 })
     (λ row among. record { stood = old.implications row among; prior = refl; implied = refl })
     (λ row among.
     let left = among_filter (λ row. not (is_of_actor (actor.User id) row)) rows.grants row among in
@@ -291,8 +274,8 @@ user_anchored rows id old =
     let apart = untouched rows.trusts (names_trust (revoke.User id)) trust left.1 in
     record {
       stood = old.trusts trust left.0;
-      trustor = left_out (same trust.trustor id) (same trust.trustee id) apart;
-      trustee = right_out (same trust.trustor id) (same trust.trustee id) apart;
+      trustor = (or_parts (same trust.trustor id) (same trust.trustee id) apart).0;
+      trustee = (or_parts (same trust.trustor id) (same trust.trustee id) apart).1;
       project = refl;
       roles = λ role here. refl;
     })
@@ -311,7 +294,7 @@ no_target_of_group id target.System = refl
 other_group : (id : Id) (who : Actor) → not (same_actor who (actor.Group id)) ≡ true → is_actor_out (group_gone id) who ≡ false
 unfolding group_gone nowhere
 other_group id (actor.User other) is = refl
-other_group id (actor.Group other) is = is_out (same other id) is
+other_group id (actor.Group other) is = not-true (same other id) is
 
 group_spares : (rows : Rows) (id : Id) → Spares rows (group_dropped rows id) (group_gone id)
 unfolding group_gone nowhere group_dropped
@@ -329,7 +312,7 @@ group_anchored rows id old =
     anchored_on rows (group_dropped rows id) (group_gone id) (group_spares rows id)
     (λ row among.
     let left = among_filter (λ row. not (is_of_group id row)) rows.members row among in
-    record { stood = old.members row left.0; group = is_out (same row.group id) left.1; user = refl })
+    record { stood = old.members row left.0; group = not-true (same row.group id) left.1; user = refl })
     (λ row among. record { stood = old.implications row among; prior = refl; implied = refl })
     (λ row among.
     let left = among_filter (λ row. not (is_of_actor (actor.Group id) row)) rows.grants row among in
@@ -343,7 +326,7 @@ project_gone id = record { domains = nowhere; projects = named id; users = nowhe
 
 other_project : (id : Id) (at : Target) → not (same_target at (target.Project id)) ≡ true → is_target_out (project_gone id) at ≡ false
 unfolding project_gone nowhere
-other_project id (target.Project other) is = is_out (same other id) is
+other_project id (target.Project other) is = not-true (same other id) is
 other_project id (target.Domain other) is = refl
 other_project id target.System is = refl
 
@@ -414,15 +397,15 @@ role_anchored rows id old =
     (λ row among. record { stood = old.members row among; group = refl; user = refl })
     (λ row among.
     let left = among_filter (λ row. not (names_role id row)) rows.implications row among in
-    let apart = is_out (names_role id row) left.1 in
+    let apart = not-true (names_role id row) left.1 in
     record {
       stood = old.implications row left.0;
-      prior = left_out (same row.prior id) (same row.implied id) apart;
-      implied = right_out (same row.prior id) (same row.implied id) apart;
+      prior = (or_parts (same row.prior id) (same row.implied id) apart).0;
+      implied = (or_parts (same row.prior id) (same row.implied id) apart).1;
     })
     (λ row among.
     let left = among_filter (λ row. not (is_of_role id row)) rows.grants row among in
-    record { stood = old.grants row left.0; at = no_target_of_role id row.target; who = no_actor_of_role id row.actor; role = is_out (same row.role id) left.1 })
+    record { stood = old.grants row left.0; at = no_target_of_role id row.target; who = no_actor_of_role id row.actor; role = not-true (same row.role id) left.1 })
     (λ trust among.
     let left = among_filter (λ trust. not (goes rows.trusts (has_role id) trust)) rows.trusts trust among in
     record {
@@ -446,19 +429,19 @@ domain_gone rows id = record {
 
 left_target : (rows : Rows) (id : Id) (at : Target) → not (is_target_gone (is_domain_project rows id) id at) ≡ true → is_target_out (domain_gone rows id) at ≡ false
 unfolding domain_gone
-left_target rows id (target.Project other) is = is_out (is_domain_project rows id other) is
-left_target rows id (target.Domain other) is = is_out (same id other) is
+left_target rows id (target.Project other) is = not-true (is_domain_project rows id other) is
+left_target rows id (target.Domain other) is = not-true (same id other) is
 left_target rows id target.System is = refl
 
 left_actor : (rows : Rows) (id : Id) (who : Actor) → not (is_actor_gone (is_domain_user rows id) (is_domain_group rows id) who) ≡ true → is_actor_out (domain_gone rows id) who ≡ false
 unfolding domain_gone
-left_actor rows id (actor.User other) is = is_out (is_domain_user rows id other) is
-left_actor rows id (actor.Group other) is = is_out (is_domain_group rows id other) is
+left_actor rows id (actor.User other) is = not-true (is_domain_user rows id other) is
+left_actor rows id (actor.Group other) is = not-true (is_domain_group rows id other) is
 
 other_domain_stands : (gone id : Id) (domains : List DomainRow) → same gone id ≡ false → IsStanding (domain_of id domains) →
     IsStanding (domain_of id (drop_row id_cmp (λ r. r.id) gone domains))
 other_domain_stands gone id domains out stands =
-    ap is_some (after_drop (λ (r : DomainRow). r.id) gone domains id (λ is. contrary (same gone id) out (is_same gone id is))) ∙ stands
+    ap is_some (after_drop (λ (r : DomainRow). r.id) gone domains id (λ is. both_ways (same gone id) out (is_same gone id is))) ∙ stands
 
 domain_spares : (rows : Rows) (id : Id) → Spares rows (domain_dropped rows id) (domain_gone rows id)
 unfolding domain_gone domain_dropped
@@ -477,7 +460,7 @@ domain_anchored rows id old =
     (λ row among.
     let left = among_filter (is_left (is_domain_user rows id) (is_domain_group rows id)) rows.members row among in
     let parts = and_parts (not (is_domain_user rows id row.user)) (not (is_domain_group rows id row.group)) left.1 in
-    record { stood = old.members row left.0; group = is_out (is_domain_group rows id row.group) parts.1; user = is_out (is_domain_user rows id row.user) parts.0 })
+    record { stood = old.members row left.0; group = not-true (is_domain_group rows id row.group) parts.1; user = not-true (is_domain_user rows id row.user) parts.0 })
     (λ row among. record { stood = old.implications row among; prior = refl; implied = refl })
     (λ row among.
     let left = among_filter (is_grant_left rows id) rows.grants row among in
@@ -487,12 +470,12 @@ domain_anchored rows id old =
     (λ trust among.
     let left = among_filter (λ trust. not (goes rows.trusts (is_of_domain rows id) trust)) rows.trusts trust among in
     let apart = untouched rows.trusts (is_of_domain rows id) trust left.1 in
-    let rest = right_out (is_domain_user rows id trust.trustor) (is_domain_user rows id trust.trustee || is_domain_project rows id trust.project) apart in
+    let rest = (or_parts (is_domain_user rows id trust.trustor) (is_domain_user rows id trust.trustee || is_domain_project rows id trust.project) apart).1 in
     record {
       stood = old.trusts trust left.0;
-      trustor = left_out (is_domain_user rows id trust.trustor) (is_domain_user rows id trust.trustee || is_domain_project rows id trust.project) apart;
-      trustee = left_out (is_domain_user rows id trust.trustee) (is_domain_project rows id trust.project) rest;
-      project = right_out (is_domain_user rows id trust.trustee) (is_domain_project rows id trust.project) rest;
+      trustor = (or_parts (is_domain_user rows id trust.trustor) (is_domain_user rows id trust.trustee || is_domain_project rows id trust.project) apart).0;
+      trustee = (or_parts (is_domain_user rows id trust.trustee) (is_domain_project rows id trust.project) rest).0;
+      project = (or_parts (is_domain_user rows id trust.trustee) (is_domain_project rows id trust.project) rest).1;
       roles = λ role here. refl;
     })
 

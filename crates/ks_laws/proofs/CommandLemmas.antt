@@ -1,8 +1,8 @@
 -- Every command: the change that it makes fits, and what it tells can be told.
-use Rattle.std.proofs.Common.{◌≡◌, ℕ, ◌≤◌, ◌<◌, ◌^◌, Bool, true, false, List, [], ◌∷◌, Option, Some, None, is_some, codes, refl, ap, arith}
+use Rattle.std.proofs.Common.{◌≡◌, ℕ, ◌≤◌, ◌<◌, ◌^◌, Bool, true, false, List, [], ◌∷◌, Option, Some, None, is_some, codes, ap, arith}
 use Rattle.std.specs.Prelude.{not, nat_lt}
 use Rattle.std.specs.List.{AllByRecursion, filter}
-use Rattle.std.proofs.lemmas.Bool.Decides.{nat_tests}
+use Rattle.std.proofs.lemmas.Bool.{not-true, ltb-true}
 use Rattle.ks_base.specs.declared.events.EventRow.{EventRow}
 use Rattle.ks_base.specs.declared.faults.KeysFault.TheVariants as keys
 use Rattle.ks_base.specs.declared.faults.RowFault.TheVariants as row_fault
@@ -317,13 +317,6 @@ good_events S moment old le =
     let past = each_filter (λ (event : EventRow). event.moment ≤ S.high) (is_live S.settings.life moment) S.events old.events event among in
     omega (arith, past, le)))
 
-is_off : (b : Bool) → not b ≡ true → b ≡ false
-is_off true is = cc
-is_off false is = refl
-
-under : (a b : ℕ) → nat_lt a b ≡ true → a < b
-under a b is = grind (arith, nat_tests, is)
-
 takes_keys : (S : State) → IsOrderly S → S.made < 2 ^ 58 → TakesKeys S.ring
 takes_keys S old room = omega (arith, old.ring, room)
 
@@ -333,7 +326,7 @@ good_rotate S moment drawn old =
     gives_bind (λ _. not S.settings.folder ≡ true) (IsGood S moment) (need (not S.settings.folder) cause.KeyMode) _ (gives_need (not S.settings.folder) cause.KeyMode) (λ _ off.
     gives_bind (λ _. nat_lt (highest S.ring.held) 999999999 ≡ true) (IsGood S moment) (need (nat_lt (highest S.ring.held) 999999999) (cause.Keys keys.IndexEnd)) _
     (gives_need (nat_lt (highest S.ring.held) 999999999) (cause.Keys keys.IndexEnd)) (λ _ index.
-    good_changes S moment (change.Rotate (key drawn)) _ (λ room. (is_off S.settings.folder off, under (highest S.ring.held) 999999999 index, takes_keys S old room)) tt))
+    good_changes S moment (change.Rotate (key drawn)) _ (λ room. (not-true S.settings.folder off, ltb-true (highest S.ring.held) 999999999 index, takes_keys S old room)) tt))
 
 gives_keys : (read : FolderRead) → IsFolderFor true read → Gives (λ found. refusal_of found ≡ None) (keys_read read)
 gives_keys (folder.Keys found) is = gives_go Cause (λ found. refusal_of found ≡ None) found is

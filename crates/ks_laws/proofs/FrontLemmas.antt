@@ -1,5 +1,5 @@
 -- The state of a lawful front is orderly, and its walks are the whole climbs.
-use Rattle.std.proofs.Common.{◌≡◌, ℕ, ◌+◌, ◌≤◌, List, [], ◌∷◌, length, refl, arith}
+use Rattle.std.proofs.Common.{ℕ, ◌≤◌, List, [], ◌∷◌, refl, arith}
 use Rattle.std.specs.List.{AllByRecursion}
 use Rattle.ks_base.specs.declared.rows.ProjectRow.{ProjectRow}
 use Rattle.ks_base.specs.declared.trusts.TrustRow.{TrustRow}
@@ -18,6 +18,7 @@ use Rattle.ks_machine.specs.Fronts.{replay, replayed}
 use Rattle.ks_machine.specs.Lawful.{AreLawful, Fits}
 use Rattle.ks_machine.specs.Opened.{opened_state}
 use Rattle.ks_machine.specs.States.{State}
+use Rattle.ks_machine.proofs.FrontLemmas.{made_after}
 
 -- moments
 
@@ -63,11 +64,6 @@ lawful_is_orderly f lawful =
     orderly_after (opened_state f.opening) 0 f.changes f.high lawful.changes
     (orderly_later (opened_state f.opening) f.high (opened_is_orderly f.opening lawful.range lawful.accepted)
     (last_within (opened_state f.opening) 0 f.changes f.high lawful.changes))
-
-made_after : (S : State) (entries : List Entry) → (replayed S entries).made ≡ S.made + length entries
-unfolding replayed apply
-made_after S [] = omega arith
-made_after S (entry ∷ entries) = omega (arith, made_after (apply S entry.moment entry.change) entries)
 
 pub changes_are_counted : CountsChanges
 unfolding replay opened_state

@@ -1,11 +1,11 @@
 -- What holds of all that a check gives where it goes on, and which outcomes of commands are good ones: the change fits, and what is told
 -- can be.
-use Rattle.std.proofs.Common.{◌≡◌, ℕ, ◌<◌, ◌^◌, Bool, true, false, Option, Some, None, Result, Ok, Err, refl, subst}
+use Rattle.std.proofs.Common.{◌≡◌, ℕ, ◌<◌, ◌^◌, Bool, true, false, Option, Some, None, refl, subst}
 use Rattle.ks_laws.specs.Laws.{FitsIf}
 use Rattle.ks_machine.specs.declared.body_out.BodyOut.{BodyOut}
 use Rattle.ks_machine.specs.declared.cause.Cause.{Cause}
 use Rattle.ks_machine.specs.declared.change.Change.{Change}
-use Rattle.ks_machine.specs.Attempts.{Attempt, Go, Stop, Lacks, ◌>>=◌, blame, decided, each, found, need, unless}
+use Rattle.ks_machine.specs.Attempts.{Attempt, Go, Stop, Lacks, ◌>>=◌, blame, each, found, need, unless}
 use Rattle.ks_machine.specs.Lawful.{Fits}
 use Rattle.ks_machine.specs.Outcomes.{Outcome, changes, tells}
 use Rattle.ks_machine.specs.States.{State}
@@ -61,11 +61,6 @@ pub gives_found : {E A : Type 0} (o : Option A) (e : E) → Gives (λ a. o ≡ S
 unfolding Gives
 gives_found (Some a) e = refl
 gives_found None e = tt
-
-pub gives_decided : {E A : Type 0} (r : Result A E) → Gives (λ a. r ≡ Ok a) (decided r)
-unfolding Gives
-gives_decided (Ok a) = refl
-gives_decided (Err e) = tt
 
 pub gives_blame : {E F A : Type 0} (P : A → Type 0) (f : E → F) (a : Attempt E A) → Gives P a → Gives P (blame f a)
 unfolding Gives

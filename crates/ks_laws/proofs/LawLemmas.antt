@@ -28,6 +28,7 @@ use Rattle.ks_machine.specs.Room.{room_for}
 use Rattle.ks_machine.specs.States.{State, raised}
 use Rattle.ks_machine.specs.Steps.{answered, checked, has_drawn, lacking_of, step_at, stepped}
 use Rattle.ks_machine.specs.Told.{IsTellable}
+use Rattle.ks_machine.proofs.FrontLemmas.{not_below}
 
 -- one call
 
@@ -93,7 +94,7 @@ steps_fit known S moment call told change old low le few fit says =
 
 -- one change more
 
-lawful_longer : (S : State) (last : ℕ) (entries : List Entry) (high moment : ℕ) → AreLawful S last entries high → high ≤ moment → AreLawful S last entries moment
+pub lawful_longer : (S : State) (last : ℕ) (entries : List Entry) (high moment : ℕ) → AreLawful S last entries high → high ≤ moment → AreLawful S last entries moment
 unfolding AreLawful
 lawful_longer S last [] high moment lawful le = omega (arith, lawful, le)
 lawful_longer S last (entry ∷ entries) high moment lawful le =
@@ -158,9 +159,6 @@ earlier_is_lawful f g lawful on sound =
     }
 
 -- a call after a lawful front
-
-not_below : (high reading : ℕ) → high ≤ moment_of high reading
-not_below high reading = omega arith
 
 not_behind : (high reading : ℕ) → high ≤ last_moment → moment_of high reading ≤ last_moment
 not_behind high reading le = omega (arith, le)

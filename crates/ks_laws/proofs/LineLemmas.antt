@@ -1,13 +1,14 @@
 -- A token that the first lines of validity let through has a payload in range, and was issued before.
-use Rattle.std.proofs.Common.{◌≡◌, ℕ, ◌+◌, ◌≤◌, Bool, true, false, List, Option, Some, None, Result, Ok, Err, refl, arith}
+use Rattle.std.proofs.Common.{◌≡◌, ℕ, ◌+◌, ◌≤◌, Bool, true, false, List, Option, Some, None, Result, Ok, Err, refl}
 use Rattle.std.specs.Prelude.{nat_le, nat_lt}
-use Rattle.std.proofs.lemmas.Bool.Decides.{nat_tests}
+use Rattle.std.proofs.lemmas.Bool.{leb-true}
+use Rattle.ks_base.specs.Results.{◌>>=◌, found, need}
 use Rattle.ks_fernet.specs.declared.opening.OpenAnswer.{OpenAnswer}
 use Rattle.ks_fernet.specs.declared.opening.OpenAnswer.TheVariants.{NotText, No, Yes}
 use Rattle.ks_machine.specs.declared.lines.ReadToken.{ReadToken}
 use Rattle.ks_machine.specs.declared.why.Why.{Why}
 use Rattle.ks_machine.specs.declared.why.Why.TheVariants as why
-use Rattle.ks_machine.specs.TokenLines.{◌>>=◌, end_of, found, need, payload_lines, token_lines}
+use Rattle.ks_machine.specs.TokenLines.{end_of, payload_lines, token_lines}
 use Rattle.ks_payload.specs.declared.payload.Payload.{Payload}
 use Rattle.ks_payload.specs.Payloads.{IsInRange}
 use Rattle.ks_payload.specs.Readings.{payload_of}
@@ -44,9 +45,6 @@ pub record IsRead (moment : ℕ) (held : ReadToken) : Type 0 where
   pub range : IsInRange held.payload
   pub issued : held.issued ≤ moment
 
-not_ahead : (a b : ℕ) → nat_le a b ≡ true → a ≤ b
-not_ahead a b is = grind (arith, nat_tests, is)
-
 lines_read : (life moment : ℕ) (late : Bool) (issued : ℕ) (plain : List ℕ) → Passes (IsRead moment) (payload_lines life moment late issued plain)
 unfolding payload_lines
 lines_read life moment late issued plain =
@@ -57,7 +55,7 @@ lines_read life moment late issued plain =
     passes_bind (λ _. nat_le payload.expires (issued + life) ≡ true) (IsRead moment) (need (nat_le payload.expires (issued + life)) why.Span) _
     (passes_need (nat_le payload.expires (issued + life)) why.Span) (λ _ short.
     passes_ok (IsRead moment) (record { payload = payload; issued = issued; plain = plain })
-    (record { range = (read_payload payload plain reads).0; issued = not_ahead issued moment past })))))
+    (record { range = (read_payload payload plain reads).0; issued = leb-true issued moment past })))))
 
 pub token_read : (life moment : ℕ) (late : Bool) (answer : OpenAnswer) → Passes (IsRead moment) (token_lines life moment late answer)
 token_read life moment late NotText = passes_fails (IsRead moment) why.Text

@@ -1,9 +1,7 @@
 -- What holds of each row still does where rows are put, dropped or left out; and faults that do not apply.
-use Rattle.std.proofs.Common.{◌≡◌, Bool, true, false, ◌||◌, ◌⊎◌, inl, inr, List, [], ◌∷◌, ◌++◌, cond, map, Option, Some, None, is_some, option_map, refl, sym, ap, subst, ◌∙◌}
+use Rattle.std.proofs.Common.{◌≡◌, Bool, true, false, ◌⊎◌, inl, inr, List, [], ◌∷◌, cond, map, Option, Some, None, is_some, refl, sym, ap, subst, ◌∙◌}
 use Rattle.std.specs.Prelude.{not}
-use Rattle.std.specs.List.{AllByRecursion, filter, find, list_any}
-use Rattle.std.specs.declared.cmp.Ordering.{Ordering}
-use Rattle.std.specs.declared.cmp.Ordering.TheVariants.{Less, Equal, Greater}
+use Rattle.std.specs.List.{AllByRecursion, filter, find}
 use Rattle.std.specs.Ordering.{is_eq}
 use Rattle.std.proofs.lemmas.Cmp.{nat_list_cmp_total}
 use Rattle.std.proofs.lemmas.Slice.Eq.{bytes_eq-Decides}
@@ -11,7 +9,8 @@ use Rattle.ks_base.specs.OrderLaws.{id_exact}
 use Rattle.ks_base.specs.Refusals.{fault_if, first_of}
 use Rattle.ks_base.specs.Rows.{Id, same}
 use Rattle.ks_base.specs.Tables.{Among, drop_row, find_row, id_cmp, put_row}
-use Rattle.ks_base.proofs.RowLemmas.{among_drop, among_filter, among_put, find_drop_other, find_put, find_put_other, found_among}
+use Rattle.ks_base.proofs.RowLemmas.{among_drop, among_filter, among_put, find_drop_other, find_put, find_put_other, found_among, eq_is, id_found}
+use Rattle.ks_base.proofs.AmongLemmas.{all_among, among_all}
 use Rattle.ks_laws.specs.Orderly.{Each}
 use Rattle.ks_machine.specs.Lawful.{IsPut, IsStanding}
 
@@ -31,60 +30,16 @@ pub each_drop : {X : Type 0} (id_of : X → Id) (P : X → Type 0) (id : Id) (ro
 each_drop id_of P id rows each x among = each x (among_drop id_cmp id_of id rows x among).0
 
 pub each_of_all : {X : Type 0} (P : X → Type 0) (rows : List X) → AllByRecursion P rows → Each P rows
-each_of_all P [] all x among = absurd among
-each_of_all P (row ∷ rows) all x (inl is) = subst P is all.0
-each_of_all P (row ∷ rows) all x (inr among) = each_of_all P rows all.1 x among
+each_of_all P rows all x among = all_among P rows x all among
 
 pub all_of_each : {X : Type 0} (P : X → Type 0) (rows : List X) → Each P rows → AllByRecursion P rows
-all_of_each P [] each = tt
-all_of_each P (row ∷ rows) each = (each row (inl refl), all_of_each P rows (λ x among. each x (inr among)))
+all_of_each P rows each = among_all P rows each
 
 pub all_mapped : {X Y : Type 0} (P : Y → Type 0) (f : X → Y) (rows : List X) → Each (λ x. P (f x)) rows → AllByRecursion P (map f rows)
 all_mapped P f [] each = tt
 all_mapped P f (row ∷ rows) each = (each row (inl refl), all_mapped P f rows (λ x among. each x (inr among)))
 
-pub among_mapped : {X Y : Type 0} (f : X → Y) (rows : List X) (y : Y) → Among (map f rows) y → (x : X) × Among rows x × (f x ≡ y)
-among_mapped f [] y among = absurd among
-among_mapped f (row ∷ rows) y (inl is) = (row, inl refl, is)
-among_mapped f (row ∷ rows) y (inr among) = let found = among_mapped f rows y among in (found.0, inr found.1, found.2)
-
-pub among_both : {X : Type 0} (xs ys : List X) (x : X) → Among (xs ++ ys) x → Among xs x ⊎ Among ys x
-among_both [] ys x among = inr among
-among_both (next ∷ xs) ys x (inl is) = inl (inl is)
-among_both {X} (next ∷ xs) ys x (inr among) = by (among_both xs ys x among)
-  where
-    by : Among xs x ⊎ Among ys x → Among (next ∷ xs) x ⊎ Among ys x
-    by (inl first) = inl (inr first)
-    by (inr last) = inr last
-
-pub among_first : {X : Type 0} (xs ys : List X) (x : X) → Among xs x → Among (xs ++ ys) x
-among_first [] ys x among = absurd among
-among_first (next ∷ xs) ys x (inl is) = inl is
-among_first (next ∷ xs) ys x (inr among) = inr (among_first xs ys x among)
-
-pub among_last : {X : Type 0} (xs ys : List X) (x : X) → Among ys x → Among (xs ++ ys) x
-among_last [] ys x among = among
-among_last (next ∷ xs) ys x among = inr (among_last xs ys x among)
-
 -- tests
-
-or_right : (a b : Bool) → b ≡ true → (a || b) ≡ true
-or_right true b is = refl
-or_right false b is = is
-
-pub any_to : {X : Type 0} (test : X → Bool) (xs : List X) (x : X) → Among xs x → test x ≡ true → list_any test xs ≡ true
-any_to test [] x among holds = absurd among
-any_to test (next ∷ xs) x (inl is) holds = let here : test next ≡ true = ap test is ∙ holds in rw here refl
-any_to test (next ∷ xs) x (inr among) holds = or_right (test next) (list_any test xs) (any_to test xs x among holds)
-
-any_from_by : {X : Type 0} (test : X → Bool) (next : X) (xs : List X) (b : Bool) → test next ≡ b → (b || list_any test xs) ≡ true →
-    (list_any test xs ≡ true → (x : X) × Among xs x × (test x ≡ true)) → (x : X) × Among (next ∷ xs) x × (test x ≡ true)
-any_from_by test next xs true is any later = (next, inl refl, is)
-any_from_by test next xs false is any later = let found = later any in (found.0, inr found.1, found.2)
-
-pub any_from : {X : Type 0} (test : X → Bool) (xs : List X) → list_any test xs ≡ true → (x : X) × Among xs x × (test x ≡ true)
-any_from test [] any = cc
-any_from test (next ∷ xs) any = any_from_by test next xs (test next) refl any (any_from test xs)
 
 found_none_by : {X : Type 0} (test : X → Bool) (next x : X) (xs : List X) (b : Bool) → test next ≡ b → cond b (Some next) (find test xs) ≡ None →
     Among (next ∷ xs) x → (find test xs ≡ None → Among xs x → test x ≡ true → ⊥) → test x ≡ true → ⊥
@@ -116,18 +71,6 @@ pub found_passes : {X : Type 0} (test : X → Bool) (xs : List X) (x : X) → fi
 found_passes test [] x found = cc
 found_passes test (next ∷ xs) x found = found_by test next x xs (test next) refl found (found_passes test xs x)
 
-kept_by : {X : Type 0} (p q : X → Bool) (next : X) (xs : List X) (x : X) (b c : Bool) → p next ≡ b → q next ≡ c → q x ≡ true →
-    (find p xs ≡ Some x → find p (filter q xs) ≡ Some x) → cond b (Some next) (find p xs) ≡ Some x → find p (cond c (next ∷ filter q xs) (filter q xs)) ≡ Some x
-kept_by p q next xs x true true is kept passes later here = rw is here
-kept_by p q next xs x true false is kept passes later here = let first : next ≡ x = cc in let passed : q next ≡ true = ap q first ∙ passes in cc
-kept_by p q next xs x false true is kept passes later here = rw is (later here)
-kept_by p q next xs x false false is kept passes later here = later here
-
--- what is found and passes is found among those that pass
-pub found_kept : {X : Type 0} (p q : X → Bool) (xs : List X) (x : X) → find p xs ≡ Some x → q x ≡ true → find p (filter q xs) ≡ Some x
-found_kept p q [] x found passes = cc
-found_kept p q (next ∷ xs) x found passes = kept_by p q next xs x (p next) (q next) refl refl passes (λ later. found_kept p q xs x later passes) found
-
 -- ids
 
 pub same_is : (a b : Id) → same a b ≡ true → a ≡ b
@@ -135,14 +78,6 @@ same_is a b is = (bytes_eq-Decides a b).0 is
 
 pub is_same : (a b : Id) → a ≡ b → same a b ≡ true
 is_same a b is = (bytes_eq-Decides a b).1 is
-
-equal : (o : Ordering) → is_eq o ≡ true → o ≡ Equal
-equal Less is = cc
-equal Equal is = refl
-equal Greater is = cc
-
-pub id_found : {R : Type 0} (id_of : R → Id) (id : Id) (rows : List R) (row : R) → find_row id_cmp id_of id rows ≡ Some row → id_of row ≡ id
-id_found id_of id rows row found = id_exact (id_of row) id (found_among id_cmp id_of id rows row found).1
 
 pub found_is_among : {R : Type 0} (id_of : R → Id) (id : Id) (rows : List R) (row : R) → find_row id_cmp id_of id rows ≡ Some row → Among rows row
 found_is_among id_of id rows row found = (found_among id_cmp id_of id rows row found).0
@@ -161,7 +96,7 @@ AfterPut id_of row rows id =
 after_put_by : {R : Type 0} (id_of : R → Id) (row : R) (rows : List R) (id : Id) (b : Bool) → is_eq (id_cmp (id_of row) id) ≡ b → AfterPut id_of row rows id
 unfolding AfterPut
 after_put_by {R} id_of row rows id true is =
-    let alike : id_of row ≡ id = id_exact (id_of row) id (equal (id_cmp (id_of row) id) is) in
+    let alike : id_of row ≡ id = id_exact (id_of row) id (eq_is (id_cmp (id_of row) id) is) in
     inl (alike, subst (λ (k : Id). find_row id_cmp id_of k (put_row id_cmp id_of row rows) ≡ Some row) alike (find_put id_cmp id_of nat_list_cmp_total row rows))
 after_put_by id_of row rows id false is = inr (find_put_other id_cmp id_of nat_list_cmp_total id row rows is)
 
@@ -173,7 +108,7 @@ after_put id_of row rows id = after_put_by id_of row rows id (is_eq (id_cmp (id_
 
 after_drop_by : {R : Type 0} (id_of : R → Id) (gone : Id) (rows : List R) (id : Id) (b : Bool) → is_eq (id_cmp gone id) ≡ b → (gone ≡ id → ⊥) →
     find_row id_cmp id_of id (drop_row id_cmp id_of gone rows) ≡ find_row id_cmp id_of id rows
-after_drop_by id_of gone rows id true is other = absurd (other (id_exact gone id (equal (id_cmp gone id) is)))
+after_drop_by id_of gone rows id true is other = absurd (other (id_exact gone id (eq_is (id_cmp gone id) is)))
 after_drop_by id_of gone rows id false is other = find_drop_other id_cmp id_of nat_list_cmp_total gone id rows is
 
 pub after_drop : {R : Type 0} (id_of : R → Id) (gone : Id) (rows : List R) (id : Id) → (gone ≡ id → ⊥) →
@@ -212,21 +147,9 @@ pub unless_fault : {F : Type 0} (applies : Bool) (fault : F) → fault_if applie
 unless_fault true fault none = cc
 unless_fault false fault none = refl
 
-pub is_free : {R : Type 0} (row : Option R) → is_some row ≡ false → row ≡ None
-is_free None none = refl
-is_free (Some row) none = cc
-
-pub none_mapped : {X Y : Type 0} (f : X → Y) (o : Option X) → option_map f o ≡ None → o ≡ None
-none_mapped f None none = refl
-none_mapped f (Some x) none = cc
-
 pub is_there : {R : Type 0} (row : Option R) → not (is_some row) ≡ false → is_some row ≡ true
 is_there None none = cc
 is_there (Some row) none = refl
-
-pub some_there : {R : Type 0} (row : Option R) → is_some row ≡ true → (found : R) × (row ≡ Some found)
-some_there None some = cc
-some_there (Some row) some = (row, refl)
 
 -- a put of a new row, and of one that stands
 

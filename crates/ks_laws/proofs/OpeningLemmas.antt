@@ -7,7 +7,7 @@ use Rattle.std.specs.declared.cmp.Ordering.{Ordering}
 use Rattle.std.specs.Cmp.{IsTotalOrder}
 use Rattle.std.proofs.lemmas.Bool.Decides.{nat_tests}
 use Rattle.std.proofs.lemmas.Cmp.{nat_list_cmp_total}
-use Rattle.std.proofs.lemmas.Bool.{and_parts}
+use Rattle.std.proofs.lemmas.Bool.{and_parts, and_from, not-false}
 use Rattle.ks_base.specs.declared.faults.LoadFault.{LoadFault}
 use Rattle.ks_base.specs.declared.faults.LoadFault.TheVariants.{Empty, TooMany}
 use Rattle.ks_base.specs.declared.grants.Actor.{Actor}
@@ -36,10 +36,12 @@ use Rattle.ks_base.specs.Tree.{is_top}
 use Rattle.ks_base.specs.Trees.{is_domain_named, is_project_named}
 use Rattle.ks_base.proofs.RowLemmas.{among_put, find_put}
 use Rattle.ks_base.proofs.TableLemmas.{ascending_put}
+use Rattle.ks_base.proofs.OptionLemmas.{none_mapped}
+use Rattle.ks_base.proofs.AmongLemmas.{among_parts, among_left, among_right, any_to, any_from, among_next}
 use Rattle.ks_laws.specs.Ancestries.{HasAncestry}
 use Rattle.ks_laws.specs.Laws.{OpenedIsOrderly}
 use Rattle.ks_laws.specs.Orderly.{AreAnchored, AreInOrder, AreNamesUnique, ArePeopleOrderly, AreTreesOrderly, AreTrustsOrderly, DomainStands, Each, IsGrantAnchored, IsImplicationAnchored, IsMemberAnchored}
-use Rattle.ks_laws.proofs.ListLemmas.{after_put, among_both, among_first, among_last, any_from, any_to, each_of_all, found_none, is_same, is_there, none_apply, none_mapped, same_is, unless_fault}
+use Rattle.ks_laws.proofs.ListLemmas.{after_put, each_of_all, found_none, is_same, is_there, none_apply, same_is, unless_fault}
 use Rattle.ks_machine.specs.declared.settings.OpenFault.{OpenFault}
 use Rattle.ks_machine.specs.declared.settings.OpenFault.TheVariants as fault
 use Rattle.ks_machine.specs.Lawful.{ActorStands, IsOpeningInRange, IsStanding, TargetStands}
@@ -51,14 +53,10 @@ use Rattle.ks_ring.proofs.LawLemmas.{loading_adds_few}
 
 -- rows that are put one after the other
 
-among_all_by : {X : Type 0} (row x : X) (rows placed : List X) → (row ≡ x) ⊎ Among placed x → (Among placed x → Among rows x) → Among (row ∷ rows) x
-among_all_by row x rows placed (inl is) later = inl is
-among_all_by row x rows placed (inr among) later = inr (later among)
-
 among_all : {K X : Type 0} (cmp : K → K → Ordering) (key : X → K) (rows : List X) (x : X) → Among (put_all (put_row cmp key) rows) x → Among rows x
 among_all cmp key [] x among = among
 among_all cmp key (row ∷ rows) x among =
-    among_all_by row x rows (put_all (put_row cmp key) rows) (among_put cmp key row (put_all (put_row cmp key) rows) x among) (among_all cmp key rows x)
+    among_next row x rows (put_all (put_row cmp key) rows) (among_put cmp key row (put_all (put_row cmp key) rows) x among) (among_all cmp key rows x)
 
 each_opened : {K X : Type 0} (cmp : K → K → Ordering) (key : X → K) (P : X → Type 0) (rows : List X) → Each P rows → Each P (put_all (put_row cmp key) rows)
 each_opened cmp key P rows each x among = each x (among_all cmp key rows x among)
@@ -117,15 +115,15 @@ module _ {R : Type 0} (fault_of : List R → R → Option OpenFault) (Alike : R 
   apart_from before [] a b pass first among alike = among
   apart_from before (row ∷ rows) a b pass first (inl is) alike = apart before row a pass.0 first (subst (Alike a) (sym is) alike)
   apart_from before (row ∷ rows) a b pass first (inr among) alike =
-      apart_from (before ++ row ∷ []) rows a b pass.1 (among_first before (row ∷ []) a first) among alike
+      apart_from (before ++ row ∷ []) rows a b pass.1 (among_left before (row ∷ []) a first) among alike
 
   each_apart : (before rows : List R) (a b : R) → AllPass fault_of before rows → Among rows a → Among rows b → Alike a b → a ≡ b
   each_apart before [] a b pass first second alike = absurd first
   each_apart before (row ∷ rows) a b pass (inl one) (inl other) alike = sym one ∙ other
   each_apart before (row ∷ rows) a b pass (inl one) (inr later) alike =
-      absurd (apart_from (before ++ row ∷ []) rows a b pass.1 (subst (Among (before ++ row ∷ [])) one (among_last before (row ∷ []) row (inl refl))) later alike)
+      absurd (apart_from (before ++ row ∷ []) rows a b pass.1 (subst (Among (before ++ row ∷ [])) one (among_right before (row ∷ []) row (inl refl))) later alike)
   each_apart before (row ∷ rows) a b pass (inr later) (inl other) alike =
-      absurd (apart_from (before ++ row ∷ []) rows b a pass.1 (subst (Among (before ++ row ∷ [])) other (among_last before (row ∷ []) row (inl refl))) later (turn a b alike))
+      absurd (apart_from (before ++ row ∷ []) rows b a pass.1 (subst (Among (before ++ row ∷ [])) other (among_right before (row ∷ []) row (inl refl))) later (turn a b alike))
   each_apart before (row ∷ rows) a b pass (inr first) (inr second) alike = each_apart (before ++ row ∷ []) rows a b pass.1 first second alike
 
 unique_ids : {R : Type 0} (of : Kind) (id_of : R → Id) (rows : List R) → first_in (id_repeated of id_of) [] rows ≡ None → IsUnique id_of rows
@@ -141,9 +139,6 @@ unique_ids {R} of id_of rows none a b first second alike =
 abbrev alike_user : UserRow → UserRow → Bool
 alike_user row = is_user_named row.domain row.name
 
-both_true : (a b : Bool) → a ≡ true → b ≡ true → (a && b) ≡ true
-both_true a b first second = rw (first, second) refl
-
 unique_names : (rows : List UserRow) → first_in (name_taken kind.User (λ row. row.id) alike_user) [] rows ≡ None → AreNamesUnique rows
 unique_names rows none a b first second home name = ap (λ (r : UserRow). r.id)
     (each_apart (name_taken kind.User (λ row. row.id) alike_user) (λ (a b : UserRow). (a.domain ≡ b.domain) × (a.name ≡ b.name)) (λ a b is. (sym is.0, sym is.1)) apart
@@ -153,7 +148,7 @@ unique_names rows none a b first second home name = ap (λ (r : UserRow). r.id)
         (other.domain ≡ row.domain) × (other.name ≡ row.name) → ⊥
     apart before row other free among is =
         found_none (alike_user row) before other (none_mapped (λ (other : UserRow). fault.Name kind.User other.id) (find (alike_user row) before) free) among
-        (both_true (same other.domain row.domain) (same other.name row.name) (is_same other.domain row.domain is.0) (is_same other.name row.name is.1))
+        (and_from (same other.domain row.domain) (same other.name row.name) (is_same other.domain row.domain is.0) (is_same other.name row.name is.1))
 
 -- what rows name stands
 
@@ -178,17 +173,13 @@ and_none : (a b : Bool) → (a && b) ≡ false → a ≡ true → b ≡ false
 and_none true b none is = none
 and_none false b none is = cc
 
-turned : (b : Bool) → not b ≡ false → b ≡ true
-turned true none = refl
-turned false none = cc
-
 under_parent : (projects before : List ProjectRow) (row : ProjectRow) (top : Bool) → is_top row ≡ top → parent_absent before row ≡ None →
     ((other : ProjectRow) → Among before other → project_of other.id projects ≡ Some other) → Each (HasAncestry projects) before → HasAncestry projects row
 under_parent projects before row true top none found each = ([], top)
 under_parent projects before row false top none found each = by (any_from (is_parent row) before parent)
   where
     parent : list_any (is_parent row) before ≡ true
-    parent = turned (list_any (is_parent row) before) (and_none (not (is_top row)) (not (list_any (is_parent row) before))
+    parent = not-false (list_any (is_parent row) before) (and_none (not (is_top row)) (not (list_any (is_parent row) before))
         (unless_fault (not (is_top row) && not (list_any (is_parent row) before)) (fault.Absent kind.Project row.parent) none) (ap not top))
 
     by : (other : ProjectRow) × Among before other × (is_parent row other ≡ true) → HasAncestry projects row
@@ -214,11 +205,11 @@ ancestries_of : (rows : Rows) (projects before more : List ProjectRow) → AllPa
 ancestries_of rows projects before [] pass found each x among = absurd among
 ancestries_of rows projects before (row ∷ more) pass found each x among =
     let here = under_parent projects before row (is_top row) refl (or_none (no_domain rows row.domain) (parent_absent before row) pass.0).1
-    (λ other among. found other (among_first before (row ∷ more) other among)) each in
+    (λ other among. found other (among_left before (row ∷ more) other among)) each in
     below_by projects before row x more here among
     (ancestries_of rows projects (before ++ row ∷ []) more pass.1
     (λ other among. found other (subst (λ (l : List ProjectRow). Among l other) (append_assoc before (row ∷ []) more) among))
-    (λ y among. parts_have projects before row y here each (among_both before (row ∷ []) y among)) x)
+    (λ y among. parts_have projects before row y here each (among_parts before (row ∷ []) y among)) x)
 
 -- the ring
 

@@ -16,8 +16,8 @@ use Rattle.ks_base.specs.Rows.{Rows}
 use Rattle.ks_base.specs.Tables.{IsAscending, id_cmp}
 use Rattle.ks_base.specs.Trusts.{goes, trusts_left}
 use Rattle.ks_base.proofs.TableLemmas.{ascending_drop, ascending_filter, ascending_put}
+use Rattle.ks_base.proofs.TrustLemmas.{ascending_used}
 use Rattle.ks_laws.specs.Orderly.{AreInOrder}
-use Rattle.ks_laws.proofs.TrustLemmas.{ascending_used}
 use Rattle.ks_machine.specs.declared.change.Change.{Change}
 use Rattle.ks_machine.specs.declared.change.Change.TheVariants as change
 use Rattle.ks_machine.specs.Changes.{domain_dropped, group_dropped, project_dropped, role_dropped, rows_after, touches, user_dropped}

@@ -1,5 +1,6 @@
 -- Each change of domains, users and groups keeps them orderly.
-use Rattle.std.proofs.Common.{◌≡◌, Bool, true, false, ◌&&◌, ◌⊎◌, inl, inr, List, [], ◌∷◌, Option, Some, None, refl, sym, ap, subst, ◌∙◌}
+use Rattle.std.proofs.Common.{◌≡◌, Bool, true, false, ◌⊎◌, inl, inr, List, [], ◌∷◌, Option, Some, None, refl, sym, ap, subst, ◌∙◌}
+use Rattle.std.proofs.lemmas.Bool.{and_from}
 use Rattle.std.specs.Prelude.{not}
 use Rattle.std.specs.List.{filter, find}
 use Rattle.ks_base.specs.declared.faults.RowFault.TheVariants as fault
@@ -11,8 +12,9 @@ use Rattle.ks_base.specs.PeopleFaults.{add_user_fault, is_other_user_named, othe
 use Rattle.ks_base.specs.Rows.{Id, same, user_of}
 use Rattle.ks_base.specs.Tables.{Among, drop_row, id_cmp, put_row}
 use Rattle.ks_base.proofs.RowLemmas.{among_drop, among_filter, among_put}
+use Rattle.ks_base.proofs.OptionLemmas.{none_mapped}
 use Rattle.ks_laws.specs.Orderly.{AreNamesUnique, ArePeopleOrderly, DomainStands}
-use Rattle.ks_laws.proofs.ListLemmas.{each_drop, each_filter, each_put, found_none, is_same, none_apply, none_mapped, same_is}
+use Rattle.ks_laws.proofs.ListLemmas.{each_drop, each_filter, each_put, found_none, is_same, none_apply, same_is}
 use Rattle.ks_laws.proofs.TreeLemmas.{homes_left, homes_put}
 use Rattle.ks_machine.specs.Lawful.{IsPut}
 use Rattle.ks_machine.specs.Ranges.{IsGroupInRange, IsUserInRange}
@@ -100,16 +102,13 @@ people_group_dropped gone domains users groups old = record {
 
 -- names
 
-both_true : (a b : Bool) → a ≡ true → b ≡ true → (a && b) ≡ true
-both_true a b first second = rw (first, second) refl
-
 alone_by : (row other : UserRow) (users : List UserRow) (b : Bool) → same other.id row.id ≡ b → find (is_other_user_named row) users ≡ None → Among users other →
     other.domain ≡ row.domain → other.name ≡ row.name → other.id ≡ row.id
 alone_by row other users true is none among home name = same_is other.id row.id is
 alone_by row other users false is none among home name =
     absurd (found_none (is_other_user_named row) users other none among
-    (both_true (not (same other.id row.id)) (is_user_named row.domain row.name other) (ap not is)
-    (both_true (same other.domain row.domain) (same other.name row.name) (is_same other.domain row.domain home) (is_same other.name row.name name))))
+    (and_from (not (same other.id row.id)) (is_user_named row.domain row.name other) (ap not is)
+    (and_from (same other.domain row.domain) (same other.name row.name) (is_same other.domain row.domain home) (is_same other.name row.name name))))
 
 put_alone : (state : PeopleState) (row : UserRow) (found : Option UserRow) →
     IsPut found (add_user_fault state row) (λ standing. row.domain ≡ standing.domain) (set_user_fault state row) →
@@ -119,7 +118,7 @@ put_alone state row None put other among home name =
     absurd (found_none (is_user_named row.domain row.name) state.users other
     (none_mapped (λ holder. fault.NameTaken holder.id) (find (is_user_named row.domain row.name) state.users)
     (none_apply (user_name_taken state row ∷ users_full state ∷ user_id_taken state row.id ∷ []) put).0) among
-    (both_true (same other.domain row.domain) (same other.name row.name) (is_same other.domain row.domain home) (is_same other.name row.name name)))
+    (and_from (same other.domain row.domain) (same other.name row.name) (is_same other.domain row.domain home) (is_same other.name row.name name)))
 put_alone state row (Some standing) put other among home name =
     alone_by row other state.users (same other.id row.id) refl
     (none_mapped (λ holder. fault.NameTaken holder.id) (find (is_other_user_named row) state.users) (none_apply (user_absent state row.id ∷ other_user_named state row ∷ []) put.1).1.0) among home name

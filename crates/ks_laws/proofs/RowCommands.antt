@@ -20,9 +20,11 @@ use Rattle.ks_base.specs.RoleFaults.{add_fault, name_taken, role_id_taken, roles
 use Rattle.ks_base.specs.Rows.{Id, Text, Rows, same, domain_of, group_of, project_of, role_of, user_of}
 use Rattle.ks_base.specs.Tables.{Among}
 use Rattle.ks_base.specs.TreeFaults.{add_domain_fault, add_project_fault, disabled_above, domain_absent, domain_id_taken, domain_name_taken, domains_full, no_parent, project_id_taken, project_name_taken, projects_full, set_domain_fault, set_project_fault, too_deep}
+use Rattle.ks_base.proofs.TruthLemmas.{not_both}
+use Rattle.ks_base.proofs.OptionLemmas.{none_is}
 use Rattle.ks_laws.specs.Orderly.{AreNamesUnique, IsOrderly}
 use Rattle.ks_laws.proofs.GivesLemmas.{Gives, IsGood, gives_bind, gives_fault, gives_found, gives_go, gives_past, good_changes}
-use Rattle.ks_laws.proofs.ListLemmas.{found_by_own, found_is_among, is_free, is_same, none_apply, none_found, put_new, put_standing, same_is, two_none, unless_fault}
+use Rattle.ks_laws.proofs.ListLemmas.{found_by_own, found_is_among, is_same, none_apply, none_found, put_new, put_standing, same_is, two_none, unless_fault}
 use Rattle.ks_machine.specs.declared.bodies.Made.{Made}
 use Rattle.ks_machine.specs.declared.bodies.Made.TheVariants as made
 use Rattle.ks_machine.specs.declared.body_out.BodyOut.TheVariants as body
@@ -96,7 +98,7 @@ good_create_domain S moment id given name description enabled is =
 
     taken : add_domain_fault (trees S.rows) new ≡ None → domain_of id S.rows.domains ≡ None
     taken free =
-        is_free (domain_of id S.rows.domains) (unless_fault (is_some (domain_of id S.rows.domains)) (tree_fault.IdTaken id)
+        none_is (domain_of id S.rows.domains) (unless_fault (is_some (domain_of id S.rows.domains)) (tree_fault.IdTaken id)
         (none_apply (domain_name_taken (trees S.rows) new ∷ domains_full (trees S.rows) ∷ domain_id_taken (trees S.rows) id ∷ []) free).1.1.0)
 
 abbrev project_faults : Rows → ProjectRow → List (Option TreeFault)
@@ -113,7 +115,7 @@ good_create_project S moment new range =
   where
     taken : add_project_fault (trees S.rows) new ≡ None → project_of new.id S.rows.projects ≡ None
     taken free =
-        is_free (project_of new.id S.rows.projects) (unless_fault (is_some (project_of new.id S.rows.projects)) (tree_fault.IdTaken new.id)
+        none_is (project_of new.id S.rows.projects) (unless_fault (is_some (project_of new.id S.rows.projects)) (tree_fault.IdTaken new.id)
         (none_apply (project_faults S.rows new) free).1.1.1.1.1.1.0)
 
 good_create_user : (known : Known) (S : State) (moment : ℕ) (drawn : Drawn) (new : UserRow) (password : Option Text) → IsOrderly S → IsName new.name →
@@ -131,7 +133,7 @@ good_create_user known S moment drawn new password old named =
   where
     taken : add_user_fault (people S.rows) new ≡ None → user_of new.id S.rows.users ≡ None
     taken free =
-        is_free (user_of new.id S.rows.users) (unless_fault (is_some (user_of new.id S.rows.users)) (row_fault.IdTaken new.id)
+        none_is (user_of new.id S.rows.users) (unless_fault (is_some (user_of new.id S.rows.users)) (row_fault.IdTaken new.id)
         (none_apply (user_name_taken (people S.rows) new ∷ users_full (people S.rows) ∷ user_id_taken (people S.rows) new.id ∷ []) free).1.1.0)
 
 good_create_group : (S : State) (moment : ℕ) (new : GroupRow) → IsGroupInRange new → Gives (IsGood S moment) (create_group S.rows new)
@@ -145,7 +147,7 @@ good_create_group S moment new range =
   where
     taken : add_group_fault (people S.rows) new ≡ None → group_of new.id S.rows.groups ≡ None
     taken free =
-        is_free (group_of new.id S.rows.groups) (unless_fault (is_some (group_of new.id S.rows.groups)) (row_fault.IdTaken new.id)
+        none_is (group_of new.id S.rows.groups) (unless_fault (is_some (group_of new.id S.rows.groups)) (row_fault.IdTaken new.id)
         (none_apply (group_name_taken (people S.rows) new ∷ groups_full (people S.rows) ∷ group_id_taken (people S.rows) new.id ∷ []) free).1.1.0)
 
 good_create_role : (S : State) (moment : ℕ) (id : Id) (given : Option Id) (name description : Option Text) → IsMade true (made.Role given name description) →
@@ -162,7 +164,7 @@ good_create_role S moment id given name description is =
 
     taken : add_fault (roles S.rows) new ≡ None → role_of id S.rows.roles ≡ None
     taken free =
-        is_free (role_of id S.rows.roles) (unless_fault (is_some (role_of id S.rows.roles)) (row_fault.IdTaken id)
+        none_is (role_of id S.rows.roles) (unless_fault (is_some (role_of id S.rows.roles)) (row_fault.IdTaken id)
         (none_apply (name_taken (roles S.rows) new ∷ roles_full (roles S.rows) ∷ role_id_taken (roles S.rows) id ∷ []) free).1.1.0)
 
 pub good_create : (known : Known) (S : State) (moment : ℕ) (drawn : Drawn) (caller : Valid) (asked : Made) → IsOrderly S → IsMade true asked →
@@ -300,16 +302,12 @@ gives_by_password known rows named password =
     gives_past (λ user. named ≡ Some user) (need (is_user_on rows user.id) cause.Credentials) _ (λ _.
     gives_go Cause (λ user. named ≡ Some user) user is)))))
 
-contrary : (b : Bool) → not b ≡ true → b ≡ true → ⊥
-contrary true isnt is = cc
-contrary false isnt is = cc
-
 -- where names are unique, a row that stands may stand again
 none_named : (users : List UserRow) (user : UserRow) → AreNamesUnique users → Among users user → find (is_other_user_named user) users ≡ None
 none_named users user unique among = none_found (is_other_user_named user) users (λ other there is.
     let both = and_parts (not (same other.id user.id)) (same other.domain user.domain && same other.name user.name) is in
     let alike = and_parts (same other.domain user.domain) (same other.name user.name) both.1 in
-    contrary (same other.id user.id) both.0
+    not_both (same other.id user.id) both.0
     (is_same other.id user.id (unique other user there among (same_is other.domain user.domain alike.0) (same_is other.name user.name alike.1))))
 
 put_again : (users : List UserRow) (user : UserRow) (found_row : Option UserRow) → found_row ≡ Some user → find (is_other_user_named user) users ≡ None →

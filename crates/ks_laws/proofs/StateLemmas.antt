@@ -4,10 +4,11 @@ use Rattle.ks_base.specs.declared.events.EventRow.{EventRow}
 use Rattle.ks_base.specs.declared.events.Revoke.{Revoke}
 use Rattle.ks_base.specs.declared.rows.RoleRow.{RoleRow}
 use Rattle.ks_base.specs.Tables.{Among}
+use Rattle.ks_base.proofs.AmongLemmas.{among_parts, among_mapped}
 use Rattle.ks_laws.specs.Laws.{ChangesKeepOrderly, TimeKeepsOrderly}
 use Rattle.ks_laws.specs.Orderly.{AreRowsOrderly, Each}
 use Rattle.ks_laws.proofs.AnchorLemmas.{anchored_kept}
-use Rattle.ks_laws.proofs.ListLemmas.{among_both, among_mapped, each_drop, each_put}
+use Rattle.ks_laws.proofs.ListLemmas.{each_drop, each_put}
 use Rattle.ks_laws.proofs.OpeningLemmas.{few_keys}
 use Rattle.ks_laws.proofs.OrderLemmas.{order_kept}
 use Rattle.ks_laws.proofs.PeopleLemmas.{is_alone, people_domain_dropped, people_domain_put, people_group_dropped, people_group_put, people_user_dropped, people_user_put}
@@ -149,7 +150,7 @@ at_moment moment high things le event among = by (among_mapped (λ (thing : Revo
 
 events_kept : (moment high : ℕ) (events : List EventRow) (things : List Revoke) → moment ≤ high → Each (λ (event : EventRow). event.moment ≤ high) events →
     Each (λ (event : EventRow). event.moment ≤ high) (events ++ events_at moment things)
-events_kept moment high events things le old event among = by (among_both events (events_at moment things) event among)
+events_kept moment high events things le old event among = by (among_parts events (events_at moment things) event among)
   where
     by : Among events event ⊎ Among (events_at moment things) event → event.moment ≤ high
     by (inl first) = old event first

@@ -1,8 +1,9 @@
 -- Each change of domains and projects keeps them orderly, and what is computed as the projects above one is its whole climb.
-use Rattle.std.proofs.Common.{◌≡◌, ℕ, zero, suc, ◌<◌, ◌≤◌, Bool, true, false, ◌⊎◌, inl, inr, List, [], ◌∷◌, length, cond, nat_lt, Option, Some, None, is_some, refl, sym, ap, subst, ◌∙◌, arith}
+use Rattle.std.proofs.Common.{◌≡◌, ℕ, zero, suc, ◌<◌, ◌≤◌, Bool, true, false, ◌⊎◌, inl, inr, List, [], ◌∷◌, length, nat_lt, Option, Some, None, is_some, refl, sym, ap, subst, ◌∙◌, arith}
 use Rattle.std.specs.Prelude.{not}
 use Rattle.std.specs.List.{filter, find}
 use Rattle.std.proofs.lemmas.Bool.Decides.{nat_tests}
+use Rattle.std.proofs.lemmas.Bool.{lt-ltb, le-ltb}
 use Rattle.ks_base.specs.declared.faults.TreeFault.{TreeFault}
 use Rattle.ks_base.specs.declared.faults.TreeFault.TheVariants as fault
 use Rattle.ks_base.specs.declared.kinds.Kind.TheVariants as kind
@@ -14,9 +15,12 @@ use Rattle.ks_base.specs.Tree.{above, above_within, is_child_of, is_top}
 use Rattle.ks_base.specs.TreeFaults.{add_project_fault, disabled_above, domain_absent, drop_project_fault, has_children, no_parent, parent_wrong, project_absent, project_id_taken, project_name_taken, projects_full, too_deep}
 use Rattle.ks_base.specs.Trees.{TreeState, lies_in}
 use Rattle.ks_base.proofs.RowLemmas.{among_drop, among_filter, among_put}
+use Rattle.ks_base.proofs.TruthLemmas.{not_both}
+use Rattle.ks_base.proofs.OptionLemmas.{none_mapped}
+use Rattle.ks_base.proofs.ListLemmas.{find_kept, length_filter, no_more_by, fewer_here, fewer_behind}
 use Rattle.ks_laws.specs.Ancestries.{HasAncestry, IsAncestry}
 use Rattle.ks_laws.specs.Orderly.{AreTreesOrderly, DomainStands, Each}
-use Rattle.ks_laws.proofs.ListLemmas.{after_drop, after_put, each_drop, each_filter, each_put, found_is_among, found_kept, found_none, is_same, is_there, none_apply, none_mapped, same_is, stands_put, unless_fault}
+use Rattle.ks_laws.proofs.ListLemmas.{after_drop, after_put, each_drop, each_filter, each_put, found_is_among, found_none, is_same, is_there, none_apply, same_is, stands_put, unless_fault}
 use Rattle.ks_machine.specs.Lawful.{IsPut}
 use Rattle.ks_machine.specs.Ranges.{IsDomainInRange, IsProjectInRange}
 
@@ -27,15 +31,11 @@ pub homes_put : {X : Type 0} (home : X → Id) (row : DomainRow) (domains : List
 homes_put home row domains rows each x among = stands_put (λ (r : DomainRow). r.id) row domains (home x) (each x among)
 
 -- what is left where a domain goes with its rows
-left_false : (b : Bool) → not b ≡ true → b ≡ true → ⊥
-left_false true left is = cc
-left_false false left is = cc
-
 pub homes_left : {X : Type 0} (home : X → Id) (gone : Id) (domains : List DomainRow) (rows : List X) → Each (λ x. DomainStands domains (home x)) rows →
     Each (λ x. DomainStands (drop_row id_cmp (λ r. r.id) gone domains) (home x)) (filter (λ x. not (same (home x) gone)) rows)
 homes_left home gone domains rows each x among =
     let both = among_filter (λ x. not (same (home x) gone)) rows x among in
-    let other : gone ≡ home x → ⊥ = λ is. left_false (same (home x) gone) both.1 (is_same (home x) gone (sym is)) in
+    let other : gone ≡ home x → ⊥ = λ is. not_both (same (home x) gone) both.1 (is_same (home x) gone (sym is)) in
     ap is_some (after_drop (λ (r : DomainRow). r.id) gone domains (home x) other) ∙ each x both.0
 
 -- climbs
@@ -93,7 +93,7 @@ climb_left gone projects [] x left climb = climb
 climb_left gone projects (next ∷ steps) x left climb =
     let still : not (lies_in gone next) ≡ true = ap (λ (d : Id). not (same d gone)) climb.2 ∙ left in (
       climb.0,
-      found_kept (has_key id_cmp (λ (r : ProjectRow). r.id) x.parent) (λ row. not (lies_in gone row)) projects next climb.1 still,
+      find_kept (has_key id_cmp (λ (r : ProjectRow). r.id) x.parent) (λ row. not (lies_in gone row)) projects next climb.1 still,
       climb.2,
       climb_left gone projects steps next still climb.3,
     )
@@ -237,40 +237,17 @@ exact (suc n) projects (next ∷ steps) x climb le = rw (climb.0, climb.1) (ap (
 lower : ℕ → ℕ → List ProjectRow → List ProjectRow → ℕ
 lower n most projects rows = length (filter (λ row. nat_lt (length (above_within n projects row)) most) rows)
 
-no_fewer_by : (a b : Bool) (x : ProjectRow) (xs ys : List ProjectRow) → (a ≡ true → b ≡ true) → length xs ≤ length ys → length (cond a (x ∷ xs) xs) ≤ length (cond b (x ∷ ys) ys)
-no_fewer_by true true x xs ys more le = omega (arith, le)
-no_fewer_by true false x xs ys more le = let both = more refl in cc
-no_fewer_by false true x xs ys more le = omega (arith, le)
-no_fewer_by false false x xs ys more le = le
-
 no_fewer : (p q : ProjectRow → Bool) → ((x : ProjectRow) → p x ≡ true → q x ≡ true) → (rows : List ProjectRow) → length (filter p rows) ≤ length (filter q rows)
 no_fewer p q more [] = omega arith
-no_fewer p q more (x ∷ rows) = no_fewer_by (p x) (q x) x (filter p rows) (filter q rows) (more x) (no_fewer p q more rows)
-
-more_by : (a b : Bool) (x : ProjectRow) (xs ys : List ProjectRow) → a ≡ false → b ≡ true → length xs ≤ length ys → length (cond a (x ∷ xs) xs) < length (cond b (x ∷ ys) ys)
-more_by true b x xs ys none some le = cc
-more_by false true x xs ys none some le = omega (arith, le)
-more_by false false x xs ys none some le = cc
-
-still_more_by : (a b : Bool) (x : ProjectRow) (xs ys : List ProjectRow) → (a ≡ true → b ≡ true) → length xs < length ys → length (cond a (x ∷ xs) xs) < length (cond b (x ∷ ys) ys)
-still_more_by true true x xs ys more lt = omega (arith, lt)
-still_more_by true false x xs ys more lt = let both = more refl in cc
-still_more_by false true x xs ys more lt = omega (arith, lt)
-still_more_by false false x xs ys more lt = lt
+no_fewer p q more (x ∷ rows) = no_more_by (p x) (q x) x (filter p rows) (filter q rows) (more x) (no_fewer p q more rows)
 
 more_pass : (p q : ProjectRow → Bool) → ((x : ProjectRow) → p x ≡ true → q x ≡ true) → (rows : List ProjectRow) (row : ProjectRow) → Among rows row → p row ≡ false → q row ≡ true →
     length (filter p rows) < length (filter q rows)
 more_pass p q more [] row among fails passes = absurd among
 more_pass p q more (x ∷ rows) row (inl is) fails passes =
-    more_by (p x) (q x) x (filter p rows) (filter q rows) (ap p is ∙ fails) (ap q is ∙ passes) (no_fewer p q more rows)
+    fewer_here (p x) (q x) x (filter p rows) (filter q rows) (ap p is ∙ fails) (ap q is ∙ passes) (no_fewer p q more rows)
 more_pass p q more (x ∷ rows) row (inr among) fails passes =
-    still_more_by (p x) (q x) x (filter p rows) (filter q rows) (more x) (more_pass p q more rows row among fails passes)
-
-below : (a b : ℕ) → a < b → nat_lt a b ≡ true
-below a b lt = grind (arith, nat_tests, lt)
-
-not_below : (a b : ℕ) → b ≤ a → nat_lt a b ≡ false
-not_below a b le = grind (arith, nat_tests, le)
+    fewer_behind (p x) (q x) x (filter p rows) (filter q rows) (more x) (more_pass p q more rows row among fails passes)
 
 further : (a b c : ℕ) → b ≤ c → nat_lt a b ≡ true → nat_lt a c ≡ true
 further a b c le is = grind (arith, nat_tests, le, is)
@@ -280,23 +257,15 @@ short_by : (n : ℕ) (projects steps : List ProjectRow) (x : ProjectRow) → IsA
 unfolding lower
 short_by n projects [] x climb le among =
     let depth : length (above_within n projects x) ≡ 0 = ap length (exact n projects [] x climb le) in
-    let more = more_pass (λ row. false) (λ row. nat_lt (length (above_within n projects row)) 1) (λ row is. cc) projects x among refl (below _ 1 (omega (arith, depth))) in
+    let more = more_pass (λ row. false) (λ row. nat_lt (length (above_within n projects row)) 1) (λ row is. cc) projects x among refl (lt-ltb _ 1 (omega (arith, depth))) in
     omega (arith, more)
 short_by n projects (next ∷ steps) x climb le among =
     let fewer = short_by n projects steps next climb.3 (omega (arith, le)) (found_is_among (λ (r : ProjectRow). r.id) x.parent projects next climb.1) in
     let depth : length (above_within n projects x) ≡ suc (length steps) = ap length (exact n projects (next ∷ steps) x climb le) in
     let more = more_pass (λ row. nat_lt (length (above_within n projects row)) (suc (length steps))) (λ row. nat_lt (length (above_within n projects row)) (suc (suc (length steps))))
     (λ row is. further (length (above_within n projects row)) (suc (length steps)) (suc (suc (length steps))) (omega arith) is) projects x among
-    (not_below _ (suc (length steps)) (omega (arith, depth))) (below _ (suc (suc (length steps))) (omega (arith, depth))) in
+    (le-ltb _ (suc (length steps)) (omega (arith, depth))) (lt-ltb _ (suc (suc (length steps))) (omega (arith, depth))) in
     omega (arith, fewer, more)
-
-all_pass : (p : ProjectRow → Bool) (rows : List ProjectRow) → length (filter p rows) ≤ length rows
-all_pass p [] = omega arith
-all_pass p (x ∷ rows) = by (p x) (all_pass p rows)
-  where
-    by : (b : Bool) → length (filter p rows) ≤ length rows → length (cond b (x ∷ filter p rows) (filter p rows)) ≤ suc (length rows)
-    by true le = omega (arith, le)
-    by false le = omega (arith, le)
 
 pub above_is_ancestry : (domains : List DomainRow) (projects : List ProjectRow) (x : ProjectRow) → AreTreesOrderly domains projects → Among projects x →
     IsAncestry projects x (above projects x)
@@ -304,5 +273,5 @@ unfolding lower
 above_is_ancestry domains projects x old among =
     let climb = old.ancestries x among in
     let short = short_by (length climb.0) projects climb.0 x climb.1 (omega arith) among in
-    let most = all_pass (λ row. nat_lt (length (above_within (length climb.0) projects row)) (suc (length climb.0))) projects in
+    let most = length_filter (λ row. nat_lt (length (above_within (length climb.0) projects row)) (suc (length climb.0))) projects in
     subst (IsAncestry projects x) (sym (exact (length projects) projects climb.0 x climb.1 (omega (arith, short, most)))) climb.1

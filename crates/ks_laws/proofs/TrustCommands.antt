@@ -1,11 +1,11 @@
 -- Making trusts, and what is told of them.
 use Rattle.std.proofs.Common.{◌≡◌, ℕ, suc, ◌+◌, ◌-◌, ◌≤◌, ◌<◌, Bool, true, false, ◌⊎◌, inl, inr, List, [], ◌∷◌, length, Option, Some, None, IfSome, IsSomeAnd, is_some, codes, cond, refl, sym, ap, subst, arith}
-use Rattle.std.specs.Prelude.{nat_le, nat_lt, ◌&&◌, if◌then◌else◌}
+use Rattle.std.specs.Prelude.{nat_lt, ◌&&◌, if◌then◌else◌}
 use Rattle.std.specs.List.{filter, find}
 use Rattle.std.specs.Option.{option_and_then, option_map_or, option_or}
 use Rattle.std.specs.declared.cmp.Ordering.{Ordering}
 use Rattle.std.specs.declared.cmp.Ordering.TheVariants.{Less, Equal, Greater}
-use Rattle.std.proofs.lemmas.Bool.{and_parts}
+use Rattle.std.proofs.lemmas.Bool.{and_parts, leb-true}
 use Rattle.std.proofs.lemmas.Cmp.{nat_list_cmp_total, tied_itself}
 use Rattle.std.proofs.lemmas.Bool.Decides.{nat_tests}
 use Rattle.ks_base.specs.declared.faults.TrustFault.TheVariants as fault
@@ -22,6 +22,7 @@ use Rattle.ks_base.specs.Rows.{Id, Rows, same, project_of, role_of, trust_of, us
 use Rattle.ks_base.specs.Tables.{Among, find_row, has_key, id_cmp, put_by, put_row}
 use Rattle.ks_base.specs.Trusts.{Follows, FollowsParent, creation_fault}
 use Rattle.ks_base.proofs.RowLemmas.{among_put}
+use Rattle.ks_base.proofs.AmongLemmas.{among_next}
 use Rattle.ks_laws.specs.Orderly.{Each, IsOrderly, IsTrustHeld}
 use Rattle.ks_laws.proofs.GivesLemmas.{Gives, IsGood, gives_bind, gives_fault, gives_found, gives_go, gives_need, gives_past, gives_weaker, good_changes, good_tells}
 use Rattle.ks_laws.proofs.ListLemmas.{all_mapped, all_of_each, each_filter, found_by_own, found_is_among, found_passes, same_is}
@@ -93,15 +94,11 @@ roles_are_asked rows (name ∷ names) =
 
 -- the ids in their order are some of them
 
-among_ordered_by : (id next : Id) (ids ordered : List Id) → (next ≡ id) ⊎ Among ordered id → (Among ordered id → Among ids id) → Among (next ∷ ids) id
-among_ordered_by id next ids ordered (inl is) later = inl is
-among_ordered_by id next ids ordered (inr among) later = inr (later among)
-
 among_ordered : (ids : List Id) (id : Id) → Among (in_order ids) id → Among ids id
 unfolding in_order
 among_ordered [] id among = among
 among_ordered (next ∷ ids) id among =
-    among_ordered_by id next ids (in_order ids) (among_put id_cmp (λ (other : Id). other) next (in_order ids) id among) (among_ordered ids id)
+    among_next next id ids (in_order ids) (among_put id_cmp (λ (other : Id). other) next (in_order ids) id among) (among_ordered ids id)
 
 put_length_by : (id next : Id) (ids behind : List Id) (o : Ordering) → length behind ≤ suc (length ids) → length (put_by o id next ids behind) ≤ suc (suc (length ids))
 put_length_by id next ids behind Less le = omega (arith, le)
@@ -183,12 +180,9 @@ fewer_by : (redelegates : Bool) (count : ℕ) → count ≤ REDELEGATIONS → (i
 fewer_by true count le = omega (arith, le)
 fewer_by false count le = omega arith
 
-at_most : (a b : ℕ) → nat_le a b ≡ true → a ≤ b
-at_most a b is = grind (arith, nat_tests, is)
-
 count_in_range : (rows : Rows) (asked : TrustBody) (parent : Option TrustRow) → Each IsTrustHeld rows.trusts → IsParent rows asked parent → may_count asked parent ≡ true →
     count_for asked parent ≤ REDELEGATIONS
-count_in_range rows asked None held is may = at_most (count_for asked None) REDELEGATIONS may
+count_in_range rows asked None held is may = leb-true (count_for asked None) REDELEGATIONS may
 count_in_range rows asked (Some parent) held is may =
     fewer_by asked.redelegate parent.count (held parent (found_is_among (λ (r : TrustRow). r.id) parent.id rows.trusts parent is.0)).count
 

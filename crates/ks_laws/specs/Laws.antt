@@ -1,6 +1,6 @@
 -- What holds of all orderly states and of all lawful fronts: they go on, what their steps lack can be found out, their replies can be told,
 -- and the walks of a lawful front's state are the whole climbs.
-use Rattle.std.specs.Prelude.{◌≡◌, ℕ, ◌<◌, ◌≤◌, ◌^◌, List, [], length, Option, Some, None}
+use Rattle.std.specs.Prelude.{◌≡◌, ℕ, ◌<◌, ◌≤◌, ◌^◌, List, length, Option, Some, None}
 use Rattle.ks_base.specs.declared.rows.ProjectRow.{ProjectRow}
 use Rattle.ks_base.specs.declared.trusts.TrustRow.{TrustRow}
 use Rattle.ks_base.specs.Rows.{Id, project_of, trust_of}
@@ -15,7 +15,7 @@ use Rattle.ks_machine.specs.declared.reply.Reply.{Reply}
 use Rattle.ks_machine.specs.Attempts.{Go, Known, Lack, Stored, everything}
 use Rattle.ks_machine.specs.Changes.{apply}
 use Rattle.ks_machine.specs.Fit.{Fit}
-use Rattle.ks_machine.specs.Fronts.{Front, IsSound, ◌⊑◌, after, answer, change_of, replay, then}
+use Rattle.ks_machine.specs.Fronts.{Front, IsSound, ◌⊑◌, after, answer, change_of, replay, then, first_front}
 use Rattle.ks_machine.specs.Lawful.{Fits, IsLawful, IsOpeningInRange}
 use Rattle.ks_machine.specs.Moment.{last_moment}
 use Rattle.ks_machine.specs.Opened.{open_fault, opened_state}
@@ -70,13 +70,9 @@ LacksAreUnknown =
 
 -- fronts
 
--- the front before the first call
-abbrev pub opened_front : PlainOpening → Front
-opened_front opening = record { opening = opening; changes = []; high = 0; kept = 0 }
-
 -- an accepted opening opens a lawful front
 abbrev pub OpeningIsLawful : Type 0
-OpeningIsLawful = (opening : PlainOpening) → IsOpeningInRange opening → open_fault opening ≡ None → IsLawful (opened_front opening)
+OpeningIsLawful = (opening : PlainOpening) → IsOpeningInRange opening → open_fault opening ≡ None → IsLawful (first_front opening)
 
 -- the front after a call is as lawful as the one before, as long as the journal has room
 abbrev pub LawfulGoesOn : Type 0

@@ -1,13 +1,10 @@
 -- A token that a revocation ends stays ended, whatever changes come: a row that a revocation went by stands on as it was, or its end is told.
-use Rattle.std.proofs.Common.{◌≡◌, ℕ, ◌≤◌, Bool, true, false, ◌&&◌, ◌||◌, ◌⊎◌, inl, inr, List, [], ◌∷◌, ◌++◌, map, Option, Some, None, refl, sym, ap, subst, ◌∙◌, arith}
-use Rattle.std.specs.Prelude.{cond, length, not, nat_le, option_map, if◌then◌else◌}
-use Rattle.std.specs.List.{filter, find, list_any}
+use Rattle.std.proofs.Common.{◌≡◌, ℕ, ◌≤◌, Bool, true, false, ◌||◌, ◌⊎◌, inl, inr, List, [], ◌∷◌, ◌++◌, map, Option, Some, None, refl, sym, ap, subst, ◌∙◌}
+use Rattle.std.specs.Prelude.{length, not, nat_le, option_map, if◌then◌else◌}
+use Rattle.std.specs.List.{filter}
 use Rattle.std.specs.Option.{option_and_then, option_or}
-use Rattle.std.specs.declared.cmp.Ordering.{Ordering}
-use Rattle.std.specs.declared.cmp.Ordering.TheVariants.{Less, Equal, Greater}
 use Rattle.std.specs.Ordering.{is_eq}
-use Rattle.std.proofs.lemmas.Bool.{and_parts}
-use Rattle.std.proofs.lemmas.Bool.Decides.{nat_tests}
+use Rattle.std.proofs.lemmas.Bool.{and_parts, or_right, or_cases, or_left, le-leb, and_from}
 use Rattle.std.proofs.lemmas.Cmp.{nat_list_cmp_total}
 use Rattle.std.proofs.lemmas.Slice.Eq.{bytes_eq-Decides}
 use Rattle.ks_base.specs.declared.events.EventRow.{EventRow}
@@ -28,7 +25,10 @@ use Rattle.ks_base.specs.Rows.{Id, Rows, same, project_of, trust_of, user_of}
 use Rattle.ks_base.specs.Tables.{Among, drop_row, find_row, has_key, id_cmp, put_row}
 use Rattle.ks_base.specs.Trees.{lies_in}
 use Rattle.ks_base.specs.Trusts.{creation_fault, first_missing, goes, is_expired, parent_fault, parent_trust, trusts_gone, trusts_left, used}
-use Rattle.ks_base.proofs.RowLemmas.{filter_among, find_drop_other, find_put, find_put_other, found_among}
+use Rattle.ks_base.proofs.RowLemmas.{filter_among, find_drop_other, find_put, find_put_other, found_among, eq_is}
+use Rattle.ks_base.proofs.ListLemmas.{find_kept, find_mapped}
+use Rattle.ks_base.proofs.AmongLemmas.{map_among, among_left, among_right, any_from, any_to}
+use Rattle.ks_base.proofs.OptionLemmas.{none_mapped}
 use Rattle.ks_machine.specs.declared.change.Change.{Change}
 use Rattle.ks_machine.specs.declared.change.Change.TheVariants as change
 use Rattle.ks_machine.specs.Changes.{apply, domain_dropped, domain_gone, ended_by, events_at, group_dropped, project_dropped, role_dropped, rows_after, touches, trusts_ended, user_dropped}
@@ -39,58 +39,6 @@ use Rattle.ks_machine.specs.Validity.{holder, project_domain, scope_domain}
 use Rattle.ks_payload.specs.declared.payload.Payload.{Payload}
 
 -- lists
-
-find_kept_by : {X : Type 0} (p q : X → Bool) (next : X) (xs : List X) (x : X) (b c : Bool) → p next ≡ b → q next ≡ c → q x ≡ true →
-    (find p xs ≡ Some x → find p (filter q xs) ≡ Some x) → cond b (Some next) (find p xs) ≡ Some x → find p (cond c (next ∷ filter q xs) (filter q xs)) ≡ Some x
-find_kept_by p q next xs x true true is kept passes later here = rw is here
-find_kept_by p q next xs x true false is kept passes later here = let first : next ≡ x = cc in let passed : q next ≡ true = ap q first ∙ passes in cc
-find_kept_by p q next xs x false true is kept passes later here = rw is (later here)
-find_kept_by p q next xs x false false is kept passes later here = later here
-
-find_kept : {X : Type 0} (p q : X → Bool) (xs : List X) (x : X) → find p xs ≡ Some x → q x ≡ true → find p (filter q xs) ≡ Some x
-find_kept p q [] x found passes = cc
-find_kept p q (next ∷ xs) x found passes = find_kept_by p q next xs x (p next) (q next) refl refl passes (λ later. find_kept p q xs x later passes) found
-
-find_mapped_by : {X : Type 0} (p : X → Bool) (f : X → X) (next : X) (xs : List X) (b : Bool) → p next ≡ b → p (f next) ≡ p next →
-    find p (map f xs) ≡ option_map f (find p xs) → cond (p (f next)) (Some (f next)) (find p (map f xs)) ≡ option_map f (cond b (Some next) (find p xs))
-find_mapped_by p f next xs true is same later = rw (same ∙ is) refl
-find_mapped_by p f next xs false is same later = rw (same ∙ is) later
-
-find_mapped : {X : Type 0} (p : X → Bool) (f : X → X) → ((x : X) → p (f x) ≡ p x) → (xs : List X) → find p (map f xs) ≡ option_map f (find p xs)
-find_mapped p f same [] = refl
-find_mapped p f same (next ∷ xs) = find_mapped_by p f next xs (p next) refl (same next) (find_mapped p f same xs)
-
-among_map : {X Y : Type 0} (f : X → Y) (xs : List X) (x : X) → Among xs x → Among (map f xs) (f x)
-among_map f [] x among = absurd among
-among_map f (next ∷ xs) x (inl is) = inl (ap f is)
-among_map f (next ∷ xs) x (inr among) = inr (among_map f xs x among)
-
-among_left : {X : Type 0} (xs ys : List X) (x : X) → Among xs x → Among (xs ++ ys) x
-among_left [] ys x among = absurd among
-among_left (next ∷ xs) ys x (inl is) = inl is
-among_left (next ∷ xs) ys x (inr among) = inr (among_left xs ys x among)
-
-among_right : {X : Type 0} (xs ys : List X) (x : X) → Among ys x → Among (xs ++ ys) x
-among_right [] ys x among = among
-among_right (next ∷ xs) ys x among = inr (among_right xs ys x among)
-
-any_from_by : {X : Type 0} (test : X → Bool) (next : X) (xs : List X) (b : Bool) → test next ≡ b → (b || list_any test xs) ≡ true →
-    (list_any test xs ≡ true → (x : X) × Among xs x × (test x ≡ true)) → (x : X) × Among (next ∷ xs) x × (test x ≡ true)
-any_from_by test next xs true is any later = (next, inl refl, is)
-any_from_by test next xs false is any later = let found = later any in (found.0, inr found.1, found.2)
-
-any_from : {X : Type 0} (test : X → Bool) (xs : List X) → list_any test xs ≡ true → (x : X) × Among xs x × (test x ≡ true)
-any_from test [] any = cc
-any_from test (next ∷ xs) any = any_from_by test next xs (test next) refl any (any_from test xs)
-
-or_true : (a b : Bool) → b ≡ true → (a || b) ≡ true
-or_true true b is = refl
-or_true false b is = is
-
-any_to : {X : Type 0} (test : X → Bool) (xs : List X) (x : X) → Among xs x → test x ≡ true → list_any test xs ≡ true
-any_to test [] x among holds = absurd among
-any_to test (next ∷ xs) x (inl is) holds = let here : test next ≡ true = ap test is ∙ holds in rw here refl
-any_to test (next ∷ xs) x (inr among) holds = or_true (test next) (list_any test xs) (any_to test xs x among holds)
 
 behind_none : {F : Type 0} (first : Option F) (faults : List (Option F)) → first_of (first ∷ faults) ≡ None → first_of faults ≡ None
 behind_none None faults none = none
@@ -113,28 +61,15 @@ by_id : {R : Type 0} (id_of : R → Id) (row : R) (rows : List R) (id : Id) (b :
     ((id_of row ≡ id) × (find_row id_cmp id_of id (put_row id_cmp id_of row rows) ≡ Some row))
     ⊎ (find_row id_cmp id_of id (put_row id_cmp id_of row rows) ≡ find_row id_cmp id_of id rows)
 by_id {R} id_of row rows id true is =
-    let alike : id_of row ≡ id = id_exact (id_of row) id (equal (id_cmp (id_of row) id) is) in
+    let alike : id_of row ≡ id = id_exact (id_of row) id (eq_is (id_cmp (id_of row) id) is) in
     inl (alike, subst (λ (k : Id). find_row id_cmp id_of k (put_row id_cmp id_of row rows) ≡ Some row) alike (find_put id_cmp id_of nat_list_cmp_total row rows))
-  where
-    equal : (o : Ordering) → is_eq o ≡ true → o ≡ Equal
-    equal Less e = cc
-    equal Equal e = refl
-    equal Greater e = cc
 by_id {R} id_of row rows id false is = inr (find_put_other id_cmp id_of nat_list_cmp_total id row rows is)
 
 -- and after one was dropped
 by_drop : {R : Type 0} (id_of : R → Id) (gone : Id) (rows : List R) (id : Id) (b : Bool) → is_eq (id_cmp gone id) ≡ b →
     (gone ≡ id) ⊎ (find_row id_cmp id_of id (drop_row id_cmp id_of gone rows) ≡ find_row id_cmp id_of id rows)
-by_drop {R} id_of gone rows id true is = inl (id_exact gone id (equal (id_cmp gone id) is))
-  where
-    equal : (o : Ordering) → is_eq o ≡ true → o ≡ Equal
-    equal Less e = cc
-    equal Equal e = refl
-    equal Greater e = cc
+by_drop {R} id_of gone rows id true is = inl (id_exact gone id (eq_is (id_cmp gone id) is))
 by_drop {R} id_of gone rows id false is = inr (find_drop_other id_cmp id_of nat_list_cmp_total gone id rows is)
-
-id_found : {R : Type 0} (id_of : R → Id) (id : Id) (rows : List R) (row : R) → find_row id_cmp id_of id rows ≡ Some row → id_of row ≡ id
-id_found id_of id rows row found = id_exact (id_of row) id (found_among id_cmp id_of id rows row found).1
 
 -- rows that stand on as they were, or whose end is told
 
@@ -160,13 +95,6 @@ pub record Stay (old new : Rows) (ends : List Revoke) : Type 0 where
 abbrev pub Named : Rows → List Revoke → Revoke → Payload → Type 0
 Named rows ends what payload =
     (names what (holder rows payload) ≡ true) ⊎ ((thing : Revoke) × Among ends thing × (names thing (holder rows payload) ≡ true))
-
-either_true : (a b : Bool) → (a || b) ≡ true → (a ≡ true) ⊎ (b ≡ true)
-either_true true b is = inl refl
-either_true false b is = inr is
-
-left_true : (a b : Bool) → a ≡ true → (a || b) ≡ true
-left_true a b is = rw is refl
 
 abbrev party_in : Rows → (TrustRow → Id) → Option Id → Option Id
 party_in rows party trust = option_map party (option_and_then (λ id. trust_of id rows.trusts) trust)
@@ -196,7 +124,7 @@ trust_told rows ends what payload (of, is, told) = inr (revoke.Trust of, told, s
 user_named : (old new : Rows) (ends : List Revoke) → Stay old new ends → (id : Id) (payload : Payload) →
     names (revoke.User id) (holder old payload) ≡ true → Named new ends (revoke.User id) payload
 unfolding holder
-user_named old new ends stay id payload is = whose (either_true (same payload.user id) _ is)
+user_named old new ends stay id payload is = whose (or_cases (same payload.user id) _ is)
   where
     trustor : Option Id
     trustor = party_in new (λ trust. trust.trustor) payload.trust
@@ -205,11 +133,11 @@ user_named old new ends stay id payload is = whose (either_true (same payload.us
     trustee = party_in new (λ trust. trust.trustee) payload.trust
 
     of_trustor : (has trustor id ≡ true) ⊎ ((of : Id) × (payload.trust ≡ Some of) × Among ends (revoke.Trust of)) → Named new ends (revoke.User id) payload
-    of_trustor (inl has_it) = inl (or_true (same payload.user id) (has trustor id || has trustee id) (left_true (has trustor id) (has trustee id) has_it))
+    of_trustor (inl has_it) = inl (or_right (same payload.user id) (has trustor id || has trustee id) (or_left (has trustor id) (has trustee id) has_it))
     of_trustor (inr told) = trust_told new ends (revoke.User id) payload told
 
     of_trustee : (has trustee id ≡ true) ⊎ ((of : Id) × (payload.trust ≡ Some of) × Among ends (revoke.Trust of)) → Named new ends (revoke.User id) payload
-    of_trustee (inl has_it) = inl (or_true (same payload.user id) (has trustor id || has trustee id) (or_true (has trustor id) (has trustee id) has_it))
+    of_trustee (inl has_it) = inl (or_right (same payload.user id) (has trustor id || has trustee id) (or_right (has trustor id) (has trustee id) has_it))
     of_trustee (inr told) = trust_told new ends (revoke.User id) payload told
 
     party : (has (party_in old (λ trust. trust.trustor) payload.trust) id ≡ true) ⊎ (has (party_in old (λ trust. trust.trustee) payload.trust) id ≡ true) →
@@ -219,8 +147,8 @@ user_named old new ends stay id payload is = whose (either_true (same payload.us
 
     whose : (same payload.user id ≡ true) ⊎ ((has (party_in old (λ trust. trust.trustor) payload.trust) id || has (party_in old (λ trust. trust.trustee) payload.trust) id) ≡ true) →
         Named new ends (revoke.User id) payload
-    whose (inl own) = inl (left_true (same payload.user id) (has trustor id || has trustee id) own)
-    whose (inr other) = party (either_true _ _ other)
+    whose (inl own) = inl (or_left (same payload.user id) (has trustor id || has trustee id) own)
+    whose (inr other) = party (or_cases _ _ other)
 
 home_stays : (old new : Rows) (ends : List Revoke) → Stay old new ends → (user domain : Id) → has (option_map (λ row. row.domain) (user_of user old.users)) domain ≡ true →
     (has (option_map (λ row. row.domain) (user_of user new.users)) domain ≡ true) ⊎ Among ends (revoke.User user)
@@ -257,7 +185,7 @@ scope_stays old new ends stay None (Some project) domain is = by (project_of pro
 domain_named : (old new : Rows) (ends : List Revoke) → Stay old new ends → (id : Id) (payload : Payload) →
     names (revoke.Domain id) (holder old payload) ≡ true → Named new ends (revoke.Domain id) payload
 unfolding holder
-domain_named old new ends stay id payload is = which (either_true _ _ is)
+domain_named old new ends stay id payload is = which (or_cases _ _ is)
   where
     home : Option Id
     home = option_map (λ user. user.domain) (user_of payload.user new.users)
@@ -266,11 +194,11 @@ domain_named old new ends stay id payload is = which (either_true _ _ is)
     scope = scope_domain new payload
 
     of_user : (has home id ≡ true) ⊎ Among ends (revoke.User payload.user) → Named new ends (revoke.Domain id) payload
-    of_user (inl has_it) = inl (left_true (has home id) (has scope id) has_it)
-    of_user (inr told) = inr (revoke.User payload.user, told, left_true (same payload.user payload.user) _ (same_true payload.user))
+    of_user (inl has_it) = inl (or_left (has home id) (has scope id) has_it)
+    of_user (inr told) = inr (revoke.User payload.user, told, or_left (same payload.user payload.user) _ (same_true payload.user))
 
     of_scope : (has scope id ≡ true) ⊎ ((of : Id) × (payload.project ≡ Some of) × Among ends (revoke.Project of)) → Named new ends (revoke.Domain id) payload
-    of_scope (inl has_it) = inl (or_true (has home id) (has scope id) has_it)
+    of_scope (inl has_it) = inl (or_right (has home id) (has scope id) has_it)
     of_scope (inr (of, is, told)) = inr (revoke.Project of, told, subst (λ (o : Option Id). has o of ≡ true) (sym is) (same_true of))
 
     which : (has (option_map (λ user. user.domain) (user_of payload.user old.users)) id ≡ true) ⊎ (has (scope_domain old payload) id ≡ true) → Named new ends (revoke.Domain id) payload
@@ -315,7 +243,7 @@ trusts_go rows new what ends is told id trust found = by (goes rows.trusts (touc
     by true gone =
         let both = found_among id_cmp (λ row. row.id) id rows.trusts trust found in
         let among = filter_among (goes rows.trusts (touches rows what)) rows.trusts trust both.0 gone in
-        let ended = among_map (λ (row : TrustRow). revoke.Trust row.id) (trusts_gone rows.trusts (touches rows what)) trust among in
+        let ended = map_among (λ (row : TrustRow). revoke.Trust row.id) (trusts_gone rows.trusts (touches rows what)) trust among in
         inr (subst (λ (k : Id). Among ends (revoke.Trust k)) (id_exact trust.id id both.1) (told (revoke.Trust trust.id) ended))
     by false gone =
         let stays : not (goes rows.trusts (touches rows what) trust) ≡ true = rw gone refl in
@@ -357,13 +285,9 @@ kept_by_put : {R F : Type 0} (o : Option R) (added : Option F) (Keeps : R → Ty
 kept_by_put None added Keeps set standing put found = cc
 kept_by_put {R} {F} (Some row) added Keeps set standing put found = let is : row ≡ standing = cc in subst Keeps is put.0
 
-free_by : (o : Option TrustRow) → option_map (λ row. fault.IdTaken row.id) o ≡ None → o ≡ None
-free_by None is = refl
-free_by (Some row) is = cc
-
 trust_is_free : (S : State) (moment : ℕ) (row : TrustRow) → IsTrustMade S.rows moment row → trust_of row.id S.rows.trusts ≡ None
 unfolding creation_fault
-trust_is_free S moment row made = free_by (trust_of row.id S.rows.trusts) (last_of_five
+trust_is_free S moment row made = none_mapped (λ row. fault.IdTaken row.id) (trust_of row.id S.rows.trusts) (last_of_five
     (parent_fault row (parent_trust S.rows.trusts row.parent))
     (option_map (λ role. fault.RoleLost role) (first_missing row.roles (roles_to_give S.rows row)))
     (fault_if (is_expired row.expires moment) fault.Expired)
@@ -433,7 +357,7 @@ domain_user_stays rows new domain is id user found = by (is_user_in domain user)
     by : (b : Bool) → is_user_in domain user ≡ b → UserStays new (domain_ends rows domain) id user
     by true gone =
         let both = found_among id_cmp (λ (row : UserRow). row.id) id rows.users user found in
-        let ended = among_map (λ (row : UserRow). revoke.User row.id) (filter (is_user_in domain) rows.users) user (filter_among (is_user_in domain) rows.users user both.0 gone) in
+        let ended = map_among (λ (row : UserRow). revoke.User row.id) (filter (is_user_in domain) rows.users) user (filter_among (is_user_in domain) rows.users user both.0 gone) in
         let told = among_left (domain_gone rows domain) (trusts_ended rows (change.DropDomain domain)) (revoke.User user.id)
         (inr (among_right (map (λ row. revoke.Project row.id) (filter (lies_in domain) rows.projects)) _ (revoke.User user.id) ended)) in
         inr (subst (λ (k : Id). Among (domain_ends rows domain) (revoke.User k)) (id_exact user.id id both.1) told)
@@ -449,7 +373,7 @@ domain_project_stays rows new domain is id project found = by (lies_in domain pr
     by : (b : Bool) → lies_in domain project ≡ b → ProjectStays new (domain_ends rows domain) id project
     by true gone =
         let both = found_among id_cmp (λ (row : ProjectRow). row.id) id rows.projects project found in
-        let ended = among_map (λ (row : ProjectRow). revoke.Project row.id) (filter (lies_in domain) rows.projects) project (filter_among (lies_in domain) rows.projects project both.0 gone) in
+        let ended = map_among (λ (row : ProjectRow). revoke.Project row.id) (filter (lies_in domain) rows.projects) project (filter_among (lies_in domain) rows.projects project both.0 gone) in
         let told = among_left (domain_gone rows domain) (trusts_ended rows (change.DropDomain domain)) (revoke.Project project.id)
         (inr (among_left (map (λ row. revoke.Project row.id) (filter (lies_in domain) rows.projects)) _ (revoke.Project project.id) ended)) in
         inr (subst (λ (k : Id). Among (domain_ends rows domain) (revoke.Project k)) (id_exact project.id id both.1) told)
@@ -520,12 +444,6 @@ stay_after S moment (change.Load keys) fits = all_same S.rows (rows_after S.rows
 
 -- so what is revoked stays revoked
 
-le_true : (a b : ℕ) → a ≤ b → nat_le a b ≡ true
-le_true a b le = grind (arith, nat_tests, le)
-
-both_true : (a b : Bool) → a ≡ true → b ≡ true → (a && b) ≡ true
-both_true a b first second = rw (first, second) refl
-
 pub still_revoked : (S : State) (moment : ℕ) (what : Change) (payload : Payload) (issued : ℕ) → Fits S moment what → issued ≤ moment →
     is_revoked S.events (holder S.rows payload) issued ≡ true →
     is_revoked (apply S moment what).events (holder (apply S moment what).rows payload) issued ≡ true
@@ -542,11 +460,11 @@ still_revoked S moment what payload issued fits le revoked = from (any_from (λ 
         is_revoked (S.events ++ events_at moment ends) after issued ≡ true
     on event among match (inl named) =
         any_to (λ event. matches event after issued) (S.events ++ events_at moment ends) event (among_left S.events (events_at moment ends) event among)
-        (both_true (nat_le issued event.moment) (names event.what after) (and_parts (nat_le issued event.moment) _ match).0 named)
+        (and_from (nat_le issued event.moment) (names event.what after) (and_parts (nat_le issued event.moment) _ match).0 named)
     on event among match (inr (thing, told, named)) =
         any_to (λ event. matches event after issued) (S.events ++ events_at moment ends) (record { what = thing; moment = moment })
-        (among_right S.events (events_at moment ends) _ (among_map (λ (thing : Revoke). record { what = thing; moment = moment }) ends thing told))
-        (both_true (nat_le issued moment) (names thing after) (le_true issued moment le) named)
+        (among_right S.events (events_at moment ends) _ (map_among (λ (thing : Revoke). record { what = thing; moment = moment }) ends thing told))
+        (and_from (nat_le issued moment) (names thing after) (le-leb issued moment le) named)
 
     from : (event : EventRow) × Among S.events event × (matches event (holder S.rows payload) issued ≡ true) →
         is_revoked (S.events ++ events_at moment ends) after issued ≡ true

@@ -18,7 +18,7 @@ use Rattle.ks_machine.specs.Steps.{step, step_at}
 pub reflexive : (f : Front) → f ⊑ f
 reflexive f = record { opening = refl; later = []; changes = sym (append-nil f.changes); high = omega arith; moments = tt; kept = omega arith }
 
-later_than : (low high : ℕ) (entries : List Entry) → low ≤ high → AllByRecursion (λ entry. high ≤ entry.moment) entries
+pub later_than : (low high : ℕ) (entries : List Entry) → low ≤ high → AllByRecursion (λ entry. high ≤ entry.moment) entries
     → AllByRecursion (λ entry. low ≤ entry.moment) entries
 later_than low high [] le h = tt
 later_than low high (entry ∷ entries) le h = (omega (arith, le, h.0), later_than low high entries le h.1)
@@ -162,7 +162,7 @@ cut_comes_before g count high le h = record {
 
 -- calls
 
-not_below : (high reading : ℕ) → high ≤ moment_of high reading
+pub not_below : (high reading : ℕ) → high ≤ moment_of high reading
 not_below high reading = omega arith
 
 pub calls_go_on : (f : Front) (call : Call) → f ⊑ after f call
@@ -189,7 +189,7 @@ changes_are_replayed f moment change =
     ∙ high_apart (replayed (opened_state f.opening) f.changes) moment moment change
 
 -- the moment of an event stands at itself
-moment_twice : (high reading : ℕ) → moment_of (moment_of high reading) reading ≡ moment_of high reading
+pub moment_twice : (high reading : ℕ) → moment_of (moment_of high reading) reading ≡ moment_of high reading
 moment_twice high reading = omega arith
 
 at_its_moment : (f : Front) (call : Call) → answer (record f { high = moment_of f.high call.reading }) call ≡ answer f call
@@ -203,3 +203,9 @@ unfolding after
 answered_at_cuts f call sound =
     ap (λ front. answer front call) (event_is_cut_off f (moment_of f.high call.reading) (change_of (step everything (replay f) call)) sound)
     ∙ at_its_moment f call
+
+-- each change is counted
+pub made_after : (S : State) (entries : List Entry) → (replayed S entries).made ≡ S.made + length entries
+unfolding replayed apply
+made_after S [] = omega arith
+made_after S (entry ∷ entries) = omega (arith, made_after (apply S entry.moment entry.change) entries)

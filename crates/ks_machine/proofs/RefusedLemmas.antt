@@ -1,9 +1,10 @@
 -- A token that a revocation ends is refused in every front that goes on.
-use Rattle.std.proofs.Common.{◌≡◌, ℕ, ◌≤◌, Bool, true, false, List, [], ◌∷◌, ◌++◌, sym, ap, subst, ◌∙◌, arith}
+use Rattle.std.proofs.Common.{◌≡◌, ℕ, ◌≤◌, Bool, true, List, [], ◌∷◌, ◌++◌, sym, ap, subst, ◌∙◌}
 use Rattle.std.specs.Prelude.{not}
 use Rattle.std.specs.List.{AllByRecursion}
 use Rattle.ks_base.specs.Revocation.{is_revoked}
 use Rattle.ks_base.specs.Rows.{Text}
+use Rattle.ks_base.proofs.TruthLemmas.{not_both}
 use Rattle.ks_machine.specs.declared.change.Entry.{Entry}
 use Rattle.ks_machine.specs.Attempts.{Go, Known}
 use Rattle.ks_machine.specs.Changes.{apply}
@@ -13,7 +14,7 @@ use Rattle.ks_machine.specs.Opened.{opened_state}
 use Rattle.ks_machine.specs.States.{State}
 use Rattle.ks_machine.specs.Validity.{Valid, holder, validity}
 use Rattle.ks_machine.proofs.EndedLemmas.{still_revoked}
-use Rattle.ks_machine.proofs.FrontLemmas.{replayed_both}
+use Rattle.ks_machine.proofs.FrontLemmas.{replayed_both, later_than}
 use Rattle.ks_machine.proofs.TokenLemmas.{valid_holds}
 use Rattle.ks_payload.specs.declared.payload.Payload.{Payload}
 
@@ -32,11 +33,6 @@ revoked_on S last (entry ∷ entries) high payload issued lawful later revoked =
     revoked_on (apply S entry.moment entry.change) entry.moment entries high payload issued lawful.4 later.1
     (still_revoked S entry.moment entry.change payload issued lawful.2 later.0 revoked)
 
-later_than : (low high : ℕ) (entries : List Entry) → low ≤ high → AllByRecursion (λ entry. high ≤ entry.moment) entries
-    → AllByRecursion (λ entry. low ≤ entry.moment) entries
-later_than low high [] le h = tt
-later_than low high (entry ∷ entries) le h = (omega (arith, le, h.0), later_than low high entries le h.1)
-
 revoked_in : (f g : Front) (payload : Payload) (issued : ℕ) → IsLawful g → f ⊑ g → issued ≤ f.high →
     is_revoked (replay f).events (holder (replay f).rows payload) issued ≡ true →
     is_revoked (replay g).events (holder (replay g).rows payload) issued ≡ true
@@ -51,10 +47,6 @@ revoked_in f g payload issued lawful on le revoked =
     ap (replayed (opened_state g.opening)) on.changes ∙ replayed_both (opened_state g.opening) f.changes on.later in
     subst Q (sym end) ended
 
-contrary : (b : Bool) → b ≡ true → not b ≡ true → ⊥
-contrary true is isnt = cc
-contrary false is isnt = cc
-
 pub refused_ever_after : (f g : Front) (payload : Payload) (issued : ℕ) → IsLawful g → f ⊑ g → issued ≤ f.high →
     is_revoked (replay f).events (holder (replay f).rows payload) issued ≡ true →
     (known : Known) (moment : ℕ) (late : Bool) (text : Text) (token : Valid) → validity known (replay g) moment late text ≡ Go token →
@@ -63,5 +55,5 @@ refused_ever_after f g payload issued lawful on le revoked known moment late tex
     let holds = (valid_holds known (replay g) moment late text token goes).revoked in
     let P : Payload → Type 0 = λ p. not (is_revoked (replay g).events (holder (replay g).rows p) token.issued) ≡ true in
     let Q : ℕ → Type 0 = λ n. not (is_revoked (replay g).events (holder (replay g).rows payload) n) ≡ true in
-    contrary (is_revoked (replay g).events (holder (replay g).rows payload) issued)
-    (revoked_in f g payload issued lawful on le revoked) (subst Q issued_is (subst P payload_is holds))
+    not_both (is_revoked (replay g).events (holder (replay g).rows payload) issued)
+    (subst Q issued_is (subst P payload_is holds)) (revoked_in f g payload issued lawful on le revoked)

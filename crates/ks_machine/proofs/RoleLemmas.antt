@@ -25,33 +25,8 @@ use Rattle.ks_base.specs.Tables.{Among, AreAbove, IsAscending, id_cmp, put_row}
 use Rattle.ks_base.specs.Tree.{ancestors}
 use Rattle.ks_base.proofs.RowLemmas.{among_filter, among_put_other, filter_among, put_among}
 use Rattle.ks_base.proofs.TableLemmas.{ascending_filter, ascending_put}
-use Rattle.ks_machine.specs.Effective.{acts, closure, roles_implied, in_order, is_effective, is_member, leads, lies_in, reaches, roles_at}
-
--- a test of each item finds one that passes
-pub any-Decides : {X : Type 0} (test : X → Bool) (P : X → Type 0) → ((x : X) → Decides (test x) (P x)) → (xs : List X) →
-    Decides (list_any test xs) ((x : X) × Among xs x × P x)
-any-Decides {X} test P each [] = (λ found. cc, none)
-  where
-    none : (x : X) × Among [] x × P x → false ≡ true
-    none (x, among, holds) = absurd among
-any-Decides {X} test P each (next ∷ xs) =
-    Decides-like (test next || list_any test xs) forth back (Decides-or (test next) (list_any test xs) (each next) (any-Decides test P each xs))
-  where
-    forth : P next ⊎ ((x : X) × Among xs x × P x) → (x : X) × Among (next ∷ xs) x × P x
-    forth (inl holds) = (next, inl refl, holds)
-    forth (inr (x, among, holds)) = (x, inr among, holds)
-
-    back : (x : X) × Among (next ∷ xs) x × P x → P next ⊎ ((x : X) × Among xs x × P x)
-    back (x, inl is, holds) = inl (subst P (sym is) holds)
-    back (x, inr among, holds) = inr (x, among, holds)
-
--- and a test for one item, whether it is among them
-among-Decides : {X : Type 0} (test : X → Bool) (item : X) → ((x : X) → Decides (test x) (x ≡ item)) → (xs : List X) →
-    Decides (list_any test xs) (Among xs item)
-among-Decides {X} test item each xs = Decides-like (list_any test xs) forth (λ among. (item, among, refl)) (any-Decides test (λ x. x ≡ item) each xs)
-  where
-    forth : (x : X) × Among xs x × (x ≡ item) → Among xs item
-    forth (x, among, is) = subst (Among xs) is among
+use Rattle.ks_base.proofs.AmongLemmas.{among_left, among_right, map_among, any-Decides, among-Decides}
+use Rattle.ks_machine.specs.Effective.{acts, closure, roles_implied, in_order, is_effective, is_member, leads, reaches, roles_at, is_in_domain}
 
 -- a walk over one more row has no need of it, or leads up to it and on behind it
 abbrev Parts : List ImplyRow → ImplyRow → Id → Id → Type 0
@@ -124,9 +99,9 @@ target-Decides target.System (target.Project b) = (λ is. cc, λ is. cc)
 target-Decides target.System (target.Domain b) = (λ is. cc, λ is. cc)
 target-Decides target.System target.System = (λ is. refl, λ is. refl)
 
-lies-Decides : (projects : List ProjectRow) (domain project : Id) → Decides (lies_in projects domain project) (LiesIn projects domain project)
+lies-Decides : (projects : List ProjectRow) (domain project : Id) → Decides (is_in_domain projects domain project) (LiesIn projects domain project)
 lies-Decides projects domain project =
-    Decides-like (lies_in projects domain project) forth (λ lies. (lies.row, lies.stands, (lies.id_is, lies.domain_is)))
+    Decides-like (is_in_domain projects domain project) forth (λ lies. (lies.row, lies.stands, (lies.id_is, lies.domain_is)))
     (any-Decides (λ row. same row.id project && same row.domain domain) (λ row. (row.id ≡ project) × (row.domain ≡ domain)) each projects)
   where
     each : (row : ProjectRow) → Decides (same row.id project && same row.domain domain) ((row.id ≡ project) × (row.domain ≡ domain))
@@ -235,21 +210,6 @@ filtered test P decides candidates ids known up members =
     same_ids ids (filter test (in_order candidates)) up (ascending_filter id_cmp (λ id. id) test (in_order candidates) (order_ascends candidates))
     (λ id among. let holds = (members id).0 among in filter_among test (in_order candidates) id (into_order candidates id (known id holds)) ((decides id).1 holds))
     (λ id among. (members id).1 ((decides id).0 (among_filter test (in_order candidates) id among).1))
-
--- a walk ends where it began, or at what an implication implies
-map_among : {X : Type 0} (f : X → Id) (xs : List X) (x : X) → Among xs x → Among (map f xs) (f x)
-map_among f [] x among = absurd among
-map_among f (next ∷ xs) x (inl is) = inl (ap f is)
-map_among f (next ∷ xs) x (inr among) = inr (map_among f xs x among)
-
-among_left : (xs ys : List Id) (x : Id) → Among xs x → Among (xs ++ ys) x
-among_left [] ys x among = absurd among
-among_left (next ∷ xs) ys x (inl is) = inl is
-among_left (next ∷ xs) ys x (inr among) = inr (among_left xs ys x among)
-
-among_right : (xs ys : List Id) (x : Id) → Among ys x → Among (xs ++ ys) x
-among_right [] ys x among = among
-among_right (next ∷ xs) ys x among = inr (among_right xs ys x among)
 
 walk_end : (rows : List ImplyRow) (from to : Id) (steps : List ImplyRow) → IsWalk rows from steps to → (from ≡ to) ⊎ Among (map (λ row. row.implied) rows) to
 walk_end rows from to [] walk = inl walk

@@ -13,6 +13,7 @@ use Rattle.ks_base.specs.Tables.{Among}
 use Rattle.ks_base.specs.Trusts.{first_trustor}
 use Rattle.ks_base.proofs.RowLemmas.{among_filter}
 use Rattle.ks_base.proofs.WalkLemmas.{walk_then}
+use Rattle.ks_base.proofs.AmongLemmas.{any-Decides}
 use Rattle.ks_machine.specs.declared.lines.ReadToken.{ReadToken}
 use Rattle.ks_machine.specs.declared.why.Why.TheVariants as why
 use Rattle.ks_machine.specs.Attempts.{Attempt, Go, Stop, Lacks, ◌>>=◌, Known, decided, need}
@@ -20,7 +21,7 @@ use Rattle.ks_machine.specs.Effective.{closure, in_order, leads, roles_implied}
 use Rattle.ks_machine.specs.States.{State, is_user_on}
 use Rattle.ks_machine.specs.TokenLines.{token_lines}
 use Rattle.ks_machine.specs.Validity.{Valid, are_kept, has_roles, held_lines, holder, is_kept, is_scope_on, is_trust_line, opens, roles_of, validity}
-use Rattle.ks_machine.proofs.RoleLemmas.{any-Decides, effective-Decides, leads-Decides}
+use Rattle.ks_machine.proofs.RoleLemmas.{effective-Decides, leads-Decides}
 use Rattle.ks_payload.specs.declared.payload.Payload.{Payload}
 
 -- what goes on went on before

@@ -9,9 +9,10 @@ use Rattle.ks_base.specs.declared.grants.Target.TheVariants as target
 use Rattle.ks_base.specs.declared.rows.ProjectRow.{ProjectRow}
 use Rattle.ks_base.specs.declared.users.MemberRow.{MemberRow}
 use Rattle.ks_base.specs.Grants.{same_target}
-use Rattle.ks_base.specs.Rows.{Id, Rows, same}
+use Rattle.ks_base.specs.Rows.{Id, Rows, same, has_id}
 use Rattle.ks_base.specs.Tables.{id_cmp, put_row}
 use Rattle.ks_base.specs.Tree.{ancestors}
+use Rattle.ks_base.specs.Trees.{lies_in}
 
 -- a walk has no need of the first implication, or goes up to it, over it and on
 unfoldable pub leads : List ImplyRow → Id → Id → Bool
@@ -25,15 +26,16 @@ abbrev pub acts : List MemberRow → Id → Actor → Bool
 acts members user (actor.User id) = same id user
 acts members user (actor.Group id) = is_member members id user
 
-abbrev pub lies_in : List ProjectRow → Id → Id → Bool
-lies_in projects domain project = list_any (λ row. same row.id project && same row.domain domain) projects
+-- the project is a row of this domain
+abbrev pub is_in_domain : List ProjectRow → Id → Id → Bool
+is_in_domain projects domain project = list_any (λ row. same row.id project && lies_in domain row) projects
 
 -- a direct grant reaches its target, an inherited one the projects of its domain, or the descendants of its project;
 -- none but one on the system reaches the system
 abbrev pub reaches : List ProjectRow → Bool → Target → Target → Bool
 reaches projects false granted wanted = same_target granted wanted
-reaches projects true (target.Domain domain) (target.Project project) = lies_in projects domain project
-reaches projects true (target.Project above) (target.Project project) = list_any (λ id. same id above) (ancestors projects project)
+reaches projects true (target.Domain domain) (target.Project project) = is_in_domain projects domain project
+reaches projects true (target.Project above) (target.Project project) = has_id (ancestors projects project) above
 reaches projects true target.System (target.Project project) = false
 reaches projects true granted (target.Domain domain) = false
 reaches projects true granted target.System = false

@@ -23,6 +23,10 @@ pub record Front : Type 0 where
   -- how many of the changes are kept where a stop cannot undo them
   pub kept : ℕ
 
+-- before any change
+abbrev pub first_front : PlainOpening → Front
+first_front opening = record { opening = opening; changes = []; high = 0; kept = 0 }
+
 -- no change is at a moment above the highest, and no more changes are kept than there are
 pub record IsSound (f : Front) : Type 0 where
   pub moments : AllByRecursion (λ entry. entry.moment ≤ f.high) f.changes

@@ -1,7 +1,8 @@
 -- What a token must be, by the keys, its payload and the time alone: the first lines of its validity, in their order.
-use Rattle.std.specs.Prelude.{ℕ, ◌+◌, Bool, true, false, nat_lt, nat_le, List, [], ◌∷◌, Option, Some, None, is_some, Result, Ok, Err}
+use Rattle.std.specs.Prelude.{ℕ, ◌+◌, Bool, true, false, nat_lt, nat_le, List, [], ◌∷◌, is_some, Result, Ok, Err}
 use Rattle.ks_base.specs.declared.key.Key.{Key}
 use Rattle.ks_base.specs.Revocation.{window}
+use Rattle.ks_base.specs.Results.{found, need, ◌>>=◌}
 use Rattle.ks_fernet.specs.Opening.{open_of}
 use Rattle.ks_fernet.specs.Token.{envelope_of}
 use Rattle.ks_fernet.specs.declared.opening.OpenAnswer.{OpenAnswer}
@@ -10,19 +11,6 @@ use Rattle.ks_payload.specs.Readings.{payload_of}
 use Rattle.ks_machine.specs.declared.lines.ReadToken.{ReadToken}
 use Rattle.ks_machine.specs.declared.why.Why.{Why}
 use Rattle.ks_machine.specs.declared.why.Why.TheVariants as why
-
-infixl 10 ◌>>=◌
-abbrev pub ◌>>=◌ : {A B : Type 0} → Result A Why → (A → Result B Why) → Result B Why
-Ok a >>= f = f a
-Err w >>= f = Err w
-
-abbrev pub need : Bool → Why → Result (Unit {0}) Why
-need true w = Ok tt
-need false w = Err w
-
-abbrev pub found : {A : Type 0} → Option A → Why → Result A Why
-found (Some a) w = Ok a
-found None w = Err w
 
 -- what a list of no key makes of a text
 abbrev pub unopened : Bool → OpenAnswer

@@ -11,8 +11,8 @@ use Rattle.ks_base.specs.declared.rows.RoleRow.{RoleRow}
 use Rattle.ks_base.specs.declared.shapes.Filter.{Filter}
 use Rattle.ks_base.specs.declared.shapes.ShapeFault.TheVariants as shape
 use Rattle.ks_base.specs.declared.trusts.TrustRow.{TrustRow}
-use Rattle.ks_base.specs.Rows.{Id, Text, Rows, same, trust_of}
-use Rattle.ks_base.specs.Trusts.{creation_fault, first_of_new, has_id}
+use Rattle.ks_base.specs.Rows.{Id, Text, Rows, same, trust_of, has_id}
+use Rattle.ks_base.specs.Trusts.{creation_fault, first_of_new}
 use Rattle.ks_machine.specs.declared.bodies.Named.{Named}
 use Rattle.ks_machine.specs.declared.bodies.Named.TheVariants as named
 use Rattle.ks_machine.specs.declared.bodies.TrustBody.{TrustBody}

@@ -10,8 +10,7 @@ use Rattle.ks_ring.specs.Rings.{RingState, new_of}
 use Rattle.ks_opening.specs.declared.filled.Filled.{Filled}
 use Rattle.ks_opening.specs.Opened.{TellsFault, state_of}
 use Rattle.ks_opening.specs.steps.Filled.{IsFilled, keys_fault, rows_of, with_ring}
-use Rattle.ks_opening.specs.steps.Listed.{listed_fault, rows_fault}
-use Rattle.ks_opening.proofs.OpeningLemmas.{first_none}
+use Rattle.ks_opening.specs.steps.Listed.{listed_fault}
 
 -- the faults in their order: of the rows, of their numbers, and of the keys
 
@@ -98,7 +97,3 @@ state_is filled opening ring made is = λ i. record {
   high = 0;
   made = 0;
 }
-
--- no id is repeated where the rows are not at fault
-pub no_repeats : (opening : PlainOpening) → listed_fault opening ≡ None → ids_fault opening ≡ None
-no_repeats opening none = (first_none (ids_fault opening) (names_fault opening ∷ rows_fault (rows_opened opening) opening ∷ []) none).0

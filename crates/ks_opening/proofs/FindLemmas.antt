@@ -2,7 +2,6 @@
 use Rattle.std.proofs.Common.{◌≡◌, ℕ, zero, suc, ◌+◌, ◌<◌, ◌≤◌, Bool, true, false, ◌||◌, cond, List, [], ◌∷◌, ◌++◌, length, take, drop, get_or, Option, Some, None, IfSome, is_some, Result, Ok, Err, refl, sym, ap, subst, ◌∙◌, arith}
 use std.Path.{fun_ext}
 use Rattle.std.specs.declared.cmp.Ordering.{Ordering}
-use Rattle.std.specs.declared.cmp.Ordering.TheVariants.{Less, Equal, Greater}
 use Rattle.std.specs.Cmp.{IsTotalOrder}
 use Rattle.std.specs.List.{find, list_any}
 use Rattle.std.specs.Option.{option_map, option_or}
@@ -12,6 +11,7 @@ use Rattle.ks_base.specs.Refusals.{fault_in}
 use Rattle.std.proofs.lemmas.Cmp.{alike_right}
 use Rattle.std.proofs.lemmas.List.{drop_all, drop_more, take_more}
 use Rattle.ks_base.specs.Tables.{has_key}
+use Rattle.ks_base.proofs.RowLemmas.{eq_is}
 use Rattle.ks_machine.specs.declared.settings.OpenFault.{OpenFault}
 use Rattle.ks_machine.specs.Opened.{first_in}
 use Rattle.ks_opening.specs.steps.Indexed.{place_of}
@@ -59,11 +59,6 @@ pub end_in : {R : Type 0} (f : List R → R → Option OpenFault) (items rows : 
 end_in f items rows i same end = sym (first_end f rows i (subst (λ (l : List _). length l ≤ i) same end))
 
 -- two keys that tie are those of the same rows
-
-pub eq_is : (o : Ordering) → is_eq o ≡ true → o ≡ Equal
-eq_is Less e = cc
-eq_is Equal e = refl
-eq_is Greater e = cc
 
 pub same_test : {K X : Type 0} (cmp : K → K → Ordering) (key : X → K) → IsTotalOrder cmp → (a b : K) → is_eq (cmp a b) ≡ true →
     has_key cmp key a ≡ has_key cmp key b

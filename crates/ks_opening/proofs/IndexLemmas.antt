@@ -1,5 +1,5 @@
 -- An index of rows that is built one row after the other.
-use Rattle.std.proofs.Common.{◌≡◌, ℕ, suc, ◌+◌, ◌<◌, ◌≤◌, Bool, true, false, ◌||◌, cond, List, [], ◌∷◌, ◌++◌, length, take, drop, get_or, Option, Some, None, IfSome, is_some, refl, sym, ap, subst, ◌∙◌, arith}
+use Rattle.std.proofs.Common.{◌≡◌, ℕ, suc, ◌+◌, ◌<◌, ◌≤◌, Bool, true, false, cond, List, [], ◌∷◌, ◌++◌, length, take, drop, get_or, Option, Some, None, IfSome, is_some, refl, sym, ap, subst, ◌∙◌, arith}
 use std.Path.{fun_ext}
 use denote.Ref.{Bor}
 use Rattle.std.specs.declared.cmp.Ordering.{Ordering}
@@ -14,6 +14,7 @@ use Rattle.ks_base.specs.Refusals.{fault_if}
 use Rattle.ks_base.specs.Rows.{Id, same}
 use Rattle.ks_base.specs.Tables.{find_row, has_key, id_cmp}
 use Rattle.ks_base.proofs.RowLemmas.{id_same}
+use Rattle.ks_base.proofs.OptionLemmas.{none_is}
 use Rattle.ks_machine.specs.declared.settings.OpenFault.{OpenFault}
 use Rattle.ks_machine.specs.declared.settings.OpenFault.TheVariants as fault
 use Rattle.ks_machine.specs.Opened.{first_in, id_repeated}
@@ -21,6 +22,7 @@ use Rattle.std.specs.BTreeMap.{BTreeMap, IsEmpty, Updates, get}
 use Rattle.std.proofs.lemmas.Cmp.{nat_list_cmp_total}
 use Rattle.std.proofs.lemmas.List.{length-take-le, take_all, take_more}
 use Rattle.std.proofs.lemmas.List.Folds.{list_any-append}
+use Rattle.std.proofs.lemmas.Bool.{or_parts}
 use Rattle.ks_opening.specs.steps.Indexed.{AreApart, IsIndex, place_of}
 use Rattle.ks_opening.proofs.FindLemmas.{at_place, at_place_within, find_early, find_late, first_end, first_here, first_later, no_place, place_push, same_test, some_place}
 
@@ -128,16 +130,12 @@ pub built_none : {R : Type 0} (kind : Kind) (key : R → Id) (rows : List R) (pl
 unfolding place_of
 built_none kind key rows places empty = record { finds = λ id. rw empty refl; apart = tt; rest = refl }
 
-none_of : {X : Type 0} (o : Option X) → is_some o ≡ false → o ≡ None
-none_of None e = refl
-none_of (Some x) e = cc
-
 pub built_more : {R : Type 0} (kind : Kind) (key : R → Id) (rows : List R) (places more : BTreeMap Id ℕ) (at : ℕ) (row : R) (id : Id) (earlier : Option ℕ) →
     at < length rows → row ≡ get_or rows at row → id ≡ key row → earlier ≡ get id_cmp places id → Updates id_cmp places more id (Some at) → is_some earlier ≡ false →
     IsBuilt kind key rows places at → IsBuilt kind key rows more (at + 1)
 built_more kind key rows places more at row id earlier within is id_is old updates fresh built =
     let none : place_of (has_key id_cmp key (key row)) (take at rows) ≡ None =
-    sym (built.finds (key row)) ∙ ap (get id_cmp places) (sym id_is) ∙ sym old ∙ none_of earlier fresh in
+    sym (built.finds (key row)) ∙ ap (get id_cmp places) (sym id_is) ∙ sym old ∙ none_is earlier fresh in
     let next : take (at + 1) rows ≡ take at rows ++ row ∷ [] = take_more rows at row within ∙ ap (λ (x : _). take at rows ++ x ∷ []) (sym is) in
     let long : at ≡ length (take at rows) = sym (length-take-le at rows (omega (arith, within))) in record {
       finds = λ other. updates.0 other ∙ ap (λ k. cond (is_eq (id_cmp k other)) (Some at) (get id_cmp places other)) id_is
@@ -170,10 +168,6 @@ built_all kind key rows places at end built =
 
 -- where no id is repeated, no two rows have one id
 
-or_false : (a b : Bool) → (a || b) ≡ false → (a ≡ false) × (b ≡ false)
-or_false true b none = cc
-or_false false b none = (refl, none)
-
 not_repeated : (b : Bool) (why : OpenFault) (rest : Option OpenFault) → option_or (fault_if b why) rest ≡ None → (b ≡ false) × (rest ≡ None)
 not_repeated true why rest none = cc
 not_repeated false why rest none = (refl, none)
@@ -186,15 +180,15 @@ earlier_new : {R : Type 0} (key : R → Id) (before : List R) (row : R) (rows : 
 earlier_new key before row [] all = tt
 earlier_new key before row (next ∷ rows) all =
     let test : _ → Bool = λ other. same (key other) (key next) in
-    ((or_false (list_any test before) (list_any test (row ∷ [])) (sym (list_any-append test before (row ∷ [])) ∙ all.0)).0, earlier_new key before row rows all.1)
+    ((or_parts (list_any test before) (list_any test (row ∷ [])) (sym (list_any-append test before (row ∷ [])) ∙ all.0)).0, earlier_new key before row rows all.1)
 
 apart_new : {R : Type 0} (key : R → Id) (before : List R) (row : R) (rows : List R) → AllByRecursion (IsNew key (before ++ row ∷ [])) rows →
     AllByRecursion (λ other. has_key id_cmp key (key row) other ≡ false) rows
 apart_new key before row [] all = tt
 apart_new key before row (next ∷ rows) all =
     let test : _ → Bool = λ other. same (key other) (key next) in
-    let both = or_false (list_any test before) (list_any test (row ∷ [])) (sym (list_any-append test before (row ∷ [])) ∙ all.0) in
-    let apart = (or_false (same (key row) (key next)) false both.1).0 in (
+    let both = or_parts (list_any test before) (list_any test (row ∷ [])) (sym (list_any-append test before (row ∷ [])) ∙ all.0) in
+    let apart = (or_parts (same (key row) (key next)) false both.1).0 in (
       ap is_eq (nat_list_cmp_total.antisymm (key next) (key row)) ∙ eq_back (id_cmp (key row) (key next)) ∙ id_same (key row) (key next) ∙ apart,
       apart_new key before row rows all.1,
     )

@@ -2,7 +2,7 @@
 use Rattle.std.proofs.Common.{◌≡◌, ℕ, ◌+◌, ◌<◌, ◌≤◌, Bool, true, false, ◌&&◌, cond, List, [], ◌∷◌, ◌++◌, length, take, drop, get_or, Option, Some, None, refl, sym, ap, ◌∙◌}
 use std.Path.{fun_ext}
 use denote.Ref.{Bor}
-use Rattle.std.specs.BTreeMap.{BTreeMap, IsEmpty, Updates, get}
+use Rattle.std.specs.BTreeMap.{BTreeMap, Updates, get}
 use Rattle.std.specs.declared.cmp.Ordering.{Ordering}
 use Rattle.std.specs.declared.cmp.Ordering.TheVariants.{Less, Equal, Greater}
 use Rattle.std.specs.Cmp.{IsTotalOrder}
@@ -78,10 +78,6 @@ fault_of kind id home name = name_taken kind id (has_name_of home name)
 pub record IsNamed {R : Type 0} (kind : Kind) (id home : R → Id) (name : R → Text) (rows : List R) (named : BTreeMap Lent Id) (at : ℕ) : Type 0 where
   pub finds : (q : Lent) → get lent_cmp named q ≡ option_map id (find (has_key full_cmp (full_of home name) (q.0.now, q.1.now)) (take at rows))
   pub rest : first_in (fault_of kind id home name) (take at rows) (drop at rows) ≡ first_in (fault_of kind id home name) [] rows
-
-pub named_none : {R : Type 0} (kind : Kind) (id home : R → Id) (name : R → Text) (rows : List R) (named : BTreeMap Lent Id) → IsEmpty named →
-    IsNamed kind id home name rows named 0
-named_none kind id home name rows named empty = record { finds = λ q. rw empty refl; rest = refl }
 
 -- what stood under the name of a row tells its fault
 taken : {R : Type 0} (kind : Kind) (id home : R → Id) (name : R → Text) (rows : List R) (named : BTreeMap Lent Id) (at : ℕ) (row : R) (key : Lent)

@@ -15,8 +15,8 @@ use Rattle.ks_base.specs.declared.rows.ProjectRow.{ProjectRow}
 use Rattle.ks_base.specs.Refusals.{fault_if, fault_in, first_of}
 use Rattle.ks_base.specs.RoleFaults.{is_admin}
 use Rattle.ks_base.specs.Rows.{Id, Rows, domain_of, group_of, project_of, role_of, user_of}
-use Rattle.ks_base.specs.Tables.{find_row, has_key, id_cmp, put_row}
-use Rattle.ks_base.specs.Tree.{above, above_within, is_top, parent_of, with_parent}
+use Rattle.ks_base.specs.Tables.{find_row, has_key, id_cmp, put_row, with_higher}
+use Rattle.ks_base.specs.Tree.{above, above_within, is_top, parent_of}
 use Rattle.ks_base.proofs.RowLemmas.{length_put_new}
 use Rattle.ks_machine.specs.declared.settings.OpenFault.{OpenFault}
 use Rattle.ks_machine.specs.declared.settings.OpenFault.TheVariants as fault
@@ -79,7 +79,7 @@ parent_alike a b alike row = λ i. if is_top row then None else alike.projects r
 within_alike : (a b : Rows) → Alike a b → (steps : ℕ) (row : ProjectRow) → above_within steps a.projects row ≡ above_within steps b.projects row
 unfolding above_within
 within_alike a b alike zero row = refl
-within_alike a b alike (suc steps) row = λ i. with_parent (fun_ext (within_alike a b alike steps) i) (parent_alike a b alike row i)
+within_alike a b alike (suc steps) row = λ i. with_higher (fun_ext (within_alike a b alike steps) i) (parent_alike a b alike row i)
 
 above_alike : (a b : Rows) → Alike a b → (row : ProjectRow) → above a.projects row ≡ above b.projects row
 above_alike a b alike row =

@@ -10,11 +10,12 @@ use Rattle.std.proofs.lemmas.Cmp.{alike_right, tied_back, tied_itself}
 use Rattle.std.proofs.lemmas.List.Elements.{All-from_recursion, recursion_from_All}
 use Rattle.std.proofs.lemmas.List.Sorted.{All-permutation, IsPermutation-sym}
 use Rattle.ks_base.specs.Tables.{Among, AreAbove, IsAscending, find_row, has_key, put_row}
-use Rattle.ks_base.proofs.RowLemmas.{find_put, find_put_other, found_among}
+use Rattle.ks_base.proofs.RowLemmas.{find_put, find_put_other, found_among, eq_is, find_above}
 use Rattle.ks_base.proofs.TableLemmas.{ascending_put}
+use Rattle.ks_base.proofs.AmongLemmas.{all_among}
 use Rattle.ks_machine.specs.Opened.{put_all}
 use Rattle.ks_opening.specs.steps.Indexed.{AreApart}
-use Rattle.ks_opening.proofs.FindLemmas.{eq_is, same_test}
+use Rattle.ks_opening.proofs.FindLemmas.{same_test}
 
 -- all rows put ascend, and are found as in their list
 
@@ -40,14 +41,6 @@ find_all cmp key o k (row ∷ rows) =
 
 -- tables in which each key finds the same are the same
 
-find_above : {K X : Type 0} (cmp : K → K → Ordering) (key : X → K) → IsTotalOrder cmp → (low k : K) (rows : List X) → cmp low k ≡ Equal →
-    AreAbove cmp key low rows → find (has_key cmp key k) rows ≡ None
-find_above cmp key o low k [] is above = refl
-find_above cmp key o low k (row ∷ rows) is above =
-    let less : cmp k (key row) ≡ Less = sym (o.congr low k (key row) is) ∙ above.0 in
-    let greater : cmp (key row) k ≡ Greater = o.antisymm (key row) k ∙ ap ordering_reverse less in
-    rw greater (find_above cmp key o low k rows is above.1)
-
 find_low : {K X : Type 0} (cmp : K → K → Ordering) (key : X → K) → IsTotalOrder cmp → (k low : K) (rows : List X) → cmp k low ≡ Less →
     AreAbove cmp key low rows → find (has_key cmp key k) rows ≡ None
 find_low cmp key o k low [] is above = refl
@@ -71,7 +64,7 @@ tails_by : {K X : Type 0} (cmp : K → K → Ordering) (key : X → K) → IsTot
     find (has_key cmp key k) rows ≡ find (has_key cmp key k) others
 tails_by cmp key o k row rows others true is above also same =
     let tied = eq_is (cmp (key row) k) is in
-    find_above cmp key o (key row) k rows tied above ∙ sym (find_above cmp key o (key row) k others tied also)
+    find_above cmp key o k (key row) rows tied above ∙ sym (find_above cmp key o k (key row) others tied also)
 tails_by cmp key o k row rows others false is above also same = same
 
 same_rows_by : {K X : Type 0} (cmp : K → K → Ordering) (key : X → K) → IsTotalOrder cmp → (row next : X) (rows others : List X) (is : Ordering) →
@@ -123,14 +116,9 @@ among_itself : {X : Type 0} (rows : List X) → AllByRecursion (Among rows) rows
 among_itself [] = tt
 among_itself (row ∷ rows) = (inl refl, among_more row rows rows (among_itself rows))
 
-at_among : {X : Type 0} (P : X → Type 0) (rows : List X) (row : X) → AllByRecursion P rows → Among rows row → P row
-at_among P [] row all among = absurd among
-at_among P (next ∷ rows) row all (inl same) = subst P same all.0
-at_among P (next ∷ rows) row all (inr among) = at_among P rows row all.1 among
-
 among_moved : {X : Type 0} (rows moved : List X) (row : X) → IsPermutation rows moved → Among moved row → Among rows row
 among_moved rows moved row is among =
-    at_among (Among rows) moved row
+    all_among (Among rows) moved row
     (recursion_from_All (Among rows) moved (All-permutation (Among rows) rows moved is (All-from_recursion (Among rows) rows (among_itself rows)))) among
 
 -- the key of a row tells it among these
@@ -140,7 +128,7 @@ TellRows {K} {X} cmp key rows = (a b : X) → Among rows a → Among rows b → 
 apart_from : {K X : Type 0} (cmp : K → K → Ordering) (key : X → K) (low row : X) (rows : List X) →
     AllByRecursion (λ other. has_key cmp key (key low) other ≡ false) rows → Among rows row → cmp (key row) (key low) ≡ Equal → ⊥
 apart_from cmp key low row rows all among is =
-    let other = at_among (λ next. has_key cmp key (key low) next ≡ false) rows row all among in
+    let other = all_among (λ next. has_key cmp key (key low) next ≡ false) rows row all among in
     let tied : is_eq (cmp (key row) (key low)) ≡ true = ap is_eq is in
     cc
 

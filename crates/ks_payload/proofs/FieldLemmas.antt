@@ -3,8 +3,9 @@ use Rattle.std.proofs.Common.{◌≡◌, ℕ, zero, suc, ◌<◌, ◌≤◌, Boo
 use Rattle.std.specs.Prelude.{option_and_then, option_map, is_some, IfSome}
 use Rattle.std.proofs.Math.Seq.{take-append_seam, drop-append_seam}
 use Rattle.std.proofs.lemmas.List.{take-append-drop, length-take-le}
-use Rattle.std.proofs.lemmas.Bool.{and_parts}
+use Rattle.std.proofs.lemmas.Bool.{and_parts, and_from}
 use Rattle.std.proofs.lemmas.Bool.Decides.{nat_tests}
+use Rattle.std.proofs.lemmas.Option.{cond_some}
 use Rattle.std.specs.List.{list_all}
 use Rattle.hex.specs.Hex.{IsBytes, encode_lower}
 use Rattle.ks_base.specs.Ids.{IsId, is_id_byte}
@@ -12,11 +13,7 @@ use Rattle.ks_payload.specs.IdFields.{is_hex_id, bytes_of_digits, id_field}
 use Rattle.ks_payload.specs.Payloads.{field_if_any, IsSixteenBytes}
 use Rattle.ks_payload.specs.Laws.{IsIdField}
 use Rattle.ks_payload.specs.Readings.{take_number, take_bytes, take_plain_id, take_hex_id, take_id, take_if}
-use Rattle.ks_payload.proofs.HexLemmas.{both, is_hex_id_of_bytes, bytes_of_encoded, hex_id_bytes, IsId-encoded}
-
-pub some_from_if : {A : Type 0} (t : Bool) (x y : A) → cond t (Some x) None ≡ Some y → (t ≡ true) × (x ≡ y)
-some_from_if true x y h = (refl, cc)
-some_from_if false x y h = cc h
+use Rattle.ks_payload.proofs.HexLemmas.{is_hex_id_of_bytes, bytes_of_encoded, hex_id_bytes, IsId-encoded}
 
 pub bind_some : {A B : Type 0} (o : Option A) (f : A → Option B) (y : B) → option_and_then f o ≡ Some y →
     (x : A) × (o ≡ Some x) × (f x ≡ Some y)
@@ -29,7 +26,7 @@ pub list_all_bytes : (xs : List ℕ) → IsBytes xs → list_all (λ b. nat_lt b
 list_all_bytes [] h = refl
 list_all_bytes (b ∷ rest) h =
     let fits : b < 256 = h 0 in
-    both (nat_lt b 256) (list_all (λ c. nat_lt c 256) rest) (grind (arith, nat_tests)) (list_all_bytes rest (λ k. h (suc k)))
+    and_from (nat_lt b 256) (list_all (λ c. nat_lt c 256) rest) (grind (arith, nat_tests)) (list_all_bytes rest (λ k. h (suc k)))
 
 pub bytes_from_list_all : (xs : List ℕ) → list_all (λ b. nat_lt b 256) xs ≡ true → IsBytes xs
 bytes_from_list_all [] h = λ k. omega arith
@@ -47,21 +44,21 @@ pub taken_number : (least most : ℕ) (xs : List ℕ) (f : ℕ × List ℕ) → 
 unfolding take_number
 taken_number least most [] f h = cc h
 taken_number least most (b ∷ rest) f h =
-    let p = some_from_if (nat_le least b && nat_le b most) (b, rest) f h in
+    let p = cond_some (nat_le least b && nat_le b most) (b, rest) f h in
     let q = and_parts (nat_le least b) (nat_le b most) p.0 in
     rw (← p.1) (grind (arith, nat_tests, q.0), grind (arith, nat_tests, q.1), refl)
 
 pub takes_number : (least most b : ℕ) (rest : List ℕ) → least ≤ b → b ≤ most → take_number least most (b ∷ rest) ≡ Some (b, rest)
 unfolding take_number
 takes_number least most b rest low high =
-    let e : (nat_le least b && nat_le b most) ≡ true = both (nat_le least b) (nat_le b most) (grind (arith, nat_tests)) (grind (arith, nat_tests)) in
+    let e : (nat_le least b && nat_le b most) ≡ true = and_from (nat_le least b) (nat_le b most) (grind (arith, nat_tests)) (grind (arith, nat_tests)) in
     rw e refl
 
 pub taken_bytes : (n : ℕ) (xs : List ℕ) (f : List ℕ × List ℕ) → take_bytes n xs ≡ Some f →
     (length f.0 ≡ n) × IsBytes f.0 × (xs ≡ f.0 ++ f.1)
 unfolding take_bytes
 taken_bytes n xs f h =
-    let p = some_from_if (nat_le n (length xs) && list_all (λ b. nat_lt b 256) (take n xs)) (take n xs, drop n xs) f h in
+    let p = cond_some (nat_le n (length xs) && list_all (λ b. nat_lt b 256) (take n xs)) (take n xs, drop n xs) f h in
     let q = and_parts (nat_le n (length xs)) (list_all (λ b. nat_lt b 256) (take n xs)) p.0 in
     let long : n ≤ length xs = grind (arith, nat_tests, q.0) in
     rw (← p.1) (length-take-le n xs long, bytes_from_list_all (take n xs) q.1, sym (take-append-drop n xs))
@@ -100,8 +97,8 @@ plain_test_parts n id h =
 
 plain_test_from : (id : List ℕ) → IsId id → is_hex_id id ≡ false → plain_test (length id) id ≡ true
 plain_test_from id is plain =
-    both (nat_lt 0 (length id)) _ (some_item (length id) is.0)
-    (both (nat_le (length id) 64) _ (few_items (length id) is.1) (both (list_all is_id_byte id) (not (is_hex_id id)) is.2 (rw plain refl)))
+    and_from (nat_lt 0 (length id)) _ (some_item (length id) is.0)
+    (and_from (nat_le (length id) 64) _ (few_items (length id) is.1) (and_from (list_all is_id_byte id) (not (is_hex_id id)) is.2 (rw plain refl)))
   where
     some_item : (n : ℕ) → 0 < n → nat_lt 0 n ≡ true
     some_item n h = grind (arith, nat_tests)
@@ -121,7 +118,7 @@ pub taken_plain_id : (n : ℕ) (xs : List ℕ) (f : List ℕ × List ℕ) → ta
     IsId f.0 × (0 < n) × (n ∷ xs ≡ id_field f.0 ++ f.1)
 unfolding take_plain_id
 taken_plain_id n xs f h =
-    let p = some_from_if (nat_le n (length xs) && plain_test n (take n xs)) (take n xs, drop n xs) f h in
+    let p = cond_some (nat_le n (length xs) && plain_test n (take n xs)) (take n xs, drop n xs) f h in
     let q = and_parts (nat_le n (length xs)) (plain_test n (take n xs)) p.0 in
     let r = plain_test_parts n (take n xs) q.1 in
     let long : n ≤ length xs = grind (arith, nat_tests, q.0) in

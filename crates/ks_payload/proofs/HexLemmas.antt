@@ -1,6 +1,6 @@
 -- Lower hex digits and the bytes that they spell.
-use Rattle.std.proofs.Common.{◌≡◌, ℕ, zero, suc, ◌+◌, ◌*◌, ◌/◌, ◌%◌, ◌<◌, Bool, true, false, not, ◌&&◌, ◌||◌, ◌==◌, nat_lt, List, [], ◌∷◌, length, slice_index, refl, arith, inl, inr}
-use Rattle.std.proofs.lemmas.Bool.{and_parts, cases_lt, eqb-true}
+use Rattle.std.proofs.Common.{◌≡◌, ℕ, zero, suc, ◌+◌, ◌*◌, ◌/◌, ◌%◌, ◌<◌, Bool, true, false, not, ◌&&◌, ◌||◌, ◌==◌, nat_lt, List, [], ◌∷◌, length, slice_index, refl, arith}
+use Rattle.std.proofs.lemmas.Bool.{and_parts, eqb-true, and_from, agree_below, agree_below_at}
 use Rattle.std.proofs.lemmas.Bool.Decides.{nat_tests}
 use Rattle.std.specs.List.{list_all}
 use Rattle.hex.specs.Hex.{IsBytes, encode_lower, encode_with, lower_digits}
@@ -8,43 +8,26 @@ use Rattle.hex.proofs.HexLemmas.{length-encode_with}
 use Rattle.ks_base.specs.Ids.{IsId, is_id_byte}
 use Rattle.ks_payload.specs.IdFields.{is_lower_digit, is_hex_id, digit_value, bytes_of_digits}
 
-abbrev all_below : (ℕ → Bool) → ℕ → Bool
-all_below p zero = true
-all_below p (suc n) = p n && all_below p n
-
-all_below_at : (p : ℕ → Bool) (n k : ℕ) → all_below p n ≡ true → k < n → p k ≡ true
-all_below_at p zero k h lt = absurd (omega arith)
-all_below_at p (suc n) k h lt =
-    let parts = and_parts (p n) (all_below p n) h in
-    elim (cases_lt k n) [
-      | inl below ↦ all_below_at p n k parts.1 below
-      | inr top ↦ let e : k ≡ n = omega arith in rw e parts.0
-    ]
-
-pub both : (a b : Bool) → a ≡ true → b ≡ true → (a && b) ≡ true
-both true b ha hb = hb
-both false b ha hb = cc ha
-
 -- ---- one digit
 
 digit_test : ℕ → Bool
 digit_test d = is_lower_digit (slice_index lower_digits d) && (digit_value (slice_index lower_digits d) == d)
 
-digit_tests : all_below digit_test 16 ≡ true
+digit_tests : agree_below digit_test (λ _. true) 16 ≡ true
 unfolding digit_test
 digit_tests = refl
 
 digit_of_value : (d : ℕ) → d < 16 → (is_lower_digit (slice_index lower_digits d) ≡ true) × (digit_value (slice_index lower_digits d) ≡ d)
 unfolding digit_test
 digit_of_value d lt =
-    let parts = and_parts (is_lower_digit (slice_index lower_digits d)) (digit_value (slice_index lower_digits d) == d) (all_below_at digit_test 16 d digit_tests lt) in
+    let parts = and_parts (is_lower_digit (slice_index lower_digits d)) (digit_value (slice_index lower_digits d) == d) (agree_below_at digit_test (λ _. true) 16 d digit_tests lt) in
     (parts.0, eqb-true (digit_value (slice_index lower_digits d)) d parts.1)
 
 -- what is known of a byte that is a lower digit
 value_test : ℕ → Bool
 value_test c = nat_lt (digit_value c) 16 && ((slice_index lower_digits (digit_value c) == c) && is_id_byte c)
 
-value_tests : all_below (λ c. not (is_lower_digit c) || value_test c) 103 ≡ true
+value_tests : agree_below (λ c. not (is_lower_digit c) || value_test c) (λ _. true) 103 ≡ true
 unfolding value_test
 value_tests = refl
 
@@ -58,7 +41,7 @@ lower_digit_small c h = grind (arith, nat_tests)
 value_of_digit : (c : ℕ) → is_lower_digit c ≡ true → (digit_value c < 16) × (slice_index lower_digits (digit_value c) ≡ c) × (is_id_byte c ≡ true)
 unfolding value_test
 value_of_digit c h =
-    let t = or_second (is_lower_digit c) (value_test c) (all_below_at (λ b. not (is_lower_digit b) || value_test b) 103 c value_tests (lower_digit_small c h)) h in
+    let t = or_second (is_lower_digit c) (value_test c) (agree_below_at (λ b. not (is_lower_digit b) || value_test b) (λ _. true) 103 c value_tests (lower_digit_small c h)) h in
     let p = and_parts (nat_lt (digit_value c) 16) ((slice_index lower_digits (digit_value c) == c) && is_id_byte c) t in
     let q = and_parts (slice_index lower_digits (digit_value c) == c) (is_id_byte c) p.1 in
     (grind (arith, nat_tests), eqb-true (slice_index lower_digits (digit_value c)) c q.0, q.1)
@@ -72,7 +55,7 @@ lower_digits_of_bytes (b ∷ rest) h =
     let fits : b < 256 = h 0 in
     let high = digit_of_value (b / 16) (omega arith) in
     let low = digit_of_value (b % 16) (omega arith) in
-    both _ _ high.0 (both _ _ low.0 (lower_digits_of_bytes rest (λ k. h (suc k))))
+    and_from _ _ high.0 (and_from _ _ low.0 (lower_digits_of_bytes rest (λ k. h (suc k))))
 
 pub bytes_of_encoded : (xs : List ℕ) → IsBytes xs → bytes_of_digits (encode_lower xs) ≡ xs
 unfolding encode_with bytes_of_digits
@@ -127,7 +110,7 @@ id_bytes_of_digits : (ds : List ℕ) → list_all is_lower_digit ds ≡ true →
 id_bytes_of_digits [] h = refl
 id_bytes_of_digits (d ∷ ds) h =
     let p = and_parts (is_lower_digit d) (list_all is_lower_digit ds) h in
-    both _ _ (value_of_digit d p.0).2 (id_bytes_of_digits ds p.1)
+    and_from _ _ (value_of_digit d p.0).2 (id_bytes_of_digits ds p.1)
 
 pub IsId-encoded : (xs : List ℕ) → length xs ≡ 16 → IsBytes xs → IsId (encode_lower xs)
 IsId-encoded xs long h =

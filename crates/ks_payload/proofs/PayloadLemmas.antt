@@ -4,6 +4,7 @@ use Rattle.std.proofs.lemmas.Bool.{eqb-true}
 use Rattle.std.specs.Prelude.{◌⊎◌, ◌↔◌, is_some, IfSome, slice_get}
 use Rattle.std.proofs.lemmas.Bool.Decides.{nat_tests}
 use Rattle.std.proofs.lemmas.Nat.{be_bytes_8, from_be_bytes-to_be_bytes_8}
+use Rattle.std.proofs.lemmas.Option.{cond_some}
 use Rattle.std.specs.Int.{w64, to_be_bytes, from_be_bytes, bytes_high_first, byte_at}
 use Rattle.hex.specs.Hex.{IsBytes}
 use Rattle.ks_base.specs.Ids.{IsId}
@@ -11,7 +12,7 @@ use Rattle.ks_payload.specs.IdFields.{id_field}
 use Rattle.ks_payload.specs.Payloads.{has_domain, has_project, has_trust, has_credential, last_expiry, field_if_any, audit_field, scope_field, fields, spelling, old_spelling, IsSixteenBytes, IsInRange, IsPayload}
 use Rattle.ks_payload.specs.Readings.{take_number, take_bytes, take_id, take_if, last_kind, take_head, take_scope, take_expiry, take_audits, take_payload, payload_of, if_whole}
 use Rattle.ks_payload.specs.declared.payload.Payload.{Payload}
-use Rattle.ks_payload.proofs.FieldLemmas.{some_from_if, bind_some, taken_number, takes_number, taken_bytes, takes_bytes, taken_id, takes_id, taken_id_if, takes_id_if, taken_bytes_if, chain_bytes}
+use Rattle.ks_payload.proofs.FieldLemmas.{bind_some, taken_number, takes_number, taken_bytes, takes_bytes, taken_id, takes_id, taken_id_if, takes_id_if, taken_bytes_if, chain_bytes}
 
 -- ---- the version
 
@@ -126,7 +127,7 @@ unfolding take_expiry
 taken_expiry xs f h =
     let b = bind_some (take_bytes 8 xs) _ f h in
     let t = taken_bytes 8 xs b.0 b.1 in
-    let p = some_from_if (nat_le (from_be_bytes w64 b.0.0) last_expiry) (from_be_bytes w64 b.0.0, b.0.1) f b.2 in
+    let p = cond_some (nat_le (from_be_bytes w64 b.0.0) last_expiry) (from_be_bytes w64 b.0.0, b.0.1) f b.2 in
     let low = at_most (from_be_bytes w64 b.0.0) last_expiry p.0 in
     rw (← p.1) (low, t.2 ∙ ap (λ ys. ys ++ b.0.1) (sym (be_bytes_8 b.0.0 (from_be_bytes w64 b.0.0) t.0 t.1 refl)))
   where

@@ -6,15 +6,11 @@ use Rattle.ks_base.specs.declared.users.MemberRow.{MemberRow}
 use Rattle.ks_base.specs.declared.rows.GroupRow.{GroupRow}
 use Rattle.ks_base.specs.declared.users.UserRow.{UserRow}
 use Rattle.ks_base.specs.People.{PeopleState, groups_of, is_of_group, is_of_user, members_of}
-use Rattle.ks_base.specs.Rows.{Id, same}
+use Rattle.ks_base.specs.Rows.{Id, same, has_id}
+use Rattle.ks_base.proofs.ListLemmas.{filter_alike}
 use Rattle.ks_machine.specs.declared.body_out.Row.{Row}
 use Rattle.ks_machine.specs.declared.body_out.Row.TheVariants as row
 use Rattle.ks_machine.specs.Effective.{is_member}
-use Rattle.ks_plan.specs.ByIds.{is_group_among, is_user_among}
-
-pub filter_alike : {X : Type 0} (p q : X → Bool) (xs : List X) → ((x : X) → p x ≡ q x) → filter p xs ≡ filter q xs
-filter_alike p q [] alike = refl
-filter_alike p q (x ∷ xs) alike = rw (alike x, filter_alike p q xs alike) refl
 
 -- one more membership, of this group (a) and of this user (b)
 more : (a b x y : Bool) → x ≡ y → (a || x) ≡ ((a && true) || y)
@@ -51,20 +47,20 @@ any_user (member ∷ members) group user = user_by (same member.group group) mem
 
 pub found_groups : (state : PeopleState) (user : Id) (ids : List Id) (groups : List GroupRow) (found : Result (List Row) Memory) →
     ids ≡ groups_of user state → groups ≡ state.groups →
-    IfOk found (λ rows. rows ≡ map (λ group. row.Group group) (filter (is_group_among ids) groups)) →
+    IfOk found (λ rows. rows ≡ map (λ group. row.Group group) (filter (λ group. has_id ids group.id) groups)) →
     IfOk found (λ rows. rows ≡ map (λ group. row.Group group) (filter (λ group. is_member state.members group.id user) state.groups))
 found_groups state user ids groups (Ok rows) of all is =
-    let by_ids : rows ≡ map (λ group. row.Group group) (filter (is_group_among (groups_of user state)) state.groups) = rw (of, all) at is in
+    let by_ids : rows ≡ map (λ group. row.Group group) (filter (λ group. has_id (groups_of user state) group.id) state.groups) = rw (of, all) at is in
     by_ids ∙ ap (map (λ group. row.Group group))
-    (filter_alike (is_group_among (groups_of user state)) (λ group. is_member state.members group.id user) state.groups (λ group. any_group state.members user group.id))
+    (filter_alike (λ group. has_id (groups_of user state) group.id) (λ group. is_member state.members group.id user) state.groups (λ group _. any_group state.members user group.id))
 found_groups state user ids groups (Err memory) of all is = tt
 
 pub found_users : (state : PeopleState) (group : Id) (ids : List Id) (users : List UserRow) (found : Result (List Row) Memory) →
     ids ≡ members_of group state → users ≡ state.users →
-    IfOk found (λ rows. rows ≡ map (λ user. row.User user) (filter (is_user_among ids) users)) →
+    IfOk found (λ rows. rows ≡ map (λ user. row.User user) (filter (λ user. has_id ids user.id) users)) →
     IfOk found (λ rows. rows ≡ map (λ user. row.User user) (filter (λ user. is_member state.members group user.id) state.users))
 found_users state group ids users (Ok rows) of all is =
-    let by_ids : rows ≡ map (λ user. row.User user) (filter (is_user_among (members_of group state)) state.users) = rw (of, all) at is in
+    let by_ids : rows ≡ map (λ user. row.User user) (filter (λ user. has_id (members_of group state) user.id) state.users) = rw (of, all) at is in
     by_ids ∙ ap (map (λ user. row.User user))
-    (filter_alike (is_user_among (members_of group state)) (λ user. is_member state.members group user.id) state.users (λ user. any_user state.members group user.id))
+    (filter_alike (λ user. has_id (members_of group state) user.id) (λ user. is_member state.members group user.id) state.users (λ user _. any_user state.members group user.id))
 found_users state group ids users (Err memory) of all is = tt

@@ -1,13 +1,10 @@
 -- A list from one place on is its item there, and the list from the next place on.
-use Rattle.std.proofs.Common.{◌≡◌, ℕ, suc, ◌+◌, ◌<◌, List, ◌∷◌, ◌++◌, length, drop, get_or, sym, ap, ◌∙◌, add-one, append_assoc}
-use Rattle.std.proofs.Math.Seq.{drop-cons}
+use Rattle.std.proofs.Common.{◌≡◌, ℕ, ◌+◌, ◌<◌, List, ◌++◌, length, drop, get_or, append_assoc}
 use Rattle.ks_base.specs.declared.grants.GrantRow.{GrantRow}
 use Rattle.ks_base.specs.declared.grants.Target.{Target}
 use Rattle.ks_base.specs.Rows.{Id, Rows}
+use Rattle.ks_base.proofs.ListLemmas.{drop_at}
 use Rattle.ks_machine.specs.Assignments.{given_at, given_to}
-
-pub drop_at : {X : Type 0} (xs : List X) (i : ℕ) (x : X) → i < length xs → x ≡ get_or xs i x → drop i xs ≡ x ∷ drop (i + 1) xs
-drop_at xs i x lt is = drop-cons xs i x lt ∙ rw add-one (ap (λ first. first ∷ drop (suc i) xs) (sym is))
 
 pub given_more : (rows : Rows) (user : Id) (targets : List Target) (i : ℕ) (place : Target) (before after : List GrantRow) →
     i < length targets → place ≡ get_or targets i place → before ++ given_to rows user (drop i targets) ≡ given_to rows user targets →

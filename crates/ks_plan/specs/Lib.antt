@@ -1,4 +1,3 @@
-pub mod ByIds
 pub mod Checked
 pub mod Demands
 pub mod KeysTold
@@ -6,6 +5,5 @@ pub mod Logins
 pub mod Parties
 pub mod Planned
 pub mod Plans
-pub mod Strangers
 pub mod Tokens
 pub mod Views

@@ -1,9 +1,8 @@
 -- What a login has shown, and where its token is for, as the machine's definitions see them.
-use Rattle.std.specs.List.{list_any}
 use Rattle.std.specs.Prelude.{ℕ, ◌≤◌, List, Option, Some, None}
 use Rattle.ks_base.specs.declared.limits.TheConstants.{LAST_SECOND}
 use Rattle.ks_base.specs.declared.trusts.TrustRow.{TrustRow}
-use Rattle.ks_base.specs.Rows.{Id, same}
+use Rattle.ks_base.specs.Rows.{Id, has_id}
 use Rattle.ks_base.specs.declared.faults.TrustFault.TheVariants as fault
 use Rattle.ks_machine.specs.Attempts.{Attempt, need}
 use Rattle.ks_machine.specs.declared.cause.Cause.{Cause}
@@ -63,4 +62,4 @@ scoped_of scope = record {
 
 -- a role is one of those that are held
 abbrev pub role_held : List Id → Id → Attempt Cause (Unit {0})
-role_held held role = need (list_any (λ id. same id role) held) (cause.Trust (fault.RoleLost role))
+role_held held role = need (has_id held role) (cause.Trust (fault.RoleLost role))

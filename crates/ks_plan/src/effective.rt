@@ -5,7 +5,8 @@ ghost use Rattle.ks_auth.specs.Answers.{rows_told};
 ghost use Rattle.ks_base.specs.Ids.{IsId};
 ghost use Rattle.ks_base.specs.Rows.{same};
 ghost use Rattle.ks_machine.specs.Assignments.{given_to, targets};
-ghost use Rattle.ks_plan.specs.Strangers.{is_to_user};
+ghost use Rattle.ks_base.specs.Grants.{is_of_actor};
+ghost use Rattle.ks_base.specs.declared.grants.Actor.TheVariants as actors;
 
 use ks_auth::{Tables, roles_at};
 use ks_base::{Actor, GrantList, GrantRow, Id, IdList, MemberRow, Memory, Target, Text};
@@ -74,7 +75,7 @@ fn none_is_member(members: &[MemberRow], user: &[u8])
 /// No grant to a user names what is no id.
 fn none_is_granted(grants: &[GrantRow], user: &[u8])
     requires { ¬ IsId user.now }
-    ensures { list_any (λ row. is_to_user user.now row.actor) grants.now ≡ false }
+    ensures { list_any (is_of_actor (actors.User user.now)) grants.now ≡ false }
 {
     for row in grants {
         let _id = row.actor.id().as_slice();

@@ -2,18 +2,18 @@
 ghost use Rattle.std.specs.Prelude.{◌≡◌, filter, map, IfOk};
 ghost use Rattle.ks_auth.specs.Answers.{rows_told};
 ghost use Rattle.ks_base.specs.Tables.{id_cmp, IsAscending};
+ghost use Rattle.ks_base.specs.Rows.{has_id};
 ghost use Rattle.ks_machine.specs.Members.{groups_of, implication, implied, implies, imply, is_implied, is_in, join, leave, members_of, told_inference, unimply, unless_standing};
 ghost use Rattle.ks_machine.specs.Effective.{is_member};
-ghost use Rattle.ks_plan.specs.ByIds.{is_group_among, is_user_among};
 ghost use Rattle.ks_plan.specs.Plans.{Passes, Plans, outcome_of};
 
 use crate::checks::{row, standing_group, standing_role, standing_user};
 use crate::names::{titled_role, titled_roles};
 use crate::paths::joined;
-use crate::standing::{is_among, is_implication, is_joined};
+use crate::standing::{is_implication, is_joined};
 use crate::{Halt, Plan};
 use ks_auth::Tables;
-use ks_base::{GroupRow, Id, ImplyRow, Kind, MemberRow, Memory, UserRow};
+use ks_base::{GroupRow, Id, ImplyRow, Kind, MemberRow, Memory, UserRow, has_id};
 use ks_machine::{BodyOut, Change, Row, RowList};
 use std::alloc::Global;
 
@@ -28,28 +28,14 @@ pub fn unless_standing(stands: bool, new: Change, told: BodyOut) -> Plan
     }
 }
 
-fn is_group_among(ids: &[Id], group: &GroupRow) -> bool
-    requires { IsAscending id_cmp (λ next. next) ids.now }
-    ensures { result ≡ is_group_among ids.now group.now }
-{
-    is_among(ids, &group.id)
-}
-
-fn is_user_among(ids: &[Id], user: &UserRow) -> bool
-    requires { IsAscending id_cmp (λ next. next) ids.now }
-    ensures { result ≡ is_user_among ids.now user.now }
-{
-    is_among(ids, &user.id)
-}
-
 /// The groups whose ids are among these.
 fn groups_among(alloc: Global, groups: &[GroupRow], ids: &[Id]) -> Result<RowList, Memory>
     requires { IsAscending id_cmp (λ next. next) ids.now }
-    ensures { IfOk result (λ rows. rows ≡ map (λ found. Row.Group found) (filter (is_group_among ids.now) groups.now)) }
+    ensures { IfOk result (λ rows. rows ≡ map (λ found. Row.Group found) (filter (λ group. has_id ids.now group.id) groups.now)) }
 {
     let mut rows = RowList::new(alloc);
     for group in groups {
-        if is_group_among(ids, group) {
+        if has_id(ids, &group.id) {
             rows.push(Row::Group(group.copy()?))?;
         }
     }
@@ -59,11 +45,11 @@ fn groups_among(alloc: Global, groups: &[GroupRow], ids: &[Id]) -> Result<RowLis
 /// The users whose ids are among these.
 fn users_among(alloc: Global, users: &[UserRow], ids: &[Id]) -> Result<RowList, Memory>
     requires { IsAscending id_cmp (λ next. next) ids.now }
-    ensures { IfOk result (λ rows. rows ≡ map (λ found. Row.User found) (filter (is_user_among ids.now) users.now)) }
+    ensures { IfOk result (λ rows. rows ≡ map (λ found. Row.User found) (filter (λ user. has_id ids.now user.id) users.now)) }
 {
     let mut rows = RowList::new(alloc);
     for user in users {
-        if is_user_among(ids, user) {
+        if has_id(ids, &user.id) {
             rows.push(Row::User(user.copy()?))?;
         }
     }

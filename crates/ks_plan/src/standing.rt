@@ -1,14 +1,11 @@
 //! Whether rows without an id of their own stand.
 ghost use Rattle.std.specs.Prelude.{◌≡◌, None, is_some};
-ghost use Rattle.std.specs.List.{list_any};
 ghost use Rattle.ks_base.specs.People.{member_of};
 ghost use Rattle.ks_base.specs.PeopleFaults.{join_group_fault};
 ghost use Rattle.ks_base.specs.RoleFaults.{imply_fault};
 ghost use Rattle.ks_base.specs.RoleLists.{is_implication};
-ghost use Rattle.ks_base.specs.Rows.{same};
-ghost use Rattle.ks_base.specs.Tables.{id_cmp, IsAscending};
 
-use ks_base::{Id, ImplyRow, MemberRow};
+use ks_base::{ImplyRow, MemberRow};
 use ks_people::People;
 use ks_roles::Roles;
 
@@ -26,15 +23,4 @@ pub fn is_implication(roles: &Roles, inference: &ImplyRow) -> bool
     ensures { result ≡ is_implication inference.now roles.now.implications }
 {
     roles.may_unimply(inference).is_ok()
-}
-
-/// Whether the id is one of these, which ascend.
-pub fn is_among(ids: &[Id], id: &Id) -> bool
-    requires { IsAscending id_cmp (λ next. next) ids.now }
-    ensures { result ≡ list_any (λ next. same next id.now) ids.now }
-{
-    match ids.binary_search(id) {
-        Ok(_) => true,
-        Err(_) => false,
-    }
 }

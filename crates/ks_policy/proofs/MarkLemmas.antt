@@ -1,13 +1,11 @@
 -- Marks that grow.
-use Rattle.std.proofs.Common.{◌≡◌, ◌⊎◌, inl, inr, ℕ, zero, suc, ◌+◌, ◌<◌, ◌≤◌, Bool, true, false, not, ◌||◌, List, [], ◌∷◌, length, get_or, replicate, Some, refl, sym, ap, subst, ◌∙◌, arith, below_more, get_or-set_other}
-use mathlib.Core.Bool.{beq}
-use Rattle.std.specs.Bool.{Decides}
+use Rattle.std.proofs.Common.{◌≡◌, ◌⊎◌, inl, inr, ℕ, zero, suc, ◌+◌, ◌<◌, Bool, true, false, not, ◌||◌, List, [], ◌∷◌, length, get_or, replicate, Some, refl, ap, subst, ◌∙◌, arith, below_more}
 use Rattle.std.proofs.Math.ListN.{set}
 use Rattle.ks_rule.specs.Trees.{Tree}
 use Rattle.ks_machine.specs.Openings.{NamedRule}
 use Rattle.ks_machine.specs.Rules.{place_named}
 use Rattle.ks_policy.specs.Cycles.{Names, Means}
-use Rattle.ks_policy.specs.Marks.{mark_at, IsMarked, unmarked, Grows, AllMarked}
+use Rattle.ks_policy.specs.Marks.{IsMarked, unmarked, Grows, AllMarked}
 
 -- a new mark leaves fewer places without
 pub unmarked_set : (marks : List Bool) (i : ℕ) → i < length marks → get_or marks i false ≡ false → unmarked (set marks i true) < unmarked marks
@@ -31,9 +29,6 @@ pub none_marked : (n i : ℕ) → get_or (replicate n false) i false ≡ false
 none_marked zero i = refl
 none_marked (suc n) zero = refl
 none_marked (suc n) (suc i) = none_marked n i
-
-pub grows_none : (marks : List Bool) → Grows false marks marks
-grows_none marks = record { kept = λ i is. is; same = λ e. refl; more = λ e. cc }
 
 -- growth in two steps
 pub grows_both : (a b : Bool) (old mid new : List Bool) → Grows a old mid → Grows b mid new → Grows (a || b) old new
@@ -87,17 +82,6 @@ kept_set (b ∷ marks) zero (suc i) is = is
 kept_set (b ∷ marks) (suc at) zero is = is
 kept_set (b ∷ marks) (suc at) (suc i) is = kept_set marks at i is
 
-pub only_set : (marks : List Bool) (at i : ℕ) → IsMarked (set marks at true) i → IsMarked marks i ⊎ (i ≡ at)
-only_set [] at i is = inl is
-only_set (b ∷ marks) zero zero is = inr refl
-only_set (b ∷ marks) zero (suc i) is = inl is
-only_set (b ∷ marks) (suc at) zero is = inl is
-only_set (b ∷ marks) (suc at) (suc i) is = behind (only_set marks at i is)
-  where
-    behind : IsMarked marks i ⊎ (i ≡ at) → IsMarked (b ∷ marks) (suc i) ⊎ (suc i ≡ suc at)
-    behind (inl there) = inl there
-    behind (inr same) = inr (ap suc same)
-
 grows_set_by : (marks : List Bool) (at : ℕ) (b : Bool) → at < length marks → get_or marks at false ≡ b → Grows (not b) marks (set marks at true)
 grows_set_by marks at true lt is = record { kept = kept_set marks at; same = λ e. marked_set marks at is; more = λ e. cc }
 grows_set_by marks at false lt is = record { kept = kept_set marks at; same = λ e. cc; more = λ e. unmarked_set marks at lt is }
@@ -111,15 +95,6 @@ pub all_meant : (rules : List NamedRule) (a b : Tree) (mid new : List Bool) → 
     (name : List ℕ) (j : ℕ) → place_named rules name ≡ Some j → Names a name ⊎ Names b name → IsMarked new j
 all_meant rules a b mid new first kept second name j e (inl is) = kept j (first j (name, is, e))
 all_meant rules a b mid new first kept second name j e (inr is) = second j (name, is, e)
-
-pub only_meant : (rules : List NamedRule) (a b : Tree) (old mid : List Bool) (j : ℕ) → (IsMarked mid j → IsMarked old j ⊎ Means rules a j) →
-    IsMarked mid j ⊎ Means rules b j → IsMarked old j ⊎ ((name : List ℕ) × (Names a name ⊎ Names b name) × (place_named rules name ≡ Some j))
-only_meant rules a b old mid j first (inl is) = into (first is)
-  where
-    into : IsMarked old j ⊎ Means rules a j → IsMarked old j ⊎ ((name : List ℕ) × (Names a name ⊎ Names b name) × (place_named rules name ≡ Some j))
-    into (inl was) = inl was
-    into (inr means) = inr (means.0, inl means.1, means.2)
-only_meant rules a b old mid j first (inr means) = inr (means.0, inr means.1, means.2)
 
 -- a choice of two
 pub or_then : (a b both : Bool) → a ≡ true → both ≡ true → both ≡ a || b

@@ -1,14 +1,14 @@
 -- What a rule needs, out of the order of all.
-use Rattle.std.proofs.Common.{◌≡◌, ◌⊎◌, inl, inr, ℕ, zero, suc, ◌+◌, ◌<◌, ◌≤◌, Bool, true, false, List, [], ◌∷◌, ◌++◌, length, get_or, refl, sym, ap, subst, ◌∙◌, arith, below_more, length-append}
+use Rattle.std.proofs.Common.{◌≡◌, ◌⊎◌, inl, inr, ℕ, zero, suc, ◌+◌, ◌<◌, ◌≤◌, Bool, false, List, [], ◌∷◌, ◌++◌, length, get_or, refl, sym, ap, subst, ◌∙◌, arith, below_more}
 use Rattle.std.proofs.Math.Nat.{eq-or-lt_of_le}
 use Rattle.std.proofs.Math.Seq.{get_or-append_seam}
-use Rattle.std.proofs.lemmas.List.{get_or_append_left}
+use Rattle.std.proofs.lemmas.List.{get_or_append_left, length_push}
 use Rattle.ks_machine.specs.Openings.{NamedRule}
 use Rattle.ks_policy.specs.Cycles.{Leads, Reaches}
 use Rattle.ks_policy.specs.Marks.{mark_at, IsMarked, AllMarked}
-use Rattle.ks_policy.specs.Needs.{IsAmong, IsOrdered, IsWholeOrder, AreNeeds, AreAllNeeds}
+use Rattle.ks_policy.specs.Needs.{IsAmong, IsOrdered, IsWholeOrder, AreNeeds}
 use Rattle.ks_policy.proofs.PlaceLemmas.{named_within}
-use Rattle.ks_policy.proofs.OrderLemmas.{length_push, among_push, among_last, ordered_push, ordered_none}
+use Rattle.ks_policy.proofs.OrderLemmas.{among_push, among_last, ordered_push}
 
 -- the marked ones of the first so many places
 pub record Sifts (rules : List NamedRule) (marks : List Bool) (order : List ℕ) (end : ℕ) (needs : List ℕ) : Type 0 where
@@ -16,14 +16,6 @@ pub record Sifts (rules : List NamedRule) (marks : List Bool) (order : List ℕ)
   pub all : (k : ℕ) → k < end → IsMarked marks (get_or order k 0) → IsAmong needs (length needs) (get_or order k 0)
   pub among : (k : ℕ) → k < length needs → IsAmong order end (get_or needs k 0)
   pub only : (k : ℕ) → k < length needs → IsMarked marks (get_or needs k 0)
-
-pub sifts_none : (rules : List NamedRule) (marks : List Bool) (order : List ℕ) → Sifts rules marks order 0 []
-sifts_none rules marks order = record {
-  ordered = ordered_none rules;
-  all = λ k lt. absurd (omega (arith, lt));
-  among = λ k lt. absurd (omega (arith, lt));
-  only = λ k lt. absurd (omega (arith, lt));
-}
 
 among_on : (places : List ℕ) (end i : ℕ) → IsAmong places end i → IsAmong places (end + 1) i
 among_on places end i is = let lt : is.0 < end = is.1 in (is.0, omega arith, is.2)

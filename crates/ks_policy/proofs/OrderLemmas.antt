@@ -1,20 +1,16 @@
 -- Orders of places, and why one has them all.
-use Rattle.std.proofs.Common.{◌≡◌, ◌⊎◌, inl, inr, ℕ, zero, suc, ◌+◌, ◌<◌, ◌≤◌, Bool, true, false, List, [], ◌∷◌, ◌++◌, length, get_or, replicate, refl, sym, ap, subst, ◌∙◌, arith, below_more, length-append}
+use Rattle.std.proofs.Common.{◌≡◌, ◌⊎◌, inl, inr, ℕ, zero, suc, ◌+◌, ◌<◌, ◌≤◌, Bool, true, false, List, [], ◌∷◌, ◌++◌, length, get_or, replicate, refl, sym, subst, ◌∙◌, arith, below_more}
 use Rattle.std.proofs.Math.ListN.{set}
 use Rattle.std.proofs.Math.Seq.{get_or-append_seam}
-use Rattle.std.proofs.lemmas.List.{get_or_append_left, length-replicate}
+use Rattle.std.proofs.lemmas.List.{get_or_append_left, length-replicate, length_push}
 use Rattle.ks_machine.specs.Openings.{NamedRule}
-use Rattle.ks_machine.specs.Rules.{tree_at}
 use Rattle.ks_policy.specs.Cycles.{Leads, Reaches, last, before, HasNoCycle}
-use Rattle.ks_policy.specs.Marks.{mark_at, IsMarked, unmarked, AllMarked, Grows, IsStuck, IsPlacing}
+use Rattle.ks_policy.specs.Marks.{mark_at, IsMarked, unmarked, AllMarked, IsStuck, IsPlacing}
 use Rattle.ks_policy.specs.Needs.{IsAmong, IsOrdered, IsWholeOrder}
 use Rattle.ks_policy.proofs.MarkLemmas.{none_marked, unmarked_none}
 use Rattle.ks_policy.proofs.PlaceLemmas.{named_within}
 use Rattle.ks_policy.proofs.CycleLemmas.{reaches_within}
 use Rattle.ks_policy.proofs.LawLemmas.{IsAhead, ahead_on, fewer_ahead, length_seen, none_ahead}
-
-pub length_push : (places : List ℕ) (p : ℕ) → length (places ++ p ∷ []) ≡ length places + 1
-length_push places p = omega (arith, length-append places (p ∷ []))
 
 pub among_push : (places : List ℕ) (p end more i : ℕ) → end ≤ length places → end ≤ more → IsAmong places end i → IsAmong (places ++ p ∷ []) more i
 among_push places p end more i le up is =
@@ -108,13 +104,6 @@ all_placed rules placed free stuck i within = by (mark_at placed i) refl
     by false is = absurd (never_stuck (length rules) rules placed (replicate (length rules) false) i free stuck (length-replicate (length rules) false)
         (let all : unmarked (replicate (length rules) false) ≡ length rules = unmarked_none (length rules) in omega arith) within
         (none_marked (length rules) i, λ j walk. none_marked (length rules) j) is)
-
-pub whole_order : (rules : List NamedRule) (order : List ℕ) (placed : List Bool) → IsPlacing rules order placed →
-    ((i : ℕ) → i < length rules → IsMarked placed i) → IsWholeOrder rules order
-whole_order rules order placed placing all = record {
-  ordered = placing.ordered;
-  all = λ i within. placing.stands i (all i within);
-}
 
 -- a walk leads to earlier places of the order
 walk_among : (rules : List NamedRule) (order : List ℕ) (k i j : ℕ) → IsOrdered rules order → k < length order → get_or order k 0 ≡ i →

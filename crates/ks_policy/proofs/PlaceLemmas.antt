@@ -1,5 +1,5 @@
 -- Where rules stand.
-use Rattle.std.proofs.Common.{◌≡◌, ℕ, zero, suc, ◌<◌, Bool, true, false, List, [], ◌∷◌, length, get_or, if◌then◌else◌, Option, Some, None, refl, sym, ap, ◌∙◌, arith}
+use Rattle.std.proofs.Common.{◌≡◌, ℕ, zero, suc, ◌<◌, Bool, true, false, List, [], ◌∷◌, length, if◌then◌else◌, Option, Some, None, refl, sym, ap, ◌∙◌, arith}
 use Rattle.std.specs.Prelude.{option_map, codes}
 use Rattle.std.specs.Option.{option_or}
 use Rattle.std.specs.Str.{bytes_eq}
@@ -8,7 +8,7 @@ use Rattle.ks_base.specs.Tables.{id_cmp}
 use Rattle.ks_base.specs.Places.{IsFoundAt, IsGapAt}
 use Rattle.ks_base.proofs.RowLemmas.{id_same}
 use Rattle.ks_machine.specs.Openings.{NamedRule}
-use Rattle.ks_machine.specs.Rules.{place_of, place_named, tree_at}
+use Rattle.ks_machine.specs.Rules.{place_of, place_named}
 
 pub place_found : (rules : List NamedRule) (name : List ℕ) (i : ℕ) → IsFoundAt id_cmp (λ rule. rule.name) name rules i → place_of rules name ≡ Some i
 place_found [] name i is = absurd is
@@ -48,9 +48,3 @@ pub named_within : (rules : List NamedRule) (name : List ℕ) (i : ℕ) → plac
 unfolding place_named
 named_within rules name i e =
     or_within (length rules) (place_of rules name) (place_of rules (codes "default")) i (of_within rules name) (of_within rules (codes "default")) e
-
--- the tree of a row at its place
-pub tree_of_row : (rules : List NamedRule) (i : ℕ) (row : NamedRule) → i < length rules → row ≡ get_or rules i row → tree_at rules i ≡ row.tree
-tree_of_row [] i row lt is = absurd (omega arith)
-tree_of_row (rule ∷ rules) zero row lt is = ap (λ r. r.tree) (sym is)
-tree_of_row (rule ∷ rules) (suc i) row lt is = tree_of_row rules i row (omega arith) is

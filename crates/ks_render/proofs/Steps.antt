@@ -96,24 +96,6 @@ pub record IsListing {X : Type 0} (value : X → Data) (can : X → Type 0) (sta
   pub tokens : now.tokens ++ flat_map (λ x. value_tokens (value x)) rest ≡ start.tokens ++ begin_array ∷ flat_map (λ x. value_tokens (value x)) all
   pub tellable : AllByRecursion can rest
 
-pub listing_begun : {X E : Type 0} (value : X → Data) (can : X → Type 0) {a b : Written} (all : List X) {u : Unit {0}}
-    → Writes {E = E} (Ok u) a b begin_array → AllByRecursion can all → IsListing value can a b all all
-listing_begun value can {a = a} all w tellable = record {
-  before = w.room.0;
-  tokens = ap (λ ts. ts ++ flat_map (λ x. value_tokens (value x)) all) w.ok ∙ append_assoc a.tokens (begin_array ∷ []) (flat_map (λ x. value_tokens (value x)) all);
-  tellable = tellable;
-}
-
-pub listing_step : {X : Type 0} {value : X → Data} {can : X → Type 0} {s a b : Written} {x : X} {rest all : List X}
-    → IsListing value can s a (x ∷ rest) all → Tells a b (value x) → IsListing value can s b rest all
-listing_step {value = value} {a = a} {x = x} {rest = rest} l t =
-    let others : List Token = flat_map (λ x. value_tokens (value x)) rest in
-    record {
-      before = t.before ∙ l.before;
-      tokens = ap (λ ts. ts ++ others) (t.tokens ∙ ap (λ ts. a.tokens ++ ts) (append-nil (value_tokens (value x)))) ∙ append_assoc a.tokens (value_tokens (value x)) others ∙ l.tokens;
-      tellable = l.tellable.1;
-    }
-
 mapped : {X : Type 0} (value : X → Data) (all : List X) → flat_map value_tokens (map value all) ≡ flat_map (λ x. value_tokens (value x)) all
 mapped value [] = refl
 mapped value (x ∷ xs) = ap (λ ts. value_tokens (value x) ++ ts) (mapped value xs)

@@ -5,11 +5,12 @@ use Rattle.ks_base.specs.declared.shapes.ShapeFault.{ShapeFault}
 use Rattle.ks_base.specs.declared.shapes.ShapeFault.TheVariants as shape
 use Rattle.ks_machine.specs.declared.cause.Cause.{Cause}
 use Rattle.ks_machine.specs.declared.cause.Cause.TheVariants as cause
+use Rattle.ks_machine.specs.Actions.{kind_word}
 use Rattle.ks_http.specs.Responses.{reason_of}
 use Rattle.ks_http.specs.declared.cause.HttpCause.{HttpCause}
 use Rattle.ks_http.specs.declared.cause.HttpCause.TheVariants as bad
 use Rattle.ks_render.specs.Values.{object_of}
-use Rattle.ks_render.specs.Names.{kind_name, keys_name, tree_name, trust_name}
+use Rattle.ks_render.specs.Names.{keys_name, tree_name, trust_name}
 
 -- {"error": {"code": STATUS, "message": MESSAGE, "title": REASON}}
 unfoldable pub error_body : ℕ → List ℕ → Data
@@ -76,13 +77,13 @@ message_of_cause cause.Prohibited = codes "Refused: Prohibited."
 message_of_cause (cause.Immutable field) = field ++ codes " cannot be changed."
 message_of_cause cause.TrustToken = codes "Refused: TrustToken."
 message_of_cause cause.KeyMode = codes "Refused: KeyMode."
-message_of_cause (cause.Absent kind id) = codes "Could not find " ++ (kind_name kind ++ (codes ": " ++ (id ++ codes ".")))
+message_of_cause (cause.Absent kind id) = codes "Could not find " ++ (kind_word kind ++ (codes ": " ++ (id ++ codes ".")))
 message_of_cause (cause.SubjectToken why) = codes "Could not find token."
 message_of_cause cause.NoRoute = codes "The resource could not be found."
 message_of_cause (cause.NoMethod methods) = codes "The method is not allowed."
 message_of_cause (cause.NameTaken id) = codes "The name is taken by " ++ (id ++ codes ".")
 message_of_cause (cause.Keys fault) = codes "The key folder is refused: " ++ (keys_name fault ++ codes ".")
-message_of_cause (cause.Full kind) = codes "The " ++ (kind_name kind ++ codes " table is full.")
+message_of_cause (cause.Full kind) = codes "The " ++ (kind_word kind ++ codes " table is full.")
 message_of_cause (cause.IdTaken id) = codes "The drawn id is taken."
 message_of_cause cause.Random = codes "No random bytes."
 message_of_cause cause.KeyDir = codes "The key folder failed."

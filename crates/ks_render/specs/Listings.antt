@@ -1,11 +1,12 @@
 -- The bodies that list rows.
 use Rattle.std.specs.Prelude.{ℕ, List, [], ◌∷◌, ◌++◌, map, codes}
-use Rattle.serde_json.specs.Data.{Data, null, number, unsigned, string}
+use Rattle.serde_json.specs.Data.{Data, null, string}
 use Rattle.ks_base.specs.declared.kinds.Kind.{Kind}
 use Rattle.ks_base.specs.declared.kinds.Kind.TheVariants as kind
 use Rattle.ks_machine.specs.declared.body_out.Titled.{Titled}
 use Rattle.ks_render.specs.Values.{array_of, object_of}
 use Rattle.ks_render.specs.Named.{titled_value}
+use Rattle.ks_render.specs.Rows.{count_value}
 
 -- the listing is whole; PATH is the path of its request
 unfoldable pub links_value : List ℕ → List ℕ → Data
@@ -46,15 +47,12 @@ inference_body implied prior =
           ∷ (codes "prior_role", titled_value prior) ∷ []),
     ) ∷ [])
 
-abbrev pub index_value : ℕ → Data
-index_value index = number (unsigned index)
-
 -- the indices of the keys that are held, and that of the key that seals
 unfoldable pub keys_body : List ℕ → ℕ → Data
 keys_body held primary =
     object_of ((
       codes "keys",
       object_of (
-          (codes "held", array_of (map index_value held))
-          ∷ (codes "primary", index_value primary) ∷ []),
+          (codes "held", array_of (map count_value held))
+          ∷ (codes "primary", count_value primary) ∷ []),
     ) ∷ [])

@@ -1,6 +1,5 @@
 -- The names by which errors tell kinds and faults.
 use Rattle.std.specs.Prelude.{ℕ, List, codes}
-use Rattle.ks_base.specs.declared.kinds.Kind.{Kind}
 use Rattle.ks_base.specs.declared.kinds.Kind.TheVariants as kind
 use Rattle.ks_base.specs.declared.faults.KeysFault.{KeysFault}
 use Rattle.ks_base.specs.declared.faults.KeysFault.TheVariants as keys
@@ -8,18 +7,6 @@ use Rattle.ks_base.specs.declared.faults.TreeFault.{TreeFault}
 use Rattle.ks_base.specs.declared.faults.TreeFault.TheVariants as tree
 use Rattle.ks_base.specs.declared.faults.TrustFault.{TrustFault}
 use Rattle.ks_base.specs.declared.faults.TrustFault.TheVariants as trust
-
-unfoldable pub kind_name : Kind → List ℕ
-kind_name kind.Domain = codes "domain"
-kind_name kind.Project = codes "project"
-kind_name kind.User = codes "user"
-kind_name kind.Group = codes "group"
-kind_name kind.Role = codes "role"
-kind_name kind.Implication = codes "implication"
-kind_name kind.Grant = codes "grant"
-kind_name kind.Member = codes "member"
-kind_name kind.Trust = codes "trust"
-kind_name kind.Event = codes "event"
 
 unfoldable pub tree_name : TreeFault → List ℕ
 tree_name (tree.Absent table id) = codes "Absent"

@@ -1,7 +1,7 @@
 //! What is told of refusals.
 ghost use Rattle.std.specs.Prelude.{◌≡◌, [], ◌∷◌, ◌++◌, codes, OnOk, string_bytes};
 ghost use Rattle.ks_render.specs.Errors.{bad_body, error_body, message_of_bad, message_of_cause, message_of_shape, not_authenticated, refused, refused_body, status_of_bad, status_of_cause};
-ghost use Rattle.ks_render.specs.Names.{kind_name};
+ghost use Rattle.ks_machine.specs.Actions.{kind_word};
 ghost use Rattle.ks_render.specs.steps.Writing.{Enters, Tells};
 
 use crate::names::{keys_name, kind_name, tree_name, trust_name};
@@ -42,7 +42,7 @@ fn push_refused(text: &mut String, name: &str) -> Result<(), AllocError>
 }
 
 fn push_absent(text: &mut String, kind: Kind, id: &Id) -> Result<(), AllocError>
-    ensures { OnOk result (string_bytes text.new ≡ string_bytes text.old ++ (codes "Could not find " ++ (kind_name kind ++ (codes ": " ++ (id.now ++ codes "."))))) }
+    ensures { OnOk result (string_bytes text.new ≡ string_bytes text.old ++ (codes "Could not find " ++ (kind_word kind ++ (codes ": " ++ (id.now ++ codes "."))))) }
 {
     push_between(text, "Could not find ", kind_name(kind), ": ")?;
     push_id(text, id)?;
@@ -58,7 +58,7 @@ fn push_taken(text: &mut String, id: &Id) -> Result<(), AllocError>
 }
 
 fn push_full(text: &mut String, kind: Kind) -> Result<(), AllocError>
-    ensures { OnOk result (string_bytes text.new ≡ string_bytes text.old ++ (codes "The " ++ (kind_name kind ++ codes " table is full."))) }
+    ensures { OnOk result (string_bytes text.new ≡ string_bytes text.old ++ (codes "The " ++ (kind_word kind ++ codes " table is full."))) }
 {
     push_between(text, "The ", kind_name(kind), " table is full.")
 }

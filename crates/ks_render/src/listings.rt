@@ -2,7 +2,7 @@ ghost use Rattle.std.specs.Prelude.{◌≡◌, [], ◌∷◌, ◌++◌, codes, m
 ghost use Rattle.std.specs.List.{AllByRecursion};
 ghost use Rattle.ks_machine.specs.Told.{IsRowTellable};
 ghost use Rattle.ks_render.specs.Values.{array_of};
-ghost use Rattle.ks_render.specs.Listings.{index_value, inference_body, keys_body, links_then_rows, links_value, many_body, rows_then_links};
+ghost use Rattle.ks_render.specs.Listings.{inference_body, keys_body, links_then_rows, links_value, many_body, rows_then_links};
 ghost use Rattle.ks_render.specs.Named.{titled_value, titles_value};
 ghost use Rattle.ks_render.specs.Rows.{row_value};
 ghost use Rattle.ks_render.specs.steps.Writing.{Enters, Tells};
@@ -151,9 +151,9 @@ pub fn write_inferences(
 }
 
 impl Tell for u32 {
-    ghost use Rattle.ks_render.specs.Listings.{index_value};
+    ghost use Rattle.ks_render.specs.Rows.{count_value};
 
-    ghost value = { λ url index. index_value index };
+    ghost value = { λ url index. count_value index };
 
     ghost is_tellable = { λ index. Unit {0} };
 

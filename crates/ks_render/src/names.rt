@@ -1,12 +1,12 @@
 //! The names by which errors tell kinds and faults.
 ghost use Rattle.std.specs.Prelude.{◌≡◌};
-ghost use Rattle.ks_render.specs.Names.{keys_name, kind_name, tree_name, trust_name};
+ghost use Rattle.ks_machine.specs.Actions.{kind_word};
+ghost use Rattle.ks_render.specs.Names.{keys_name, tree_name, trust_name};
 
 use ks_base::{KeysFault, Kind, TreeFault, TrustFault};
 
-#[tactic(auto, unfolding(crate::specs::Names::kind_name))]
 pub fn kind_name(kind: Kind) -> &'static str
-    ensures { result.now ≡ kind_name kind }
+    ensures { result.now ≡ kind_word kind }
 {
     match kind {
         Kind::Domain => "domain",

@@ -8,11 +8,12 @@ use Rattle.ks_base.specs.Revocation.{is_live, live, is_revoked, window}
 use Rattle.ks_base.specs.Tables.{Among, IsAscending, put_row}
 use Rattle.ks_base.proofs.TableLemmas.{ascending_put, ascending_filter}
 use Rattle.ks_base.proofs.RowLemmas.{among_put, put_among, among_put_other, same_row, among_filter, filter_among}
+use Rattle.ks_base.proofs.AmongLemmas.{all_among, among_all}
+use Rattle.ks_base.proofs.ListLemmas.{length_filter}
 use Rattle.ks_revoke.specs.Things.{thing_cmp, thing_of}
 use Rattle.ks_revoke.specs.Marks.{AreMarks}
-use Rattle.ks_revoke.specs.Histories.{Kept, History, Stands, added, advanced}
+use Rattle.ks_revoke.specs.Histories.{Kept, History, Stands, advanced}
 use Rattle.ks_revoke.specs.Holding.{AreInOrder, IsHeld}
-use Rattle.ks_revoke.proofs.RowsLemmas.{all_among, among_all}
 use Rattle.ks_revoke.proofs.ThingLemmas.{thing_total, alike}
 use Rattle.ks_revoke.proofs.LiveLemmas.{is_live_from, in_order_later, in_order_push, live_push, live_again}
 use Rattle.ks_revoke.proofs.MarkLemmas.{marks_added, marks_live}
@@ -33,14 +34,6 @@ in_order_filter_by test high event events false order rest = rest
 in_order_filter : (test : EventRow → Bool) (high : ℕ) (events : List EventRow) → AreInOrder high events → AreInOrder high (filter test events)
 in_order_filter test high [] order = tt
 in_order_filter test high (event ∷ events) order = in_order_filter_by test high event events (test event) order (in_order_filter test high events order.2)
-
-length_filter_by : (event : EventRow) (kept : List EventRow) (n : ℕ) (b : Bool) → length kept ≤ n → length (cond b (event ∷ kept) kept) ≤ n + 1
-length_filter_by event kept n true le = omega arith
-length_filter_by event kept n false le = omega arith
-
-length_filter : (test : EventRow → Bool) (events : List EventRow) → length (filter test events) ≤ length events
-length_filter test [] = omega arith
-length_filter test (event ∷ events) = omega (arith, length_filter_by event (filter test events) (length events) (test event) (length_filter test events))
 
 -- a row of a table into which another was put is that other, or stood there for another thing
 put_is : (row x : EventRow) (marks : List EventRow) (b : Bool) → is_eq (thing_cmp x.what row.what) ≡ b → IsAscending thing_cmp thing_of marks →
@@ -117,15 +110,6 @@ held_swept life high events marks kept held is =
       ascending = ascending_filter thing_cmp thing_of (is_live life high) marks held.ascending;
       marks_are = subst (AreMarks events) (sym (live_again life high high marks (omega arith))) held.marks_are;
     })
-
--- the history
-pub added_stands : (kept : Kept) (history : History) (row : EventRow) (room : ℕ) → Stands kept history → row.moment ≡ kept.high →
-    Stands (record { life = kept.life; high = kept.high; events = kept.events ++ row ∷ []; room = room }) (added row history)
-added_stands kept history row room stands now = record {
-  life_is = stands.life_is;
-  high_is = stands.high_is;
-  events_are = ap (λ (xs : List EventRow). xs ++ row ∷ []) stands.events_are ∙ sym (live_push history.life history.high history.events row (now ∙ stands.high_is));
-}
 
 pub advanced_stands : (kept : Kept) (history : History) (high : ℕ) (left : List EventRow) (room : ℕ) → Stands kept history → kept.high ≤ high →
     left ≡ live kept.life high kept.events → Stands (record { life = kept.life; high = high; events = left; room = room }) (advanced high history)

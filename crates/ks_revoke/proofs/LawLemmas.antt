@@ -1,5 +1,5 @@
 -- What the definitions mean.
-use Rattle.std.proofs.Common.{◌≡◌, ℕ, ◌+◌, ◌<◌, ◌≤◌, Bool, true, false, ◌⊎◌, inl, inr, List, [], ◌∷◌, refl, sym, ap, ◌∙◌, subst}
+use Rattle.std.proofs.Common.{◌≡◌, ℕ, ◌+◌, ◌<◌, Bool, true, false, ◌⊎◌, inl, inr, List, [], ◌∷◌, refl, sym, ap, ◌∙◌, subst}
 use Rattle.std.specs.declared.cmp.Ordering.{Ordering}
 use Rattle.std.specs.declared.cmp.Ordering.TheVariants.{Less, Equal, Greater}
 use Rattle.std.specs.Ordering.{ordering_reverse}
@@ -8,11 +8,11 @@ use Rattle.std.proofs.lemmas.Cmp.{tied_itself}
 use Rattle.ks_base.specs.declared.events.EventRow.{EventRow}
 use Rattle.ks_base.specs.Revocation.{is_live, live, kept_for}
 use Rattle.ks_base.specs.Tables.{AreAbove, Among, IsAscending}
-use Rattle.ks_base.proofs.RowLemmas.{same_row, among_filter, filter_among}
+use Rattle.ks_base.proofs.RowLemmas.{same_row, among_filter, filter_among, above_among}
+use Rattle.ks_base.proofs.AmongLemmas.{all_among}
 use Rattle.ks_revoke.specs.Things.{thing_cmp, thing_of}
-use Rattle.ks_revoke.specs.Marks.{IsGreatest, AreMarks, IsMarkOf}
+use Rattle.ks_revoke.specs.Marks.{AreMarks, IsMarkOf}
 use Rattle.ks_revoke.specs.Histories.{Kept, History, Stands}
-use Rattle.ks_revoke.proofs.RowsLemmas.{all_among}
 use Rattle.ks_revoke.proofs.ThingLemmas.{thing_total}
 use Rattle.ks_revoke.proofs.LiveLemmas.{past_is}
 use Rattle.ks_revoke.proofs.MarkLemmas.{IsUpper}
@@ -52,9 +52,6 @@ pub one_mark : (events rows : List EventRow) (event : EventRow) → AreMarks eve
 one_mark events rows event are among = mark_by events rows event are among (greatest_or_none event.what events)
 
 -- ascending rows are known by which they are
-above_at : {K X : Type 0} (cmp : K → K → Ordering) (key : X → K) (low : K) (rows : List X) (row : X) → AreAbove cmp key low rows → Among rows row → cmp low (key row) ≡ Less
-above_at cmp key low rows row above among = all_among (λ x. cmp low (key x) ≡ Less) rows row above among
-
 never_below : {K : Type 0} (cmp : K → K → Ordering) → IsTotalOrder cmp → (a b : K) → cmp a b ≡ Less → cmp b a ≡ Less → ⊥
 never_below cmp o a b less more = let other : cmp a b ≡ Greater = o.antisymm a b ∙ ap ordering_reverse more in cc
 
@@ -67,11 +64,11 @@ first_same : {K X : Type 0} (cmp : K → K → Ordering) (key : X → K) → IsT
 first_same cmp key o a b rows others low also (inl same) among = sym same
 first_same cmp key o a b rows others low also (inr later) (inl same) = same
 first_same cmp key o a b rows others low also (inr later) (inr after) =
-    absurd (never_below cmp o (key a) (key b) (above_at cmp key (key a) rows b low after) (above_at cmp key (key b) others a also later))
+    absurd (never_below cmp o (key a) (key b) (above_among cmp key (key a) rows b low after) (above_among cmp key (key b) others a also later))
 
 rest_among : {K X : Type 0} (cmp : K → K → Ordering) (key : X → K) → IsTotalOrder cmp → (a b x : X) (rows others : List X) → a ≡ b →
     AreAbove cmp key (key a) rows → Among rows x → Among (b ∷ others) x → Among others x
-rest_among cmp key o a b x rows others same low among (inl is) = absurd (never_itself cmp key o a x (same ∙ is) (above_at cmp key (key a) rows x low among))
+rest_among cmp key o a b x rows others same low among (inl is) = absurd (never_itself cmp key o a x (same ∙ is) (above_among cmp key (key a) rows x low among))
 rest_among cmp key o a b x rows others same low among (inr later) = later
 
 pub rows_same : {K X : Type 0} (cmp : K → K → Ordering) (key : X → K) → IsTotalOrder cmp → (rows others : List X) → IsAscending cmp key rows → IsAscending cmp key others →

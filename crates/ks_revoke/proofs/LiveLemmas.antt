@@ -1,13 +1,14 @@
 -- Which events are live, and in which order they stand.
-use Rattle.std.proofs.Common.{◌≡◌, ℕ, ◌+◌, ◌<◌, ◌≤◌, Bool, true, false, cond, ◌⊎◌, inl, inr, nat_le, max, List, [], ◌∷◌, ◌++◌, length, drop, get_or, filter, refl, sym, ap, ◌∙◌, subst, arith, append-nil}
+use Rattle.std.proofs.Common.{◌≡◌, ℕ, ◌+◌, ◌<◌, ◌≤◌, Bool, true, false, cond, inl, inr, List, [], ◌∷◌, ◌++◌, length, get_or, refl, ap, ◌∙◌, subst, arith}
 use Rattle.std.specs.List.{AllByRecursion}
 use Rattle.std.proofs.lemmas.Bool.{leb-true, leb-false, le-leb}
 use Rattle.std.proofs.lemmas.List.Elements.{filter-append}
 use Rattle.ks_base.specs.declared.events.EventRow.{EventRow}
 use Rattle.ks_base.specs.Revocation.{is_live, live}
 use Rattle.ks_base.specs.Tables.{Among}
+use Rattle.ks_base.proofs.AmongLemmas.{all_among, among_all}
 use Rattle.ks_revoke.specs.Holding.{AreInOrder}
-use Rattle.ks_revoke.proofs.RowsLemmas.{all_among, among_all, passing_all, filter_again}
+use Rattle.ks_revoke.proofs.RowsLemmas.{passing_all, filter_again}
 
 pub live_is : (life high : ℕ) (event : EventRow) → is_live life high event ≡ true → high ≤ event.moment + life + 174600
 live_is life high event is = leb-true high (event.moment + life + 174600) is
@@ -51,20 +52,10 @@ in_order_push high [] row order now = (omega arith, tt, tt)
 in_order_push high (event ∷ events) row order now =
     (order.0, all_push (λ later. event.moment ≤ later.moment) events row order.1 (omega (arith, order.0)), in_order_push high events row order.2 now)
 
-pub in_order_rest : (high : ℕ) (events : List EventRow) → AreInOrder high events → AreInOrder high (drop 1 events)
-in_order_rest high [] order = tt
-in_order_rest high (event ∷ events) order = order.2
-
 -- where the first event is past, it is left out
 left_by : (event : EventRow) (kept : List EventRow) (b : Bool) → b ≡ false → kept ≡ cond b (event ∷ kept) kept
 left_by event kept true is = cc
 left_by event kept false is = refl
-
-pub first_past : (life high : ℕ) (events : List EventRow) (first : EventRow) → first ≡ get_or events 0 first → 0 < length events →
-    is_live life high first ≡ false → live life high (drop 1 events) ≡ live life high events
-first_past life high [] first is some past = absurd (omega arith)
-first_past life high (event ∷ events) first is some past =
-    left_by event (live life high events) (is_live life high event) (subst (λ (x : EventRow). is_live life high x ≡ false) is past)
 
 -- where it is live, all are
 pub first_live : (life high : ℕ) (events : List EventRow) (first : EventRow) → AreInOrder high events → first ≡ get_or events 0 first → 0 < length events →

@@ -1,5 +1,5 @@
 -- What becomes of the greatest moments with an event more, and with events that are past.
-use Rattle.std.proofs.Common.{◌≡◌, ℕ, ◌+◌, ◌<◌, ◌≤◌, Bool, true, false, ◌⊎◌, inl, inr, List, [], ◌∷◌, ◌++◌, filter, refl, sym, ap, ◌∙◌, subst, arith}
+use Rattle.std.proofs.Common.{◌≡◌, ℕ, ◌+◌, ◌≤◌, Bool, true, false, ◌⊎◌, inl, inr, List, [], ◌∷◌, ◌++◌, filter, refl, sym, ap, ◌∙◌, subst, arith}
 use Rattle.std.specs.List.{AllByRecursion}
 use Rattle.std.specs.Ordering.{is_eq}
 use Rattle.std.proofs.lemmas.Cmp.{tied_itself}
@@ -9,12 +9,13 @@ use Rattle.ks_base.specs.Revocation.{is_live, live}
 use Rattle.ks_base.specs.Tables.{Among, put_row}
 use Rattle.ks_base.proofs.TableLemmas.{ascending_put, ascending_filter}
 use Rattle.ks_base.proofs.RowLemmas.{among_put, put_among, among_put_other, same_row, among_filter, filter_among}
+use Rattle.ks_base.proofs.AmongLemmas.{all_among, among_all, among_push}
 use Rattle.ks_revoke.specs.Things.{thing_cmp, thing_of}
 use Rattle.ks_revoke.specs.Marks.{IsGreatest, AreMarks}
 use Rattle.ks_revoke.specs.Holding.{AreInOrder}
-use Rattle.ks_revoke.proofs.RowsLemmas.{all_among, among_all, among_push, push_among, push_last}
+use Rattle.ks_revoke.proofs.RowsLemmas.{push_among, push_last}
 use Rattle.ks_revoke.proofs.ThingLemmas.{thing_total, alike}
-use Rattle.ks_revoke.proofs.LiveLemmas.{in_order_at, is_live_from, live_is, past_is}
+use Rattle.ks_revoke.proofs.LiveLemmas.{in_order_at, live_is, past_is}
 
 -- no event of the row's thing has a greater moment
 abbrev pub IsUpper : EventRow → EventRow → Type 0
@@ -132,6 +133,3 @@ marks_live life high events marks are = record {
   ascending = ascending_filter thing_cmp thing_of (is_live life high) marks are.ascending;
   greatest = λ x. (live_marked life high events marks x are, live_greatest life high events marks x are);
 }
-
-pub no_marks : AreMarks [] []
-no_marks = record { ascending = tt; greatest = λ x. (λ among. absurd among, λ greatest. absurd greatest.0) }

@@ -1,28 +1,7 @@
 -- Lists of rows in general.
-use Rattle.std.proofs.Common.{◌≡◌, Bool, true, false, cond, ◌⊎◌, inl, inr, List, [], ◌∷◌, ◌++◌, filter, refl, sym, subst, ap}
+use Rattle.std.proofs.Common.{◌≡◌, Bool, true, false, cond, inl, inr, List, [], ◌∷◌, ◌++◌, filter, refl, ap}
 use Rattle.std.specs.List.{AllByRecursion}
 use Rattle.ks_base.specs.Tables.{Among}
-use Rattle.ks_base.proofs.RowLemmas.{among_filter}
-
-pub all_among : {X : Type 0} (P : X → Type 0) (rows : List X) (row : X) → AllByRecursion P rows → Among rows row → P row
-all_among P [] row all among = absurd among
-all_among P (next ∷ rows) row all (inl same) = subst P same all.0
-all_among P (next ∷ rows) row all (inr later) = all_among P rows row all.1 later
-
-pub among_all : {X : Type 0} (P : X → Type 0) (rows : List X) → ((row : X) → Among rows row → P row) → AllByRecursion P rows
-among_all P [] each = tt
-among_all P (next ∷ rows) each = (each next (inl refl), among_all P rows (λ row later. each row (inr later)))
-
--- a row more at the end
-pub among_push : {X : Type 0} (rows : List X) (last row : X) → Among (rows ++ last ∷ []) row → Among rows row ⊎ (last ≡ row)
-among_push [] last row (inl same) = inr same
-among_push [] last row (inr never) = absurd never
-among_push (next ∷ rows) last row (inl same) = inl (inl same)
-among_push (next ∷ rows) last row (inr later) = into (among_push rows last row later)
-  where
-    into : Among rows row ⊎ (last ≡ row) → Among (next ∷ rows) row ⊎ (last ≡ row)
-    into (inl old) = inl (inr old)
-    into (inr same) = inr same
 
 pub push_among : {X : Type 0} (rows : List X) (last row : X) → Among rows row → Among (rows ++ last ∷ []) row
 push_among [] last row among = absurd among
@@ -41,10 +20,6 @@ passing_all_by row rows kept false is same = cc
 pub passing_all : {X : Type 0} (test : X → Bool) (rows : List X) → AllByRecursion (λ row. test row ≡ true) rows → filter test rows ≡ rows
 passing_all test [] all = refl
 passing_all test (row ∷ rows) all = passing_all_by row rows (filter test rows) (test row) all.0 (passing_all test rows all.1)
-
--- where none is left out, all pass
-pub all_passing : {X : Type 0} (test : X → Bool) (rows : List X) (row : X) → filter test rows ≡ rows → Among rows row → test row ≡ true
-all_passing test rows row same among = (among_filter test rows row (subst (λ (xs : List _). Among xs row) (sym same) among)).1
 
 -- a stricter test is all that counts
 again_by : {X : Type 0} (wide narrow : X → Bool) (row : X) (rows kept : List X) (b : Bool) → wide row ≡ b → (narrow row ≡ true → wide row ≡ true) →

@@ -1,11 +1,11 @@
 -- That the greatest moments suffice to test a token.
-use Rattle.std.proofs.Common.{◌≡◌, ℕ, ◌+◌, ◌<◌, ◌≤◌, Bool, true, false, ◌&&◌, ◌||◌, ◌⊎◌, inl, inr, nat_le, List, [], ◌∷◌, Option, Some, None, filter, refl, sym, ap, ◌∙◌, subst, arith}
-use Rattle.std.specs.List.{AllByRecursion, list_any}
+use Rattle.std.proofs.Common.{◌≡◌, ℕ, ◌+◌, ◌<◌, ◌≤◌, Bool, true, false, ◌&&◌, ◌||◌, ◌⊎◌, inl, inr, nat_le, List, [], ◌∷◌, Option, Some, None, refl, sym, ap, ◌∙◌, subst, arith}
+use Rattle.std.specs.List.{list_any}
 use Rattle.std.specs.Ordering.{is_eq}
 use Rattle.std.specs.Str.{bytes_eq}
 use Rattle.std.proofs.lemmas.Bool.{leb-true, leb-false, le-leb, and_parts, and_from, and_right, or_cases}
-use Rattle.std.proofs.lemmas.Cmp.{tied_itself}
 use Rattle.std.proofs.lemmas.Slice.Eq.{bytes_eq-Decides}
+use Rattle.std.proofs.Math.Bool.{or-false}
 use Rattle.std.specs.Option.{option_map}
 use Rattle.ks_base.specs.declared.events.Revoke.{Revoke}
 use Rattle.ks_base.specs.declared.events.Revoke.TheVariants as revoke
@@ -15,9 +15,10 @@ use Rattle.ks_base.specs.Revocation.{has, names, matches, is_revoked, is_live, l
 use Rattle.ks_base.specs.Rows.{Id, same}
 use Rattle.ks_base.specs.Tables.{id_cmp, Among, find_row}
 use Rattle.ks_base.proofs.RowLemmas.{found_among, among_found, among_filter, filter_among, id_same}
+use Rattle.ks_base.proofs.TruthLemmas.{equal_truths}
+use Rattle.ks_base.proofs.AmongLemmas.{any_to, all_among, among_all}
 use Rattle.ks_revoke.specs.Things.{thing_cmp, thing_of, things_of}
 use Rattle.ks_revoke.specs.Marks.{IsGreatest, AreMarks, ends_then, ends_if}
-use Rattle.ks_revoke.proofs.RowsLemmas.{all_among, among_all}
 use Rattle.ks_revoke.proofs.ThingLemmas.{thing_total, alike}
 use Rattle.ks_revoke.proofs.LiveLemmas.{past_is}
 use Rattle.ks_revoke.proofs.MarkLemmas.{IsUpper, unlike}
@@ -43,22 +44,6 @@ passing_by test event events (inr later) rest = let found = rest later in (found
 pub any_among : (test : EventRow → Bool) (events : List EventRow) → list_any test events ≡ true → Passing test events
 any_among test [] some = cc
 any_among test (event ∷ events) some = passing_by test event events (or_cases (test event) (list_any test events) some) (any_among test events)
-
-or_true : (a b : Bool) → (a ≡ true) ⊎ (b ≡ true) → (a || b) ≡ true
-or_true true b some = refl
-or_true false b (inl never) = cc
-or_true false b (inr some) = some
-
-pub among_any : (test : EventRow → Bool) (events : List EventRow) (event : EventRow) → Among events event → test event ≡ true → list_any test events ≡ true
-among_any test [] event among passes = absurd among
-among_any test (next ∷ events) event (inl is) passes =
-    or_true (test next) (list_any test events) (inl (subst (λ (x : EventRow). test x ≡ true) (sym is) passes))
-among_any test (next ∷ events) event (inr later) passes = or_true (test next) (list_any test events) (inr (among_any test events event later passes))
-
-pub both_true : (a b : Bool) → (a ≡ true → b ≡ true) → (b ≡ true → a ≡ true) → a ≡ b
-both_true true b h k = sym (h refl)
-both_true false true h k = k refl
-both_true false false h k = refl
 
 -- the greatest event of a thing that one names
 abbrev pub GreatestOf : Revoke → List EventRow → Type 0
@@ -112,7 +97,7 @@ ends_from issued thing events marks None are is ends = cc
 ends_from issued thing events marks (Some row) are is ends =
     let found = found_among thing_cmp thing_of thing marks row is in
     let greatest = (are.greatest row).0 found.0 in
-    among_any (ends_by issued thing) events row greatest.0 (and_from (nat_le issued row.moment) (is_eq (thing_cmp row.what thing)) ends (ap is_eq found.1))
+    any_to (ends_by issued thing) events row greatest.0 (and_from (nat_le issued row.moment) (is_eq (thing_cmp row.what thing)) ends (ap is_eq found.1))
 
 ends_at : (issued : ℕ) (thing : Revoke) (events marks : List EventRow) → AreMarks events marks → Passing (ends_by issued thing) events →
     GreatestOf thing events ⊎ Unnamed thing events → ends_then issued (find_row thing_cmp thing_of thing marks) ≡ true
@@ -129,7 +114,7 @@ ends_at issued thing events marks are (event, among, passes) (inr none) =
 pub ends_same : (issued : ℕ) (thing : Revoke) (events marks : List EventRow) → AreMarks events marks →
     ends_then issued (find_row thing_cmp thing_of thing marks) ≡ list_any (ends_by issued thing) events
 ends_same issued thing events marks are =
-    both_true (ends_then issued (find_row thing_cmp thing_of thing marks)) (list_any (ends_by issued thing) events)
+    equal_truths (ends_then issued (find_row thing_cmp thing_of thing marks)) (list_any (ends_by issued thing) events)
     (ends_from issued thing events marks (find_row thing_cmp thing_of thing marks) are refl)
     (λ some. ends_at issued thing events marks are (any_among (ends_by issued thing) events some) (greatest_or_none thing events))
 
@@ -164,7 +149,7 @@ any_and false test xs = any_never xs
 -- ids are the same in either order
 same_back : (a b : Id) → is_eq (id_cmp a b) ≡ same b a
 same_back a b =
-    both_true (is_eq (id_cmp a b)) (same b a) (λ e. (bytes_eq-Decides b a).1 (sym ((bytes_eq-Decides a b).0 (sym (id_same a b) ∙ e))))
+    equal_truths (is_eq (id_cmp a b)) (same b a) (λ e. (bytes_eq-Decides b a).1 (sym ((bytes_eq-Decides a b).0 (sym (id_same a b) ∙ e))))
     (λ e. id_same a b ∙ (bytes_eq-Decides a b).1 (sym ((bytes_eq-Decides b a).0 e)))
 
 is_own : (id : Id) (thing : Id → Revoke) (o : Option Id) → ((other : Id) → is_eq (thing_cmp (thing id) (thing other)) ≡ same other id) → named (thing id) (option_map thing o) ≡ has o id
@@ -175,14 +160,9 @@ is_foreign : (what : Revoke) (thing : Id → Revoke) (o : Option Id) → ((other
 is_foreign what thing None other = refl
 is_foreign what thing (Some id) other = other id
 
--- the things of a holder are those that an event may name
-or_none : (b : Bool) → (b || false) ≡ b
-or_none true = refl
-or_none false = refl
-
 or_two : (a b : Bool) → (a || (b || false)) ≡ (a || b)
 or_two true b = refl
-or_two false b = or_none b
+or_two false b = or-false b
 
 or_three : (a b c : Bool) → (a || (b || (c || false))) ≡ (a || (b || c))
 or_three true b c = refl
@@ -200,7 +180,7 @@ all_named (revoke.Audit audit) holder =
     or_eight (id_same audit holder.audit) stays (is_foreign (revoke.Audit audit) revoke.User holder.trustor (λ other. refl))
     (is_foreign (revoke.Audit audit) revoke.User holder.trustee (λ other. refl)) (is_foreign (revoke.Audit audit) revoke.Project holder.project (λ other. refl))
     (is_foreign (revoke.Audit audit) revoke.Trust holder.trust (λ other. refl)) (is_foreign (revoke.Audit audit) revoke.Domain holder.user_domain (λ other. refl))
-    (is_foreign (revoke.Audit audit) revoke.Domain holder.scope_domain (λ other. refl)) ∙ or_none (bytes_eq audit holder.audit)
+    (is_foreign (revoke.Audit audit) revoke.Domain holder.scope_domain (λ other. refl)) ∙ or-false (bytes_eq audit holder.audit)
 all_named (revoke.User id) holder =
     or_eight stays (same_back id holder.user) (is_own id revoke.User holder.trustor (same_back id))
     (is_own id revoke.User holder.trustee (same_back id)) (is_foreign (revoke.User id) revoke.Project holder.project (λ other. refl))
@@ -210,7 +190,7 @@ all_named (revoke.Project id) holder =
     or_eight stays stays (is_foreign (revoke.Project id) revoke.User holder.trustor (λ other. refl))
     (is_foreign (revoke.Project id) revoke.User holder.trustee (λ other. refl)) (is_own id revoke.Project holder.project (same_back id))
     (is_foreign (revoke.Project id) revoke.Trust holder.trust (λ other. refl)) (is_foreign (revoke.Project id) revoke.Domain holder.user_domain (λ other. refl))
-    (is_foreign (revoke.Project id) revoke.Domain holder.scope_domain (λ other. refl)) ∙ or_none (has holder.project id)
+    (is_foreign (revoke.Project id) revoke.Domain holder.scope_domain (λ other. refl)) ∙ or-false (has holder.project id)
 all_named (revoke.Domain id) holder =
     or_eight stays stays (is_foreign (revoke.Domain id) revoke.User holder.trustor (λ other. refl))
     (is_foreign (revoke.Domain id) revoke.User holder.trustee (λ other. refl)) (is_foreign (revoke.Domain id) revoke.Project holder.project (λ other. refl))
@@ -220,7 +200,7 @@ all_named (revoke.Trust id) holder =
     or_eight stays stays (is_foreign (revoke.Trust id) revoke.User holder.trustor (λ other. refl))
     (is_foreign (revoke.Trust id) revoke.User holder.trustee (λ other. refl)) (is_foreign (revoke.Trust id) revoke.Project holder.project (λ other. refl))
     (is_own id revoke.Trust holder.trust (same_back id)) (is_foreign (revoke.Trust id) revoke.Domain holder.user_domain (λ other. refl))
-    (is_foreign (revoke.Trust id) revoke.Domain holder.scope_domain (λ other. refl)) ∙ or_none (has holder.trust id)
+    (is_foreign (revoke.Trust id) revoke.Domain holder.scope_domain (λ other. refl)) ∙ or-false (has holder.trust id)
 
 -- the rows of the holder's things end its token exactly where an event does
 ends_any : (issued : ℕ) (events marks : List EventRow) → AreMarks events marks → (thing : Option Revoke) →
@@ -243,12 +223,12 @@ tested issued holder events marks are =
 live_from : (life high : ℕ) (events : List EventRow) (holder : Holder) (issued : ℕ) → Passing (λ event. matches event holder issued) (live life high events) →
     is_revoked events holder issued ≡ true
 live_from life high events holder issued (event, among, passes) =
-    among_any (λ event. matches event holder issued) events event (among_filter (is_live life high) events event among).0 passes
+    any_to (λ event. matches event holder issued) events event (among_filter (is_live life high) events event among).0 passes
 
 live_at : (life high : ℕ) (events : List EventRow) (holder : Holder) (issued : ℕ) (event : EventRow) (b : Bool) → is_live life high event ≡ b →
     high < issued + life + 172800 → Among events event → matches event holder issued ≡ true → is_revoked (live life high events) holder issued ≡ true
 live_at life high events holder issued event true is within among passes =
-    among_any (λ event. matches event holder issued) (live life high events) event (filter_among (is_live life high) events event among is) passes
+    any_to (λ event. matches event holder issued) (live life high events) event (filter_among (is_live life high) events event among is) passes
 live_at life high events holder issued event false is within among passes =
     let before : issued ≤ event.moment = leb-true issued event.moment (and_parts (nat_le issued event.moment) (names event.what holder) passes).0 in
     absurd (omega (arith, past_is life high event is))
@@ -256,7 +236,7 @@ live_at life high events holder issued event false is within among passes =
 pub live_suffice : (life high : ℕ) (events : List EventRow) (holder : Holder) (issued : ℕ) → high < issued + life + window →
     is_revoked (live life high events) holder issued ≡ is_revoked events holder issued
 live_suffice life high events holder issued within =
-    both_true (is_revoked (live life high events) holder issued) (is_revoked events holder issued)
+    equal_truths (is_revoked (live life high events) holder issued) (is_revoked events holder issued)
     (λ some. live_from life high events holder issued (any_among (λ event. matches event holder issued) (live life high events) some))
     (λ some. let found = any_among (λ event. matches event holder issued) events some in
     live_at life high events holder issued found.0 (is_live life high found.0) refl within found.1 found.2)

@@ -1,13 +1,13 @@
 -- The order of things is total, and what it holds equal is the same.
-use Rattle.std.proofs.Common.{◌≡◌, ℕ, Bool, true, false, List, refl, ap}
-use Rattle.std.specs.declared.cmp.Ordering.{Ordering}
-use Rattle.std.specs.declared.cmp.Ordering.TheVariants.{Less, Equal, Greater}
+use Rattle.std.proofs.Common.{◌≡◌, true, ap}
+use Rattle.std.specs.declared.cmp.Ordering.TheVariants.{Equal}
 use Rattle.std.specs.Ordering.{is_eq}
 use Rattle.std.specs.Cmp.{IsTotalOrder}
 use Rattle.std.proofs.lemmas.Cmp.{nat_cmp_total, nat_list_cmp_total, then_total, on_total}
 use Rattle.ks_base.specs.declared.events.Revoke.{Revoke}
 use Rattle.ks_base.specs.declared.events.Revoke.TheVariants as revoke
 use Rattle.ks_base.specs.OrderLaws.{id_exact}
+use Rattle.ks_base.proofs.RowLemmas.{eq_is}
 use Rattle.ks_revoke.specs.Things.{rank_of, bytes_of, thing_cmp}
 
 pub thing_total : IsTotalOrder thing_cmp
@@ -24,11 +24,6 @@ thing_exact (revoke.Domain a) (revoke.Domain b) e = ap revoke.Domain (id_exact a
 thing_exact (revoke.Domain a) b e = cc
 thing_exact (revoke.Trust a) (revoke.Trust b) e = ap revoke.Trust (id_exact a b e)
 thing_exact (revoke.Trust a) b e = cc
-
-eq_is : (o : Ordering) → is_eq o ≡ true → o ≡ Equal
-eq_is Less e = cc
-eq_is Equal e = refl
-eq_is Greater e = cc
 
 -- two things that compare as equal are one
 pub alike : (a b : Revoke) → is_eq (thing_cmp a b) ≡ true → a ≡ b

@@ -2,6 +2,7 @@
 use Rattle.std.proofs.Common.{◌≡◌, ℕ, zero, suc, ◌+◌, ◌-◌, ◌<◌, ◌≤◌, Bool, not, List, [], ◌∷◌, ◌++◌, length, take, filter, find, Option, Some, None, inl, inr, refl, sym, ap, subst, ◌∙◌, arith, eq-eqb, ne_eqb, length-append, get_or, add-one}
 use Rattle.std.proofs.lemmas.Bool.{cases_Bool, cases_eq}
 use Rattle.std.proofs.lemmas.List.{length-take}
+use Rattle.std.proofs.lemmas.Option.{same_Some}
 use Rattle.ks_base.specs.declared.key.Key.{Key}
 use Rattle.ks_ring.specs.declared.held_key.HeldKey.{HeldKey}
 use Rattle.ks_ring.specs.Rings.{RingState, highest, is_staged, active, promoted_to, promoted, held_as, rotate_of, AreFalling, LacksNumber, AreNumbered, IsRing}
@@ -67,9 +68,6 @@ length-active (x ∷ xs) = elim (cases_eq x.index 0) [
   | inr other ↦ rw (ne_eqb x.index 0 other) (omega (arith, length-active xs))
 ]
 
-some_same : (a b : HeldKey) → Some a ≡ Some b → a ≡ b
-some_same a b is = cc
-
 none_some : (a : HeldKey) → None ≡ Some a → ⊥
 none_some a is = cc
 
@@ -85,7 +83,7 @@ found_apart : (number : ℕ) (staged : HeldKey) (xs : List HeldKey) → find is_
 found_apart number staged [] found lacks same = none_some staged found
 found_apart number staged (x ∷ xs) found lacks same = elim (cases_eq x.index 0) [
   | inl first ↦
-      let is : x ≡ staged = some_same x staged (rw (eq-eqb x.index 0 first) at found) in
+      let is : x ≡ staged = same_Some x staged (rw (eq-eqb x.index 0 first) at found) in
       lacks.0 (ap (λ h. h.number) is ∙ sym same)
   | inr other ↦ found_apart number staged xs (rw (ne_eqb x.index 0 other) at found) lacks.1 same
 ]
@@ -94,7 +92,7 @@ pub taken_out : (next : ℕ) (staged : HeldKey) (xs : List HeldKey) → find is_
 taken_out next staged [] found are = absurd (none_some staged found)
 taken_out next staged (x ∷ xs) found are = elim (cases_eq x.index 0) [
   | inl first ↦
-      let same : x ≡ staged = some_same x staged (rw (eq-eqb x.index 0 first) at found) in
+      let same : x ≡ staged = same_Some x staged (rw (eq-eqb x.index 0 first) at found) in
       subst (λ s. IsTakenOut next s (x ∷ xs)) same (record {
         lacks = rw (eq-eqb x.index 0 first) (lacks_filter x.number (λ h. not (is_staged h)) xs are.1);
         below = are.0;

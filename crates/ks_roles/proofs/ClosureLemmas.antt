@@ -14,6 +14,7 @@ use Rattle.ks_base.proofs.TableLemmas.{ascending_put}
 use Rattle.ks_base.proofs.RowLemmas.{id_same, find_put, find_put_other, among_put, put_among, among_put_other, has-Decides}
 use Rattle.ks_base.specs.RoleLists.{is_of_prior, implied_ids}
 use Rattle.ks_base.proofs.WalkLemmas.{implied_on, walk_stays, extensive}
+use Rattle.ks_base.proofs.AmongLemmas.{among_push, among_parts, among_left, among_right}
 
 -- ids as rows that are their own key
 abbrev put_id : Id → List Id → List Id
@@ -25,33 +26,6 @@ is_reached reached id = is_some (find_row id_cmp (λ next. next) id reached)
 -- the rows whose prior role is not reached yet
 abbrev pub unused : List Id → List ImplyRow → ℕ
 unused reached rows = length (filter (λ row. not (is_reached reached row.prior)) rows)
-
--- parts of lists
-among_parts : (xs ys : List Id) (x : Id) → Among (xs ++ ys) x → Among xs x ⊎ Among ys x
-among_parts [] ys x among = inr among
-among_parts (next ∷ xs) ys x (inl same) = inl (inl same)
-among_parts (next ∷ xs) ys x (inr among) = into (among_parts xs ys x among)
-  where
-    into : Among xs x ⊎ Among ys x → Among (next ∷ xs) x ⊎ Among ys x
-    into (inl left) = inl (inr left)
-    into (inr right) = inr right
-
-among_left : (xs ys : List Id) (x : Id) → Among xs x → Among (xs ++ ys) x
-among_left [] ys x among = absurd among
-among_left (next ∷ xs) ys x (inl same) = inl same
-among_left (next ∷ xs) ys x (inr among) = inr (among_left xs ys x among)
-
-among_right : (xs ys : List Id) (x : Id) → Among ys x → Among (xs ++ ys) x
-among_right [] ys x among = among
-among_right (next ∷ xs) ys x among = inr (among_right xs ys x among)
-
-among_last : (xs : List Id) (id x : Id) → Among (xs ++ id ∷ []) x → Among xs x ⊎ (id ≡ x)
-among_last xs id x among = into (among_parts xs (id ∷ []) x among)
-  where
-    into : Among xs x ⊎ Among (id ∷ []) x → Among xs x ⊎ (id ≡ x)
-    into (inl left) = inl left
-    into (inr (inl same)) = inr same
-    into (inr (inr none)) = absurd none
 
 -- the directly implied
 record OfRow (rows : List ImplyRow) (prior x : Id) : Type 0 where
@@ -120,7 +94,7 @@ starts rows roots = record {
 -- the last of the next ones was reached before
 reached_or_next : (reached next : List Id) (id x : Id) → Among reached id → Among reached x ⊎ Among (next ++ id ∷ []) x → Among reached x ⊎ Among next x
 reached_or_next reached next id x old (inl among) = inl among
-reached_or_next reached next id x old (inr among) = into (among_last next id x among)
+reached_or_next reached next id x old (inr among) = into (among_push next id x among)
   where
     into : Among next x ⊎ (id ≡ x) → Among reached x ⊎ Among next x
     into (inl left) = inr left
@@ -140,7 +114,7 @@ passes rows roots reached next id old way = record {
 put_or_next : (rows : List ImplyRow) (reached next : List Id) (id x : Id) → Among reached x ⊎ Among (next ++ id ∷ []) x →
     Among (put_id id reached) x ⊎ Among (next ++ implied_ids id rows) x
 put_or_next rows reached next id x (inl among) = inl (keeps id x reached among)
-put_or_next rows reached next id x (inr among) = into (among_last next id x among)
+put_or_next rows reached next id x (inr among) = into (among_push next id x among)
   where
     into : Among next x ⊎ (id ≡ x) → Among (put_id id reached) x ⊎ Among (next ++ implied_ids id rows) x
     into (inl left) = inr (among_left next (implied_ids id rows) x left)

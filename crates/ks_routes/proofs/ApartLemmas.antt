@@ -1,23 +1,14 @@
 -- Nothing fits two patterns that are apart, so a row that the segments fit is the one that is found.
 use Rattle.std.proofs.Common.{◌≡◌, ℕ, zero, suc, Bool, true, false, List, [], ◌∷◌, Some, None, refl, sym, ap, ◌∙◌, cond}
-use Rattle.std.specs.Prelude.{not, ◌&&◌, ◌||◌, slice_get}
+use Rattle.std.specs.Prelude.{◌||◌, slice_get}
 use Rattle.std.specs.List.{list_all}
 use Rattle.std.specs.Str.{bytes_eq}
 use Rattle.std.proofs.lemmas.Slice.Eq.{bytes_eq-Decides}
-use Rattle.ks_routes.specs.Patterns.{Part, literal, id, is_id, takes, fits, differ, apart}
+use Rattle.std.proofs.lemmas.Bool.{false_from_ne_true, and_parts}
+use Rattle.ks_base.proofs.TruthLemmas.{not_both}
+use Rattle.ks_base.specs.Ids.{is_id}
+use Rattle.ks_routes.specs.Patterns.{Part, literal, id, takes, fits, differ, apart}
 use Rattle.ks_routes.specs.Tables.{Row, found, are_apart}
-
-and_left : (a b : Bool) → (a && b) ≡ true → a ≡ true
-and_left true b e = refl
-and_left false b e = e
-
-and_right : (a b : Bool) → (a && b) ≡ true → b ≡ true
-and_right true b e = e
-and_right false b e = cc
-
-not_both : (b : Bool) → not b ≡ true → b ≡ true → ⊥
-not_both true e t = cc
-not_both false e t = cc
 
 -- a segment that a text takes is that text
 same_text : (text segment : List ℕ) → bytes_eq text segment ≡ true → segment ≡ text
@@ -45,20 +36,16 @@ apart_not_both (p ∷ ps) [] [] d p_fits q_fits = cc
 apart_not_both (p ∷ ps) [] (segment ∷ segments) d p_fits q_fits = cc
 apart_not_both (p ∷ ps) (q ∷ qs) [] d p_fits q_fits = cc
 apart_not_both (p ∷ ps) (q ∷ qs) (segment ∷ segments) d p_fits q_fits =
-    let p_takes = and_left (takes p segment) (fits ps segments) p_fits in
-    let q_takes = and_left (takes q segment) (fits qs segments) q_fits in
+    let p_takes = (and_parts (takes p segment) (fits ps segments) p_fits).0 in
+    let q_takes = (and_parts (takes q segment) (fits qs segments) q_fits).0 in
     let behind = either (differ p q) (apart ps qs) d (λ e. differ_not_both p q segment e p_takes q_takes) in
-    apart_not_both ps qs segments behind (and_right (takes p segment) (fits ps segments) p_fits) (and_right (takes q segment) (fits qs segments) q_fits)
+    apart_not_both ps qs segments behind (and_parts (takes p segment) (fits ps segments) p_fits).1 (and_parts (takes q segment) (fits qs segments) q_fits).1
 
 -- a test of each element holds at one of them
 pub at_element : {X : Type 0} (test : X → Bool) (xs : List X) (k : ℕ) (x : X) → list_all test xs ≡ true → slice_get xs k ≡ Some x → test x ≡ true
 at_element test [] k x all at = cc
-at_element test (y ∷ xs) zero x all at = let same : y ≡ x = cc in ap test (sym same) ∙ and_left (test y) (list_all test xs) all
-at_element test (y ∷ xs) (suc k) x all at = at_element test xs k x (and_right (test y) (list_all test xs) all) at
-
-false_from_not : (b : Bool) → (b ≡ true → ⊥) → b ≡ false
-false_from_not true h = absurd (h refl)
-false_from_not false h = refl
+at_element test (y ∷ xs) zero x all at = let same : y ≡ x = cc in ap test (sym same) ∙ (and_parts (test y) (list_all test xs) all).0
+at_element test (y ∷ xs) (suc k) x all at = at_element test xs k x (and_parts (test y) (list_all test xs) all).1 at
 
 -- what fits the first row fits none behind it
 behind_other : {A : Type 0} (first : Row A) (rows : List (Row A)) (k : ℕ) (row : Row A) (segments : List (List ℕ))
@@ -77,8 +64,8 @@ found_at (first ∷ rows) zero row segments apart at fit =
     rw fits_first at
 found_at (first ∷ rows) (suc k) row segments apart at fit =
     let other : fits first.pattern segments ≡ false =
-    false_from_not _ (λ e. behind_other first rows k row segments (and_left _ (are_apart rows) apart) at e fit) in
-    rw other (found_at rows k row segments (and_right _ (are_apart rows) apart) at fit)
+    false_from_ne_true _ (λ e. behind_other first rows k row segments (and_parts _ (are_apart rows) apart).0 at e fit) in
+    rw other (found_at rows k row segments (and_parts _ (are_apart rows) apart).1 at fit)
 
 -- no segments fit two rows
 pub one_row : {A : Type 0} (rows : List (Row A)) (i j : ℕ) (a b : Row A) (segments : List (List ℕ))
@@ -89,12 +76,12 @@ one_row [] i j a b segments apart at_i at_j fit_a fit_b = cc
 one_row (first ∷ rows) zero zero a b segments apart at_i at_j fit_a fit_b = refl
 one_row (first ∷ rows) zero (suc j) a b segments apart at_i at_j fit_a fit_b =
     let same : first ≡ a = cc in
-    absurd (behind_other first rows j b segments (and_left _ (are_apart rows) apart) at_j (ap (λ r. fits r.pattern segments) same ∙ fit_a) fit_b)
+    absurd (behind_other first rows j b segments (and_parts _ (are_apart rows) apart).0 at_j (ap (λ r. fits r.pattern segments) same ∙ fit_a) fit_b)
 one_row (first ∷ rows) (suc i) zero a b segments apart at_i at_j fit_a fit_b =
     let same : first ≡ b = cc in
-    absurd (behind_other first rows i a segments (and_left _ (are_apart rows) apart) at_i (ap (λ r. fits r.pattern segments) same ∙ fit_b) fit_a)
+    absurd (behind_other first rows i a segments (and_parts _ (are_apart rows) apart).0 at_i (ap (λ r. fits r.pattern segments) same ∙ fit_b) fit_a)
 one_row (first ∷ rows) (suc i) (suc j) a b segments apart at_i at_j fit_a fit_b =
-    ap suc (one_row rows i j a b segments (and_right _ (are_apart rows) apart) at_i at_j fit_a fit_b)
+    ap suc (one_row rows i j a b segments (and_parts _ (are_apart rows) apart).1 at_i at_j fit_a fit_b)
 
 -- where no row is found, the segments fit none
 pub none_fits : {A : Type 0} (rows : List (Row A)) (segments : List (List ℕ)) → found rows segments ≡ None

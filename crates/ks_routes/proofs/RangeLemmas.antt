@@ -1,8 +1,8 @@
 -- What requests ask for is in range.
-use Rattle.std.proofs.Common.{◌≡◌, ℕ, ◌+◌, Bool, true, false, List, Option, Some, None, Ok, Err, refl, sym, ◌∙◌}
+use Rattle.std.proofs.Common.{◌≡◌, ℕ, ◌+◌, Bool, true, false, List, Option, Some, None, Ok, Err, refl}
+use Rattle.std.proofs.lemmas.Bool.{not-true}
 use Rattle.std.specs.Prelude.{Result, IfSome, not, option_map}
 use Rattle.std.specs.List.{list_all}
-use mathlib.Core.Logic.{⊎_elim}
 use Rattle.ks_base.specs.declared.grants.Target.TheVariants as target
 use Rattle.ks_base.specs.declared.shapes.ShapeFault.{ShapeFault}
 use Rattle.ks_base.specs.Rows.{Id}
@@ -30,7 +30,7 @@ use Rattle.ks_routes.specs.declared.routed.Routed.TheVariants as routed
 use Rattle.ks_routes.specs.Asked.{actor_of, asked, both, grant_in, grants_in, id_at, ids_in, implication_in, kind_of, login_by, made_by, member_in, over, password_by, read_by, target_ids, target_of, trust_by, with_id}
 use Rattle.ks_routes.specs.Patterns.{segments}
 use Rattle.ks_routes.specs.Ranges.{CommandsAreInRange}
-use Rattle.ks_routes.specs.Routes.{Answers, answered, command_of, routed_by, table}
+use Rattle.ks_routes.specs.Routes.{answered, command_of, routed_by, table}
 use Rattle.ks_routes.specs.Tables.{Row, action_of, found}
 use Rattle.ks_routes.proofs.RowLemmas.{all_methods, at_method, found_passes}
 
@@ -101,10 +101,6 @@ is_place target_kind.System inherited = not inherited
 is_place target_kind.Project inherited = true
 is_place target_kind.Domain inherited = true
 
-not_true : (b : Bool) → not b ≡ true → b ≡ false
-not_true true e = cc
-not_true false e = refl
-
 mapped : {A B : Type 0} (P : B → Type 0) (f : A → B) (a : Option A) → IfSome a (λ x. P (f x)) → IfSome (option_map f a) P
 mapped P f (Some a) is = is
 mapped P f None is = tt
@@ -124,7 +120,7 @@ second_of_both P (Some a) None is = tt
 second_of_both P None b is = tt
 
 target_in : (k : TargetKind) (inherited : Bool) (ids : List Id) → is_place k inherited ≡ true → IfSome (target_of k ids) (λ at. IsPlace at inherited)
-target_in target_kind.System inherited ids is = not_true inherited is
+target_in target_kind.System inherited ids is = not-true inherited is
 target_in target_kind.Project inherited ids is = each_mapped (λ at. IsPlace at inherited) (λ a. target.Project a) (id_at ids 0) (λ a. tt)
 target_in target_kind.Domain inherited ids is = each_mapped (λ at. IsPlace at inherited) (λ a. target.Domain a) (id_at ids 0) (λ a. tt)
 
@@ -222,10 +218,3 @@ pub commands_in_range : CommandsAreInRange
 unfolding command_of
 commands_in_range request what is =
     rw is at (routed_in table request table_in_place (found table (segments request.path)) refl)
-
--- so are those of a command that is answered
-pub answers_in_range : (request : Request) (result : Routed) (what : Command) → Answers (command_of request) result → result ≡ routed.Command what → AreFields what
-answers_in_range request result what answers is = ⊎_elim
-    (λ same. commands_in_range request what (sym same ∙ is))
-    (λ memory. let no : routed.Memory ≡ routed.Command what = sym memory ∙ is in cc)
-    answers

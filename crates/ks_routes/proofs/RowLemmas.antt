@@ -1,6 +1,7 @@
 -- What is tested of each row of a table holds of the row that is found, and what is tested of each method of a row holds of
 -- what the request's method asks for.
 use Rattle.std.proofs.Common.{◌≡◌, ℕ, Bool, true, false, ◌&&◌, if◌then◌else◌, List, [], ◌∷◌, Option, Some, None, refl, subst}
+use Rattle.std.proofs.lemmas.Bool.{and_parts}
 use Rattle.std.specs.List.{list_all}
 use Rattle.ks_base.specs.declared.method.Method.{Method}
 use Rattle.ks_base.specs.declared.method.Method.TheVariants.{Get, Head, Post, Patch, Put, Delete, Other}
@@ -8,10 +9,6 @@ use Rattle.ks_routes.specs.declared.action.Action.{Action}
 use Rattle.ks_routes.specs.declared.methods.Methods.{Methods}
 use Rattle.ks_routes.specs.Patterns.{fits}
 use Rattle.ks_routes.specs.Tables.{Row, found, action_of}
-
-pub both_true : (a b : Bool) → (a && b) ≡ true → (a ≡ true) × (b ≡ true)
-both_true true b e = (refl, e)
-both_true false b e = cc
 
 abbrev pub all_methods : (Option Action → Bool) → Methods Action → Bool
 all_methods test methods =
@@ -62,5 +59,5 @@ pub found_passes : (test : Row Action → Bool) (rows : List (Row Action)) (segm
 unfolding found
 found_passes test [] segments row passes found_is = cc
 found_passes test (next ∷ rows) segments row passes found_is =
-    let both = both_true (test next) (list_all test rows) passes in
+    let both = and_parts (test next) (list_all test rows) passes in
     found_by test next rows segments row (fits next.pattern segments) refl both.0 found_is (found_passes test rows segments row both.1)

@@ -1,11 +1,11 @@
 -- The first segment of a text.
-use Rattle.std.proofs.Common.{◌≡◌, ℕ, ◌+◌, ◌<◌, ◌≤◌, ◌==◌, Bool, List, [], ◌∷◌, length, take, drop, Some, None, ap, ◌∙◌, arith, cond, nat_lt}
+use Rattle.std.proofs.Common.{◌≡◌, ℕ, ◌+◌, ◌<◌, ◌==◌, Bool, List, [], ◌∷◌, length, take, drop, Some, None, ap, ◌∙◌, arith}
 use Rattle.std.specs.List.{position, position_or_len}
-use Rattle.std.proofs.lemmas.Bool.Decides.{nat_tests}
 use Rattle.std.proofs.lemmas.List.{drop-drop}
 use Rattle.std.proofs.lemmas.List.Sums.{position_or_len_is, fails_before_first}
 use Rattle.std.proofs.lemmas.List.Quantifiers.{position-Some}
 use Rattle.std.proofs.lemmas.List.Splits.{slice_split_first, slice_split_none}
+use Rattle.ks_base.proofs.ListLemmas.{not_found}
 use Rattle.ks_routes.specs.Patterns.{segments}
 
 abbrev is_slash : ℕ → Bool
@@ -25,11 +25,6 @@ segments_cut text k front rest behind found f r b =
     let behind_is : behind ≡ drop (k + 1) text = b ∙ (ap (λ l. drop 1 l) r ∙ drop-drop 1 k text) in
     let split = slice_split_first is_slash text 0 long in
     rw (f, behind_is) (rw at.0 at split)
-
-not_found : (p : ℕ → Bool) (xs : List ℕ) → position p xs ≡ None → length xs ≤ position_or_len p xs
-not_found p xs none = reaches (position_or_len p xs) (length xs) none where
-  reaches : (m n : ℕ) → cond (nat_lt m n) (Some m) None ≡ None → n ≤ m
-  reaches m n e = grind (arith, nat_tests)
 
 -- a text with no slash is one segment
 pub segments_whole : (text : List ℕ) → position is_slash text ≡ None → segments text ≡ text ∷ []

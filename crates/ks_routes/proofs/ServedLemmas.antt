@@ -1,11 +1,14 @@
 -- A path that fits a row of the table is served by it: its ids are as many as the actions need.
 use Rattle.std.proofs.Common.{◌≡◌, ℕ, suc, ◌+◌, ◌≤◌, Bool, true, false, List, [], ◌∷◌, length, Option, Some, None, Result, Ok, Err, refl, sym, ap, subst, ◌∙◌, arith}
+use Rattle.std.proofs.lemmas.Bool.{and_parts}
 use Rattle.std.specs.Prelude.{◌≢◌, nat_le}
 use Rattle.serde_json.specs.Data.{Data}
 use Rattle.ks_base.specs.declared.kinds.Kind.{Kind}
 use Rattle.ks_base.specs.declared.shapes.ShapeFault.{ShapeFault}
 use Rattle.ks_base.specs.declared.shapes.ShapeFault.TheVariants as fault
 use Rattle.ks_base.specs.Rows.{Id, Text}
+use Rattle.ks_base.specs.Ids.{is_id}
+use Rattle.ks_base.specs.Results.{◌>>=◌}
 use Rattle.ks_http.specs.declared.request.Request.{Request}
 use Rattle.ks_machine.specs.declared.bodies.LoginBody.{LoginBody}
 use Rattle.ks_machine.specs.declared.bodies.Made.{Made}
@@ -16,7 +19,7 @@ use Rattle.ks_shape.specs.Bodies.{body_of, document, form_of, password_of, whole
 use Rattle.ks_shape.specs.Fields.{needed as needed_field}
 use Rattle.ks_shape.specs.Logins.{login_of}
 use Rattle.ks_shape.specs.Places.{names}
-use Rattle.ks_shape.specs.Readings.{◌>>=◌, found as found_or}
+use Rattle.ks_base.specs.Results.{found as found_or}
 use Rattle.ks_shape.specs.Rows.{made_of}
 use Rattle.ks_shape.specs.Trusts.{trust_of}
 use Rattle.ks_shape.specs.Types.{password_text}
@@ -31,9 +34,9 @@ use Rattle.ks_routes.specs.declared.action.TargetKind.TheVariants as target_kind
 use Rattle.ks_routes.specs.declared.routed.Routed.{Routed}
 use Rattle.ks_routes.specs.declared.routed.Routed.TheVariants as routed
 use Rattle.ks_routes.specs.Asked.{asked, ids_in, kind_of, login_by, made_by, password_by, read_by, target_ids, trust_by}
-use Rattle.ks_routes.specs.Patterns.{Part, literal, id, is_id, fits, takes}
+use Rattle.ks_routes.specs.Patterns.{Part, literal, id, fits, takes}
 use Rattle.ks_routes.specs.Tables.{Row}
-use Rattle.ks_routes.proofs.RowLemmas.{all_methods, both_true}
+use Rattle.ks_routes.proofs.RowLemmas.{all_methods}
 
 abbrev is_served : Routed → Bool
 is_served (routed.Command asks) = true
@@ -258,9 +261,9 @@ unfolding fits ids_in
 ids_counted [] [] fit = refl
 ids_counted [] (segment ∷ segments) fit = cc
 ids_counted (part ∷ parts) [] fit = cc
-ids_counted (literal text ∷ parts) (segment ∷ segments) fit = ids_counted parts segments (both_true (takes (literal text) segment) (fits parts segments) fit).1
+ids_counted (literal text ∷ parts) (segment ∷ segments) fit = ids_counted parts segments (and_parts (takes (literal text) segment) (fits parts segments) fit).1
 ids_counted (id ∷ parts) (segment ∷ segments) fit =
-    let both = both_true (is_id segment) (fits parts segments) fit in
+    let both = and_parts (is_id segment) (fits parts segments) fit in
     rw both.0 (ap suc (ids_counted parts segments both.1))
 
 -- the pattern has the ids that an action needs, and those of each method

@@ -11,10 +11,12 @@ use Rattle.ks_base.specs.declared.kinds.Kind.TheVariants as kind
 use Rattle.ks_base.specs.declared.shapes.ShapeFault.{ShapeFault}
 use Rattle.ks_base.specs.declared.users.MemberRow.{MemberRow}
 use Rattle.ks_base.specs.Rows.{Id}
+use Rattle.ks_base.specs.Ids.{is_id}
 use Rattle.ks_http.specs.declared.request.Request.{Request}
 use Rattle.ks_machine.specs.declared.bodies.Made.{Made}
 use Rattle.ks_machine.specs.declared.command.Command.{Command}
 use Rattle.ks_machine.specs.declared.command.Command.TheVariants as command
+use Rattle.ks_machine.specs.Targets.{filter_names}
 use Rattle.ks_shape.specs.Bodies.{body_of}
 use Rattle.ks_shape.specs.declared.form.BodyIn.{BodyIn}
 use Rattle.ks_shape.specs.declared.form.BodyIn.TheVariants as body
@@ -30,8 +32,8 @@ use Rattle.ks_routes.specs.declared.action.TargetKind.{TargetKind}
 use Rattle.ks_routes.specs.declared.action.TargetKind.TheVariants as target_kind
 use Rattle.ks_routes.specs.declared.routed.Routed.{Routed}
 use Rattle.ks_routes.specs.declared.routed.Routed.TheVariants as routed
-use Rattle.ks_routes.specs.Patterns.{Part, literal, id, is_id}
-use Rattle.ks_routes.specs.Queries.{allows_expired, assignment_filters, filter_in, kind_filters, trust_filters}
+use Rattle.ks_routes.specs.Patterns.{Part, literal, id}
+use Rattle.ks_routes.specs.Queries.{allows_expired, assignment_filters, filter_in, trust_filters}
 
 -- the id that a segment is, where the part of a pattern stands for one
 abbrev pub id_read : List ℕ → Option Id
@@ -149,7 +151,7 @@ asked action.Check ids request = routed.Command (command.Check (allows_expired r
 asked action.RevokeToken ids request = routed.Command command.RevokeToken
 asked (action.Create kind) ids request =
     read_by (made_by (λ made. command.Create made)) (body_of (form.Made (kind_of kind) true) request.body)
-asked (action.List kind) ids request = routed.Command (command.List (kind_of kind) (filter_in (kind_filters kind) request.query))
+asked (action.List kind) ids request = routed.Command (command.List (kind_of kind) (filter_in (filter_names (kind_of kind)) request.query))
 asked (action.Get kind) ids request = over (id_at ids 0) (λ a. command.Get (kind_of kind) a)
 asked (action.Update kind) ids request =
     with_id (id_at ids 0) (λ a. read_by (made_by (λ made. command.Update a made)) (body_of (form.Made (kind_of kind) false) request.body))

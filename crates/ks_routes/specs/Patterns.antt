@@ -1,9 +1,8 @@
 -- The patterns of paths.
-use Rattle.std.specs.Prelude.{ℕ, Bool, true, false, not, ◌&&◌, ◌||◌, ◌==◌, if◌then◌else◌, nat_lt, nat_le, List, [], ◌∷◌, length, map}
-use Rattle.std.specs.List.{list_all, slice_split}
+use Rattle.std.specs.Prelude.{ℕ, Bool, true, false, not, ◌&&◌, ◌||◌, ◌==◌, if◌then◌else◌, List, [], ◌∷◌, map}
+use Rattle.std.specs.List.{slice_split}
 use Rattle.std.specs.Str.{bytes_eq}
-use Rattle.ks_base.specs.Ids.{is_id_byte}
-use Rattle.ks_base.specs.declared.limits.TheConstants.{ID_BYTES}
+use Rattle.ks_base.specs.Ids.{is_id}
 
 -- the segments of a text: what stands between its slashes, before the first and behind the last
 abbrev pub segments : List ℕ → List (List ℕ)
@@ -21,10 +20,6 @@ part_of (b ∷ text) = if b == 123 then id else literal (b ∷ text)
 
 abbrev pub pattern_of : List ℕ → List Part
 pattern_of text = map part_of (segments text)
-
--- 1 to 64 bytes of 0-9, A-Z, a-z, _ and -
-abbrev pub is_id : List ℕ → Bool
-is_id segment = nat_lt 0 (length segment) && (nat_le (length segment) ID_BYTES && list_all is_id_byte segment)
 
 -- the segment is one that the part stands for
 abbrev pub takes : Part → List ℕ → Bool

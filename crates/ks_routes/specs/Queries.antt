@@ -7,7 +7,6 @@ use Rattle.form_urlencoded.specs.Form.{decode, raw_pairs}
 use Rattle.ks_base.specs.declared.shapes.Filter.{Filter}
 use Rattle.ks_base.specs.Rows.{Text}
 use Rattle.ks_rule.specs.Kinds.{Fields, value_in}
-use Rattle.ks_routes.specs.declared.action.RowKind.{RowKind}
 use Rattle.ks_routes.specs.declared.action.RowKind.TheVariants as row_kind
 
 -- the text that a part of a query stands for; what is not UTF-8 is replaced
@@ -34,14 +33,6 @@ known_fields (name ∷ names) fields = field_of name (value_in fields name) ++ k
 -- the filter that a query gives of these names
 abbrev pub filter_in : List Text → List ℕ → Filter
 filter_in names query = record { fields = known_fields names (fields_in query) }
-
--- the names by which a listing of a kind is filtered, each where a row has the field
-abbrev pub kind_filters : RowKind → List Text
-kind_filters row_kind.Domain = codes "name" ∷ codes "enabled" ∷ []
-kind_filters row_kind.Project = codes "name" ∷ codes "domain_id" ∷ codes "parent_id" ∷ codes "enabled" ∷ []
-kind_filters row_kind.User = codes "name" ∷ codes "domain_id" ∷ codes "enabled" ∷ []
-kind_filters row_kind.Group = codes "name" ∷ codes "domain_id" ∷ []
-kind_filters row_kind.Role = codes "name" ∷ []
 
 abbrev pub assignment_filters : List Text
 assignment_filters =

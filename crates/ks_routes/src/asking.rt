@@ -1,10 +1,11 @@
 //! The command that a request makes of what its route asks for.
 ghost use Rattle.std.specs.Prelude.{◌≡◌, true, false, IfOk};
 ghost use Rattle.ks_machine.specs.declared.command.Command.TheVariants as commands;
+ghost use Rattle.ks_machine.specs.Targets.{filter_names};
 ghost use Rattle.ks_shape.specs.Bodies.{body_of};
 ghost use Rattle.ks_shape.specs.declared.form.Form.TheVariants as forms;
 ghost use Rattle.ks_routes.specs.Asked.{actor_of, asked, both, grant_in, grants_in, implication_in, kind_of, login_by, made_by, member_in, password_by, read_by, routed_over, target_ids, target_of, trust_by};
-ghost use Rattle.ks_routes.specs.Queries.{allows_expired, assignment_filters as assignment_names, filter_in, kind_filters as filters_of, trust_filters as trust_names};
+ghost use Rattle.ks_routes.specs.Queries.{allows_expired, assignment_filters as assignment_names, filter_in, trust_filters as trust_names};
 ghost use Rattle.ks_routes.specs.steps.Reading.{IsAsked, unread_of};
 ghost use Rattle.ks_routes.specs.Routes.{Answers};
 
@@ -179,7 +180,7 @@ fn create_trust(alloc: Global, request: &Request) -> Routed
 
 /// The listing of a kind that the query asks for.
 fn list(alloc: Global, kind: RowKind, request: &Request) -> Result<Command, Memory>
-    ensures { IfOk result (λ command. command ≡ commands.List (kind_of kind) (filter_in (filters_of kind) request.now.query)) }
+    ensures { IfOk result (λ command. command ≡ commands.List (kind_of kind) (filter_in (filter_names (kind_of kind)) request.now.query)) }
 {
     let filter = filter_in(alloc, kind_filters(kind), request.query.as_slice())?;
     Ok(Command::List(kind.kind(), filter))

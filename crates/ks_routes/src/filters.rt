@@ -1,13 +1,15 @@
 //! The names by which listings are filtered.
 ghost use Rattle.std.specs.Prelude.{◌≡◌};
-ghost use Rattle.ks_routes.specs.Queries.{assignment_filters, kind_filters, trust_filters};
+ghost use Rattle.ks_machine.specs.Targets.{filter_names};
+ghost use Rattle.ks_routes.specs.Asked.{kind_of};
+ghost use Rattle.ks_routes.specs.Queries.{assignment_filters, trust_filters};
 ghost use Rattle.ks_shape.specs.Places.{names_in};
 
 use crate::action::RowKind;
 
 /// Those of a kind, each where its rows have the field.
 pub fn kind_filters(kind: RowKind) -> &'static [&'static str]
-    ensures { names_in result.now ≡ kind_filters kind }
+    ensures { names_in result.now ≡ filter_names (kind_of kind) }
 {
     match kind {
         RowKind::Domain => &["name", "enabled"],

@@ -1,5 +1,6 @@
 ghost use Rattle.std.specs.Prelude.{◌≡◌};
-ghost use Rattle.ks_routes.specs.Patterns.{fits, is_id, part_of, pattern_of, segments, takes};
+ghost use Rattle.ks_base.specs.Ids.{is_id};
+ghost use Rattle.ks_routes.specs.Patterns.{fits, part_of, pattern_of, segments, takes};
 
 use crate::segments::Segments;
 use ks_base::Id;

@@ -1,11 +1,12 @@
 -- The pieces at the front of a text that is filled.
-use Rattle.std.proofs.Common.{◌≡◌, ◌≢◌, ◌⊎◌, inl, inr, refl, sym, ap, ◌∙◌, subst, ℕ, ◌+◌, ◌<◌, Bool, true, false, cond, ◌||◌, ◌==◌, List, [], ◌∷◌, ◌++◌, length, Some, None, Option, arith, append_assoc, append-nil, length-take, take, drop, get_or, eqb-true, take-append-drop, not}
+use Rattle.std.proofs.Common.{◌≡◌, ◌≢◌, ◌⊎◌, inl, inr, refl, sym, ap, ◌∙◌, subst, ℕ, ◌+◌, ◌<◌, true, false, cond, ◌==◌, List, [], ◌∷◌, ◌++◌, length, Some, None, Option, arith, append_assoc, append-nil, length-take, take, drop, get_or, eqb-true, take-append-drop, not}
 use Rattle.std.specs.Prelude.{option_map, option_and_then, is_some}
 use Rattle.std.specs.List.{list_any, position, position_or_len}
 use Rattle.std.proofs.lemmas.Bool.Decides.{nat_tests}
 use Rattle.std.proofs.lemmas.List.{drop-drop, nil_from_length}
 use Rattle.std.proofs.lemmas.List.Quantifiers.{position-Some}
 use Rattle.std.proofs.lemmas.List.Sums.{prefix_len-le-length}
+use Rattle.std.proofs.lemmas.Bool.{or_parts}
 use Rattle.std.specs.Borrow.{Bor}
 use Rattle.ks_rule.specs.declared.pieces.Front.{Front}
 use Rattle.ks_rule.specs.declared.pieces.Front.TheVariants as front
@@ -18,18 +19,13 @@ use Rattle.ks_rule.specs.Filling.{Piece, plain, key, is_percent, before, pieces,
 pub other_test : (a b : ℕ) → a ≢ b → (a == b) ≡ false
 other_test a b other = grind (arith, nat_tests)
 
--- neither passes
-pub neither : (a b : Bool) → (a || b) ≡ false → (a ≡ false) × (b ≡ false)
-neither true b e = cc
-neither false b e = (refl, e)
-
 pub pieces_plain : (b : ℕ) (text : List ℕ) → is_percent b ≡ false → pieces (b ∷ text) ≡ before (plain b) (pieces text)
 pieces_plain b text e = ap (λ v. cond v (marked text) (before (plain b) (pieces text))) e
 
 keyed_on : (name tail sofar : List ℕ) → list_any is_closing name ≡ false → keyed (name ++ 41 ∷ tail) sofar ≡ closed tail (sofar ++ name)
 keyed_on [] tail sofar none = ap (closed tail) (sym (append-nil sofar))
 keyed_on (b ∷ name) tail sofar none =
-    let both = neither (is_closing b) (list_any is_closing name) none in
+    let both = or_parts (is_closing b) (list_any is_closing name) none in
     ap (λ v. cond v (closed (name ++ 41 ∷ tail) sofar) (keyed (name ++ 41 ∷ tail) (sofar ++ b ∷ []))) both.0
     ∙ (keyed_on name tail (sofar ++ b ∷ []) both.1 ∙ ap (closed tail) (append_assoc sofar (b ∷ []) name))
 
@@ -39,7 +35,7 @@ keyed_name name tail none = keyed_on name tail [] none
 pub keyed_none : (text sofar : List ℕ) → list_any is_closing text ≡ false → keyed text sofar ≡ None
 keyed_none [] sofar none = refl
 keyed_none (b ∷ text) sofar none =
-    let both = neither (is_closing b) (list_any is_closing text) none in
+    let both = or_parts (is_closing b) (list_any is_closing text) none in
     ap (λ v. cond v (closed text sofar) (keyed text (sofar ++ b ∷ []))) both.0 ∙ keyed_none text (sofar ++ b ∷ []) both.1
 
 closed_name : (name rest : List ℕ) → name ≢ [] → closed (115 ∷ rest) name ≡ before (key name) (pieces rest)
@@ -63,7 +59,7 @@ pub fillable_plain : (text rest : List ℕ) → list_any is_percent text ≡ fal
 unfolding is_fillable
 fillable_plain [] rest none = refl
 fillable_plain (b ∷ text) rest none =
-    let both = neither (is_percent b) (list_any is_percent text) none in
+    let both = or_parts (is_percent b) (list_any is_percent text) none in
     ap is_some (pieces_plain b (text ++ rest) both.0) ∙ (some_before (plain b) (pieces (text ++ rest)) ∙ fillable_plain text rest both.1)
 
 -- the filled text behind a piece
@@ -84,7 +80,7 @@ pub filled_plain : (target : Fields) (text rest : List ℕ) → list_any is_perc
 unfolding filled
 filled_plain target [] rest none = map_none (filled target rest)
 filled_plain target (b ∷ text) rest none =
-    let both = neither (is_percent b) (list_any is_percent text) none in
+    let both = or_parts (is_percent b) (list_any is_percent text) none in
     ap (option_and_then (fill target)) (pieces_plain b (text ++ rest) both.0)
     ∙ (fill_plain target b (pieces (text ++ rest)) ∙ (ap (option_map (λ more. b ∷ more)) (filled_plain target text rest both.1) ∙ map_twice b text (filled target rest)))
 
@@ -157,25 +153,6 @@ key_found text name behind rest k b cut some begins mark =
 
 abbrev pub BeginsPlain : List ℕ → Type 0
 BeginsPlain text = (b : ℕ) × (more : List ℕ) × (text ≡ b ∷ more) × (is_percent b ≡ false)
-
--- a % that begins no key
-pub marked_end : (text rest : List ℕ) → text ≡ 37 ∷ rest → rest ≡ [] → pieces text ≡ None
-marked_end text rest is end = ap pieces is ∙ ap marked end
-
-pub marked_other : (text rest more : List ℕ) (b : ℕ) → text ≡ 37 ∷ rest → rest ≡ b ∷ more → b ≢ 40 → pieces text ≡ None
-marked_other text rest more b is begins other =
-    ap pieces is ∙ (ap marked begins ∙ ap (λ v. cond v (keyed more []) None) (other_test b 40 other))
-
-marked_keyed : (text rest more : List ℕ) (b : ℕ) → text ≡ 37 ∷ rest → rest ≡ b ∷ more → b ≡ 40 → pieces text ≡ keyed more []
-marked_keyed text rest more b is begins opens = ap pieces is ∙ ap marked (begins ∙ ap (λ c. c ∷ more) opens)
-
-pub marked_fault : (text rest more : List ℕ) (b : ℕ) → text ≡ 37 ∷ rest → rest ≡ b ∷ more → b ≡ 40 → keyed more [] ≡ None → pieces text ≡ None
-marked_fault text rest more b is begins opens none = marked_keyed text rest more b is begins opens ∙ none
-
-pub marked_key : (text rest more name after : List ℕ) (b : ℕ) → text ≡ 37 ∷ rest → rest ≡ b ∷ more → b ≡ 40 → more ≡ name ++ 41 ∷ 115 ∷ after
-    → text ≡ spelling (key name) ++ after
-marked_key text rest more name after b is begins opens has =
-    is ∙ (ap (λ l. 37 ∷ l) (begins ∙ ap (λ c. c ∷ more) opens) ∙ ap (λ l. 37 ∷ 40 ∷ l) (has ∙ sym (append_assoc name (41 ∷ 115 ∷ []) after)))
 
 plain_long : (text : List ℕ) → BeginsPlain text → 0 < position_or_len is_percent text
 plain_long text (b, more, is, none) =

@@ -1,6 +1,7 @@
 -- How a filled text is compared with a value, part by part.
-use Rattle.std.proofs.Common.{◌≡◌, refl, sym, ap, ◌∙◌, ℕ, ◌<◌, ◌≤◌, Bool, true, false, ◌&&◌, ◌==◌, List, [], ◌∷◌, ◌++◌, length, take, drop, Some, None, arith, length-append, take-append-drop, length-take}
+use Rattle.std.proofs.Common.{◌≡◌, refl, sym, ap, ◌∙◌, ℕ, ◌<◌, ◌≤◌, true, false, ◌&&◌, ◌==◌, List, [], ◌∷◌, ◌++◌, length, take, drop, Some, None, arith, length-append, take-append-drop, length-take}
 use Rattle.std.proofs.lemmas.List.{length-map, map-append}
+use Rattle.std.proofs.Math.Bool.{and-false, and_assoc}
 use Rattle.std.specs.Prelude.{option_map, option_and_then}
 use Rattle.std.specs.Str.{bytes_eq, str_to_ascii_lowercase}
 use Rattle.std.specs.Char.{to_ascii_lowercase}
@@ -31,24 +32,16 @@ part_missing target name rest whole (is_key, is) none =
     ap (filled target) is ∙ (filled_key target name rest is_key ∙ ap (option_and_then (λ value. option_map (λ more. value ++ more) (filled target rest))) (sym none))
 
 -- texts are the same if their fronts are and their rests
-and_assoc : (a b c : Bool) → (a && (b && c)) ≡ ((a && b) && c)
-and_assoc true b c = refl
-and_assoc false b c = refl
-
 bytes_split : (a b c d : List ℕ) → length a ≡ length c → bytes_eq (a ++ b) (c ++ d) ≡ (bytes_eq a c && bytes_eq b d)
 bytes_split [] b [] d e = refl
 bytes_split [] b (y ∷ c) d e = absurd (omega arith)
 bytes_split (x ∷ a) b [] d e = absurd (omega arith)
-bytes_split (x ∷ a) b (y ∷ c) d e = ap (λ v. (x == y) && v) (bytes_split a b c d (omega arith)) ∙ and_assoc (x == y) (bytes_eq a c) (bytes_eq b d)
-
-and_false : (a : Bool) → (a && false) ≡ false
-and_false true = refl
-and_false false = refl
+bytes_split (x ∷ a) b (y ∷ c) d e = ap (λ v. (x == y) && v) (bytes_split a b c d (omega arith)) ∙ sym (and_assoc (x == y) (bytes_eq a c) (bytes_eq b d))
 
 bytes_short : (a c d : List ℕ) → length a < length c → bytes_eq a (c ++ d) ≡ false
 bytes_short a [] d lt = absurd (omega arith)
 bytes_short [] (y ∷ c) d lt = refl
-bytes_short (x ∷ a) (y ∷ c) d lt = ap (λ v. (x == y) && v) (bytes_short a c d (omega arith)) ∙ and_false (x == y)
+bytes_short (x ∷ a) (y ∷ c) d lt = ap (λ v. (x == y) && v) (bytes_short a c d (omega arith)) ∙ and-false (x == y)
 
 same_split : (case : Case) (a b c d : List ℕ) → length a ≡ length c → same_by case (a ++ b) (c ++ d) ≡ (same_by case a c && same_by case b d)
 same_split Exact a b c d e = bytes_split a b c d e
@@ -57,12 +50,6 @@ same_split Ignored a b c d e =
     ∙ (ap (bytes_eq (str_to_ascii_lowercase a ++ str_to_ascii_lowercase b)) (map-append to_ascii_lowercase c d)
     ∙ bytes_split (str_to_ascii_lowercase a) (str_to_ascii_lowercase b) (str_to_ascii_lowercase c) (str_to_ascii_lowercase d)
     (length-map a to_ascii_lowercase ∙ (e ∙ sym (length-map c to_ascii_lowercase))))
-
-pub same_short : (case : Case) (a c d : List ℕ) → length a < length c → same_by case a (c ++ d) ≡ false
-same_short Exact a c d lt = bytes_short a c d lt
-same_short Ignored a c d lt =
-    ap (bytes_eq (str_to_ascii_lowercase a)) (map-append to_ascii_lowercase c d)
-    ∙ bytes_short (str_to_ascii_lowercase a) (str_to_ascii_lowercase c) (str_to_ascii_lowercase d) (omega (arith, length-map a to_ascii_lowercase, length-map c to_ascii_lowercase))
 
 pub strip_same : (case : Case) (value part front rest more : List ℕ) → length part ≤ length value → front ≡ take (length part) value → rest ≡ drop (length part) value
     → same_by case value (part ++ more) ≡ (same_by case front part && same_by case rest more)

@@ -5,6 +5,7 @@ use Rattle.std.specs.Str.{bytes_eq}
 use Rattle.std.specs.List.{list_any, position_or_len, before_first, after_first}
 use Rattle.std.proofs.lemmas.List.Sums.{split_at_first, passes_at_first}
 use Rattle.std.proofs.lemmas.Slice.Eq.{bytes_eq-Decides}
+use Rattle.std.proofs.lemmas.Option.{same_Some}
 use Rattle.ks_rule.specs.Trees.{Tree, always, never, named, role, compare, negated, both, either}
 use Rattle.ks_rule.specs.Kinds.{quoted}
 use Rattle.ks_rule.specs.Filling.{is_fillable}
@@ -22,20 +23,17 @@ IsLeafOf (negated a) text = ⊥
 IsLeafOf (both a b) text = ⊥
 IsLeafOf (either a b) text = ⊥
 
-same_some : (a b : Tree) → Some a ≡ Some b → a ≡ b
-same_some a b e = cc
-
 kinded_by : (f r i o : Bool) (kind text : List ℕ) (tree : Tree) → bytes_eq kind (codes "rule") ≡ r → bytes_eq kind (codes "role") ≡ o
     → cond f None (cond r (Some (named text)) (cond i (cond o (Some (role text)) (Some (compare kind text))) None)) ≡ Some tree
     → IsLeafOf tree (kind ++ 58 ∷ text)
 kinded_by true r i o kind text tree is_rule is_role e = cc
 kinded_by false true i o kind text tree is_rule is_role e =
-    subst (λ t. IsLeafOf t (kind ++ 58 ∷ text)) (same_some (named text) tree e) (ap (λ l. l ++ 58 ∷ text) ((bytes_eq-Decides kind (codes "rule")).0 is_rule))
+    subst (λ t. IsLeafOf t (kind ++ 58 ∷ text)) (same_Some (named text) tree e) (ap (λ l. l ++ 58 ∷ text) ((bytes_eq-Decides kind (codes "rule")).0 is_rule))
 kinded_by false false false o kind text tree is_rule is_role e = cc
 kinded_by false false true true kind text tree is_rule is_role e =
-    subst (λ t. IsLeafOf t (kind ++ 58 ∷ text)) (same_some (role text) tree e) (ap (λ l. l ++ 58 ∷ text) ((bytes_eq-Decides kind (codes "role")).0 is_role))
+    subst (λ t. IsLeafOf t (kind ++ 58 ∷ text)) (same_Some (role text) tree e) (ap (λ l. l ++ 58 ∷ text) ((bytes_eq-Decides kind (codes "role")).0 is_role))
 kinded_by false false true false kind text tree is_rule is_role e =
-    subst (λ t. IsLeafOf t (kind ++ 58 ∷ text)) (same_some (compare kind text) tree e) refl
+    subst (λ t. IsLeafOf t (kind ++ 58 ∷ text)) (same_Some (compare kind text) tree e) refl
 
 kinded_leaf : (kind text : List ℕ) (tree : Tree) → kinded kind text ≡ Some tree → IsLeafOf tree (kind ++ 58 ∷ text)
 unfolding kinded
@@ -53,8 +51,8 @@ check_by : (q c a : Bool) (text : List ℕ) (tree : Tree) → list_any is_colon 
 check_by true c a text tree has_colon e = cc
 check_by false true a text tree has_colon e =
     subst (IsLeafOf tree) (sym (colon_splits text has_colon)) (kinded_leaf (before_first is_colon text) (after_first is_colon text) tree e)
-check_by false false true text tree has_colon e = subst (λ t. IsLeafOf t text) (same_some always tree e) tt
-check_by false false false text tree has_colon e = subst (λ t. IsLeafOf t text) (same_some never tree e) tt
+check_by false false true text tree has_colon e = subst (λ t. IsLeafOf t text) (same_Some always tree e) tt
+check_by false false false text tree has_colon e = subst (λ t. IsLeafOf t text) (same_Some never tree e) tt
 
 pub check_leaf : (text : List ℕ) (tree : Tree) → check_of text ≡ Some tree → IsLeafOf tree text
 unfolding check_of

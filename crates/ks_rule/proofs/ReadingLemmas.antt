@@ -6,12 +6,12 @@ use Rattle.ks_rule.specs.declared.stop.Stop.TheVariants.{Unreadable, OutOfMemory
 use Rattle.ks_rule.specs.declared.tokens.End.{End}
 use Rattle.ks_rule.specs.declared.tokens.End.TheVariants as end
 use Rattle.ks_rule.specs.Seen.{seen_end}
-use Rattle.ks_rule.specs.Trees.{Tree, negated, both, either, tree_of}
+use Rattle.ks_rule.specs.Trees.{Tree, both, either, tree_of}
 use Rattle.ks_rule.specs.Tokens.{Token, opening, closing, not_word, and_word, or_word, check}
 use Rattle.ks_rule.specs.Checks.{check_of}
 use Rattle.ks_rule.specs.Grammar.{Form, IsNotRule, IsAndRule, IsOrRule}
 use Rattle.ks_rule.specs.Reading.{Follow, Anything, NoAnd, NoOperator, Takes, Lacks, Reads, ReadsWhole, Checked, Closed, Negated, Below}
-use Rattle.ks_rule.proofs.JoinLemmas.{begun, more, ended, lacks_first, lacks_next}
+use Rattle.ks_rule.proofs.JoinLemmas.{begun, more, lacks_first, lacks_next}
 use Rattle.ks_rule.proofs.GrammarLemmas.{behind_or, behind_closing, one_not, one_and_rule, one_or_rule}
 
 -- an and-rule
@@ -21,13 +21,6 @@ and_begun depth = begun and_word both (IsNotRule depth) Anything
 pub and_more : (depth : ℕ) (before mid after : List Token) (left right : Tree) → Takes (IsAndRule depth) Anything before left (and_word ∷ mid)
     → Takes (IsNotRule depth) Anything mid right after → Takes (IsAndRule depth) Anything before (both left right) after
 and_more depth = more and_word both (IsNotRule depth) Anything
-
-pub and_ended : (depth : ℕ) (before after : List Token) (tree : Tree) → Takes (IsAndRule depth) Anything before tree after
-    → ((rest : List Token) → after ≡ and_word ∷ rest → ⊥) → Takes (IsAndRule depth) NoAnd before tree after
-and_ended depth = ended and_word both (IsNotRule depth) Anything
-
-pub and_lacks_first : (depth : ℕ) (before : List Token) → Lacks (IsNotRule depth) Anything before → Lacks (IsAndRule depth) NoAnd before
-and_lacks_first depth = lacks_first and_word both (IsNotRule depth) Anything (λ rest. tt)
 
 pub and_lacks_next : (depth : ℕ) (before mid : List Token) (left : Tree) → Takes (IsAndRule depth) Anything before left (and_word ∷ mid)
     → Lacks (IsNotRule depth) Anything mid → Lacks (IsAndRule depth) NoAnd before
@@ -40,10 +33,6 @@ or_begun depth = begun or_word either (IsAndRule depth) NoAnd
 pub or_more : (depth : ℕ) (before mid after : List Token) (left right : Tree) → Takes (IsOrRule depth) NoAnd before left (or_word ∷ mid)
     → Takes (IsAndRule depth) NoAnd mid right after → Takes (IsOrRule depth) NoAnd before (either left right) after
 or_more depth = more or_word either (IsAndRule depth) NoAnd
-
-pub or_ended : (depth : ℕ) (before after : List Token) (tree : Tree) → Takes (IsOrRule depth) NoAnd before tree after
-    → ((rest : List Token) → after ≡ or_word ∷ rest → ⊥) → Takes (IsOrRule depth) NoOperator before tree after
-or_ended depth = ended or_word either (IsAndRule depth) NoAnd
 
 pub or_lacks_first : (depth : ℕ) (before : List Token) → Lacks (IsAndRule depth) NoAnd before → Lacks (IsOrRule depth) NoOperator before
 or_lacks_first depth = lacks_first or_word either (IsAndRule depth) NoAnd behind_or
@@ -79,12 +68,6 @@ pub below_lacks : (form : ℕ → Form) (depth : ℕ) (before : List Token) → 
 below_lacks form zero before none front after tree is f has = has
 below_lacks form (suc depth) before none front after tree is f has =
     let e : suc depth - 1 ≡ depth = omega arith in none front after tree is f (subst (λ d. form d front tree) (sym e) has)
-
-pub negated_takes : (form : Form) (before after : List Token) (a : Tree) → Takes form Anything before a after → Takes (Negated form) Anything before (negated a) after
-negated_takes form before after a (front, is, f, has) = (front, is, tt, (a, refl, has))
-
-pub negated_lacks : (form : Form) (before : List Token) → Lacks form Anything before → Lacks (Negated form) Anything before
-negated_lacks form before none front after tree is f (a, is_not, has) = none front after a is f has
 
 -- a not-rule, by its first token
 pub not_check : (depth : ℕ) (before after : List Token) (text : List ℕ) (tree : Tree) → before ≡ check text ∷ after → check_of text ≡ Some tree
@@ -201,11 +184,6 @@ lacks_end depth before mid token begins = not_lacks depth before (λ may. no_end
     no_end end.Close has = has
     no_end end.And has = has
     no_end end.Or has = has
-
--- a rule that is all there is
-pub whole_rule : (depth : ℕ) (whole after : List Token) (tree : Tree) → Takes (IsOrRule depth) NoOperator whole tree after → after ≡ [] → IsOrRule depth whole tree
-whole_rule depth whole after tree (front, is, f, has) end =
-    subst (λ l. IsOrRule depth l tree) (sym (is ∙ (ap (λ l. front ++ l) end ∙ append-nil front))) has
 
 no_operator : NoOperator []
 no_operator = ((tt, λ more e. cc), λ more e. cc)

@@ -5,8 +5,8 @@ use Rattle.std.specs.List.{slice_split, onto_first, list_any, AllByRecursion}
 use Rattle.std.proofs.lemmas.List.{length-reverse, get_or-reverse, replicate_more, take_all}
 use Rattle.std.proofs.lemmas.List.Sums.{prefix_len_stops, suffix_len-take_no, suffix_len-le-length}
 use Rattle.std.proofs.lemmas.List.Splits.{length-slice_split, slice_split-cons_no, slice_split-cons_yes}
+use Rattle.std.proofs.lemmas.Bool.{or_parts}
 use Rattle.ks_rule.specs.Tokens.{Token, opening, closing, check, not_word, and_word, or_word, token_of, is_space, is_opening, is_closing, kept_tokens, closes, without_closes, closed_tokens, word_tokens, tokens}
-use Rattle.ks_rule.proofs.FillingLemmas.{neither}
 use Rattle.ks_rule.proofs.TokenLemmas.{closes_push, without_closes_push}
 
 map_append : (xs ys : List (List ℕ)) → flat_map word_tokens (xs ++ ys) ≡ flat_map word_tokens xs ++ flat_map word_tokens ys
@@ -136,7 +136,7 @@ kept_closes word some =
 split_whole : (text : List ℕ) → list_any is_space text ≡ false → slice_split is_space text ≡ text ∷ []
 split_whole [] none = refl
 split_whole (b ∷ text) none =
-    let both = neither (is_space b) (list_any is_space text) none in
+    let both = or_parts (is_space b) (list_any is_space text) none in
     slice_split-cons_no is_space b text both.0 ∙ ap (onto_first b) (split_whole text both.1)
 
 -- a text with no white space that begins with no ( and ends with no ) is one token
@@ -165,7 +165,7 @@ none_taken : (n : ℕ) (text : List ℕ) → list_any is_space text ≡ false �
 none_taken zero text none = refl
 none_taken (suc n) [] none = refl
 none_taken (suc n) (b ∷ text) none =
-    let both = neither (is_space b) (list_any is_space text) none in
+    let both = or_parts (is_space b) (list_any is_space text) none in
     ap (λ v. v || list_any is_space (take n text)) both.0 ∙ none_taken n text both.1
 
 taken_proper : (n : ℕ) (b : ℕ) (word : List ℕ) → list_any is_space (b ∷ word) ≡ false → is_opening b ≡ false
@@ -185,7 +185,7 @@ word_proper_by b word false is no_space more =
 word_proper : (word : List ℕ) → list_any is_space word ≡ false → AllProper (word_tokens word)
 word_proper [] none = tt
 word_proper (b ∷ word) none =
-    let both = neither (is_space b) (list_any is_space word) none in word_proper_by b word (is_opening b) refl none (word_proper word both.1)
+    let both = or_parts (is_space b) (list_any is_space word) none in word_proper_by b word (is_opening b) refl none (word_proper word both.1)
 
 first_none : (b : ℕ) (parts : List (List ℕ)) → is_space b ≡ false → AllByRecursion (λ part. list_any is_space part ≡ false) parts
     → AllByRecursion (λ part. list_any is_space part ≡ false) (onto_first b parts)

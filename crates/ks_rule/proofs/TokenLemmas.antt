@@ -1,5 +1,5 @@
 -- The tokens at the front of a text.
-use Rattle.std.proofs.Common.{◌≡◌, refl, sym, ap, ◌∙◌, subst, ℕ, zero, suc, ◌+◌, ◌-◌, ◌<◌, ◌≤◌, Bool, true, false, cond, not, List, [], ◌∷◌, ◌++◌, length, take, drop, get_or, append_assoc, arith, add-one, length-take, length-append, drop-cons, replicate, ◌==◌}
+use Rattle.std.proofs.Common.{◌≡◌, refl, sym, ap, ◌∙◌, subst, ℕ, zero, suc, ◌+◌, ◌-◌, ◌<◌, ◌≤◌, Bool, true, false, cond, not, List, [], ◌∷◌, ◌++◌, length, take, drop, get_or, append_assoc, arith, add-one, length-take, length-append, drop-cons, replicate}
 use Rattle.std.specs.Prelude.{IsUtf8, flat_map, IsCharBoundary, nat_lt as ltb}
 use Rattle.std.specs.List.{slice_split, onto_first, prefix_len, position_or_len, before_first, after_first}
 use Rattle.std.proofs.lemmas.List.{reverse-append, take_all, drop_all, take_at, drop_at, get_or_at, take-append-le}
@@ -58,12 +58,6 @@ without_closes_push word =
     let le = suffix_len-le-length is_closing word in
     let n : length (word ++ 41 ∷ []) - closes (word ++ 41 ∷ []) ≡ length word - closes word = omega (arith, closes_push word, length-append word (41 ∷ [])) in
     ap (λ k. take k (word ++ 41 ∷ [])) n ∙ take-append-le (length word - closes word) word (41 ∷ []) (omega arith)
-
--- and where it ends otherwise, nothing is taken off
-pub without_closes_end : (word : List ℕ) (b : ℕ) → is_closing b ≡ false → without_closes (word ++ b ∷ []) ≡ word ++ b ∷ []
-without_closes_end word b other =
-    let none : closes (word ++ b ∷ []) ≡ 0 = ap (prefix_len is_closing) (reverse-append word (b ∷ [])) ∙ ap (λ v. cond v (1 + closes word) 0) other in
-    take_all (length (word ++ b ∷ []) - closes (word ++ b ∷ [])) (word ++ b ∷ []) (omega arith)
 
 -- a text may be cut at an ASCII byte
 pub utf8_front : (front behind : List ℕ) (b : ℕ) → IsUtf8 (front ++ b ∷ behind) → b < 128 → IsUtf8 front
@@ -151,10 +145,6 @@ next_kept text word behind (b ∷ kept) token begins w r k some is =
     let first = first_word text word behind begins w r in
     first.1 ∙ (ap (λ l. l ++ tokens behind) (something_kept word b kept (sym k)) ∙ ap (λ t. t ∷ told (length word - length (b ∷ kept)) behind) (sym is))
 
-pub not_empty : (n : ℕ) → (n == 0) ≡ false → 0 < n
-not_empty zero e = cc
-not_empty (suc n) e = omega arith
-
 -- where nothing is left of the word before
 nothing_before : (n : ℕ) (rest skipped : List ℕ) (view : List Token) → told n rest ≡ view → n ≤ 0 → tokens skipped ≡ tokens rest → view ≡ tokens skipped
 nothing_before zero rest skipped view is le same = sym is ∙ sym same
@@ -170,7 +160,3 @@ pub next_opening : (n : ℕ) (rest skipped : List ℕ) (view : List Token) → t
 next_opening zero rest skipped view is le same b behind first opens =
     nothing_before zero rest skipped view is le same ∙ (ap tokens (first ∙ ap (λ x. x ∷ behind) opens) ∙ tokens_opening behind)
 next_opening (suc n) rest skipped view is le same b behind first opens = absurd (omega arith)
-
-pub next_word : (n : ℕ) (rest skipped : List ℕ) (view : List Token) → told n rest ≡ view → n ≤ 0 → tokens skipped ≡ tokens rest
-    → (token : Token) (after : List Token) → tokens skipped ≡ token ∷ after → view ≡ token ∷ after
-next_word n rest skipped view is le same token after next = nothing_before n rest skipped view is le same ∙ next

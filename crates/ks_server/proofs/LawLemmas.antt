@@ -80,7 +80,7 @@ sessions_stay F seen f g xs order on input before left written why ends =
 
 -- what workers did
 
-late_more : (asked : Asked) (memory : Bool) (moment high : ℕ) → moment ≤ high → IsLate asked memory moment → IsLate asked memory high
+pub late_more : (asked : Asked) (memory : Bool) (moment high : ℕ) → moment ≤ high → IsLate asked memory moment → IsLate asked memory high
 late_more (calls call) false moment high le late = omega (arith, le, late)
 late_more (calls call) true moment high le late = tt
 late_more (refused why) memory moment high le late = tt

@@ -40,10 +40,6 @@ within_of journal seen now (x ∷ xs) goes = (goes.1.within, within_of journal (
 longer : (f g : Front) → f ⊑ g → (n : ℕ) → n ≤ length f.changes → n ≤ length g.changes
 longer f g on n le = let more = ap length on.changes ∙ length-append f.changes on.later in omega (arith, more)
 
-pub within_kept : (f g : Front) → f ⊑ g → (xs : List Exchange) → AreWithin f xs → AreWithin g xs
-within_kept f g on [] h = tt
-within_kept f g on (x ∷ xs) h = (longer f g on x.receipt.changes h.0, within_kept f g on xs h.1)
-
 -- fronts that exchanges leave
 
 pub after_kept : (f g : Front) → f ⊑ g → (x : Exchange) → x.receipt.changes ≤ length f.changes → front_after g x ≡ front_after f x

@@ -1,7 +1,8 @@
 -- Workers in seats: what they did, and how their passes meet.
-use Rattle.std.proofs.Common.{◌≡◌, ◌⊎◌, inl, inr, ℕ, ◌-◌, ◌<◌, ◌≤◌, max, zero, suc, Bool, true, false, ◌||◌, List, [], ◌∷◌, ◌++◌, length, map, reverse, take, drop, slice_index_or, Option, Some, None, IsSomeAnd, refl, sym, ap, subst, ◌∙◌, arith, append_assoc, append-nil, length-append}
+use Rattle.std.proofs.Common.{◌≡◌, ◌⊎◌, inl, inr, ℕ, ◌-◌, ◌<◌, ◌≤◌, max, zero, suc, Bool, false, ◌||◌, List, [], ◌∷◌, ◌++◌, length, map, reverse, take, drop, slice_index_or, Option, Some, None, IsSomeAnd, refl, sym, ap, subst, ◌∙◌, arith, append_assoc, append-nil, length-append}
 use Rattle.std.proofs.lemmas.List.{get_or-take, get_or_default, length-drop, length-map, length-take-le, map-append, reverse-append}
 use Rattle.std.proofs.lemmas.List.Concat.{flat_map-append}
+use Rattle.std.proofs.Math.Bool.{or_assoc, or-false}
 use Rattle.std.specs.List.{AllByRecursion}
 use Rattle.std.specs.Option.{option_or}
 use Rattle.ks_machine.proofs.FrontLemmas.{reflexive, transitive}
@@ -76,17 +77,9 @@ all_more : {F Link : Type 0} (shifts : List (Shift F Link)) (shift : Shift F Lin
 all_more {F} {Link} shifts shift =
     flat_map-append (λ (s : Shift F Link). exchanges_of s.visits) shifts (shift ∷ []) ∙ ap (λ l. all_exchanges shifts ++ l) (append-nil (exchanges_of shift.visits))
 
-or_again : (a b c : Bool) → (a || b) || c ≡ a || (b || c)
-or_again true b c = refl
-or_again false b c = refl
-
-or_none : (a : Bool) → a || false ≡ a
-or_none true = refl
-or_none false = refl
-
 failed_more : {F Link : Type 0} (shifts : List (Shift F Link)) (shift : Shift F Link) → some_failed (shifts ++ shift ∷ []) ≡ some_failed shifts || shift.failed
-failed_more [] shift = or_none shift.failed
-failed_more (s ∷ shifts) shift = ap (λ b. s.failed || b) (failed_more shifts shift) ∙ sym (or_again s.failed (some_failed shifts) shift.failed)
+failed_more [] shift = or-false shift.failed
+failed_more (s ∷ shifts) shift = ap (λ b. s.failed || b) (failed_more shifts shift) ∙ sym (or_assoc s.failed (some_failed shifts) shift.failed)
 
 option_again : {F : Type 0} (a b c : Option F) → option_or (option_or a b) c ≡ option_or a (option_or b c)
 option_again None b c = refl
@@ -240,16 +233,6 @@ module _ {F Link : Type 0} {state : Link → StreamState} {connections : ℕ} {o
 
 -- desks that are seated
 
-pub seats_more : {A B C : Type 0} (view : A → C) (of : B → C) (all desks rest : List B) (seats : List A) (desk : B) (seat : A) → map of all ≡ map of desks ++ reverse (map view seats) → desks ≡ rest ++ desk ∷ []
-    → view seat ≡ of desk → map of all ≡ map of rest ++ reverse (map view (seats ++ seat ∷ []))
-seats_more view of all desks rest seats desk seat are is same =
-    are
-    ∙ ap (λ l. map of l ++ reverse (map view seats)) is
-    ∙ ap (λ l. l ++ reverse (map view seats)) (map-append of rest (desk ∷ []))
-    ∙ append_assoc (map of rest) (of desk ∷ []) (reverse (map view seats))
-    ∙ ap (λ x. map of rest ++ x ∷ reverse (map view seats)) (sym same)
-    ∙ ap (λ l. map of rest ++ l) (sym (reverse_more view (seats ++ seat ∷ []) seats seat refl))
-
 pub each_more : {A : Type 0} (P : A → Type 0) (xs : List A) (x : A) → AllByRecursion P xs → P x → AllByRecursion P (xs ++ x ∷ [])
 each_more P [] x all one = (one, tt)
 each_more P (y ∷ xs) x all one = (all.0, each_more P xs x all.1 one)
@@ -265,10 +248,6 @@ pub none_left : {A B : Type 0} (view : A → B) (items : List A) → length item
 none_left view [] none = refl
 none_left view (x ∷ items) none = absurd (omega (arith, none))
 
-pub map_twice : {A B C : Type 0} (f : B → C) (g : A → B) (xs : List A) → map f (map g xs) ≡ map (λ x. f (g x)) xs
-map_twice f g [] = refl
-map_twice f g (x ∷ xs) = ap (λ l. f (g x) ∷ l) (map_twice f g xs)
-
 left_of : (pass : Passed) (count more : ℕ) → count ≡ more → record pass { weight = pass.weight - count } ≡ record pass { weight = pass.weight - more }
 left_of pass count more same = ap (λ n. let p : Passed = record pass { weight = pass.weight - n } in p) same
 
@@ -281,11 +260,6 @@ left_is f xs pass left count size is = is ∙ left_of pass count (length (map f 
 pub last_pass : {A : Type 0} (pass_of : A → Option Passed) (P : Passed → Type 0) (items rest : List A) (x : A) → items ≡ rest ++ x ∷ [] → AllByRecursion (λ s. IsSomeAnd (pass_of s) P) items
     → AllByRecursion (λ s. IsSomeAnd (pass_of s) P) rest × IsSomeAnd (pass_of x) P
 last_pass pass_of P items rest x is all = each_first (λ s. IsSomeAnd (pass_of s) P) rest x (subst (λ l. AllByRecursion (λ s. IsSomeAnd (pass_of s) P) l) is all)
-
-pub at_index : {A : Type 0} (P : A → Type 0) (xs : List A) (i : ℕ) (d : A) → AllByRecursion P xs → i < length xs → P (slice_index_or xs i d)
-at_index P [] i d all le = absurd (omega (arith, le))
-at_index P (x ∷ xs) zero d all le = all.0
-at_index P (x ∷ xs) (suc i) d all le = at_index P xs i d all.1 (omega (arith, le))
 
 -- what the workers of seats did, seat by seat
 

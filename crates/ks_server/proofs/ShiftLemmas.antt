@@ -1,6 +1,6 @@
 -- A worker serves link after link, and ends.
-use Rattle.std.proofs.Common.{◌≡◌, ◌≢◌, inl, inr, ℕ, ◌+◌, ◌%◌, ◌^◌, ◌<◌, ◌≤◌, Bool, true, false, List, [], ◌∷◌, ◌++◌, length, Option, Some, None, refl, sym, ap, subst, ◌∙◌, arith, append_assoc, append-nil, length-append}
-use Rattle.std.proofs.lemmas.List.{map-append}
+use Rattle.std.proofs.Common.{◌≡◌, ◌≢◌, inl, inr, ℕ, ◌+◌, ◌%◌, ◌^◌, ◌<◌, ◌≤◌, Bool, true, false, List, [], ◌∷◌, ◌++◌, length, Option, Some, None, refl, sym, ap, subst, ◌∙◌, arith, append_assoc, append-nil}
+use Rattle.std.proofs.lemmas.List.{map-append, length_push}
 use Rattle.std.proofs.lemmas.List.Concat.{flat_map-append}
 use Rattle.ks_machine.specs.Fronts.{Front, ◌⊑◌}
 use Rattle.ks_outside.specs.Counts.{Counts}
@@ -31,9 +31,6 @@ accepted_more {F} {Link} visits visit = map-append (λ (v : Visit F Link). v.acc
 
 returned_more : {F Link : Type 0} (visits : List (Visit F Link)) (visit : Visit F Link) → returned_of (visits ++ visit ∷ []) ≡ returned_of visits ++ visit.returned ∷ []
 returned_more {F} {Link} visits visit = map-append (λ (v : Visit F Link). v.returned) visits (visit ∷ [])
-
-more_by_one : {F Link : Type 0} (visits : List (Visit F Link)) (visit : Visit F Link) → length (visits ++ visit ∷ []) ≡ length visits + 1
-more_by_one visits visit = length-append visits (visit ∷ [])
 
 faultless_more : {F Link : Type 0} (visits : List (Visit F Link)) (visit : Visit F Link) → HaveNoKeeperFault visits → HasNoKeeperFault visit.why → HaveNoKeeperFault (visits ++ visit ∷ [])
 faultless_more [] visit none one = (one, tt)
@@ -297,7 +294,7 @@ module _ {F Link : Type 0} {state : Link → StreamState} {connections number : 
 
   few_more : connections ≢ 0 → length (h.visits ++ one ∷ []) ≤ connections
   few_more bound =
-      let size = more_by_one h.visits one in
+      let size = length_push h.visits one in
       let more = one_more number (length h.visits) connections h.number_is (h.few bound) word (bounded bound) in
       omega (arith, size, more)
 
@@ -306,7 +303,7 @@ module _ {F Link : Type 0} {state : Link → StreamState} {connections number : 
   goes_on none = record {
     visits = h.visits ++ one ∷ [];
     served = all;
-    number_is = wraps number (length h.visits) h.number_is ∙ ap (λ n. n % 2 ^ 64) (sym (more_by_one h.visits one));
+    number_is = wraps number (length h.visits) h.number_is ∙ ap (λ n. n % 2 ^ 64) (sym (length_push h.visits one));
     few = few_more;
     kept = faultless_more h.visits one h.kept none;
   }

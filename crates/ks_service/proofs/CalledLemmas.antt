@@ -1,7 +1,5 @@
 -- From one event in a hold to what a call promises.
-use Rattle.std.proofs.Common.{◌≡◌, ℕ, ◌-◌, ◌<◌, ◌≤◌, ◌⊎◌, inl, inr, ⊎_elim, Bool, true, false, List, [], ◌∷◌, ◌++◌, zero, suc, length, min, take, Option, Some, None, refl, sym, ap, subst, ◌∙◌, arith, append-nil, length-append, lt_of_not-le}
-use Rattle.std.specs.List.{AllByRecursion}
-use Rattle.std.proofs.lemmas.Bool.Decides.{nat_tests}
+use Rattle.std.proofs.Common.{◌≡◌, ℕ, ◌-◌, ◌<◌, ◌≤◌, ◌⊎◌, inl, inr, ⊎_elim, Bool, true, false, List, [], ◌∷◌, ◌++◌, length, min, Option, Some, None, refl, sym, ap, subst, ◌∙◌, arith, append-nil, length-append, lt_of_not-le}
 use native.Mathlib.Decide.{dec_le}
 use Rattle.ks_machine.specs.declared.call.Call.{Call}
 use Rattle.ks_machine.specs.declared.cause.Cause.TheVariants as cause
@@ -21,7 +19,7 @@ use Rattle.ks_state.specs.Decides.{with_kept}
 use Rattle.ks_turn.specs.Passes.{Passed, released}
 use Rattle.ks_turn.specs.Sums.{numbers}
 use Rattle.ks_turn.specs.Views.{risen, since}
-use Rattle.ks_turn.proofs.StepLemmas.{risen_not}
+use Rattle.ks_turn.proofs.StepLemmas.{risen_not, risen_up}
 
 -- numbers of changes and tops
 
@@ -31,9 +29,6 @@ since_event f moment kept (Some change) =
     let new : List Entry = record { number = length f.changes; moment = moment; change = change } ∷ [] in
     let one : length (f.changes ++ new) - length f.changes ≡ 1 = omega (arith, length-append f.changes new) in
     ap (numbers (length f.changes)) one
-
-risen_up : (old new top : ℕ) → old < new → risen old new top ≡ new
-risen_up old new top lt = grind (arith, nat_tests)
 
 top_by : (high moment top reading : ℕ) → (moment ≡ moment_of high reading) ⊎ (moment ≡ high) → Dec (moment ≤ high) → (risen high moment top ≡ top) ⊎ (risen high moment top ≡ capped reading)
 top_by high moment top reading is (yes le) =
@@ -146,14 +141,3 @@ at_numbers p q call said count moment c m made =
     subst (λ (t : ℕ × ℕ). Called p q call (record said { changes = t.0; moment = t.1 })) (λ i. (sym c i, sym m i)) made
 
 -- no change before the event is later than its moment
-
-taken_all : (P : Entry → Type 0) (n : ℕ) (entries : List Entry) → AllByRecursion P entries → AllByRecursion P (take n entries)
-taken_all P zero entries all = tt
-taken_all P (suc n) [] all = tt
-taken_all P (suc n) (entry ∷ entries) all = (all.0, taken_all P n entries all.1)
-
-pub no_later : {F : Type 0} (p q : Passed) (call : Call) (said : Answer F) → Called p q call said
-    → AllByRecursion (λ entry. entry.moment ≤ said.moment) (take said.changes q.seen.changes)
-no_later p q call said c =
-    taken_all (λ entry. entry.moment ≤ said.moment) said.changes q.seen.changes
-    (subst (λ m. AllByRecursion (λ (entry : Entry). entry.moment ≤ m) q.seen.changes) c.moment c.sound.moments)

@@ -13,11 +13,9 @@ use Rattle.ks_machine.specs.Fronts.{Front, IsSound, ◌⊑◌, after, answer, ch
 use Rattle.ks_machine.specs.Moment.{moment_of}
 use Rattle.ks_machine.specs.Outcomes.{Outcome}
 use Rattle.ks_machine.specs.Steps.{step, step_at, stepped}
+use Rattle.ks_machine.proofs.FrontLemmas.{moment_twice}
 use Rattle.ks_service.specs.Called.{is_memory, made_by}
 use Rattle.ks_state.specs.Decides.{with_kept}
-
-moment_twice : (high reading : ℕ) → moment_of (moment_of high reading) reading ≡ moment_of high reading
-moment_twice high reading = omega arith
 
 -- the front at the moment of a call, with this many changes kept
 abbrev pub raised : Front → Call → ℕ → Front

@@ -1,11 +1,12 @@
 -- What is known after some work.
-use Rattle.std.proofs.Common.{◌≡◌, ℕ, ◌+◌, ◌<◌, ◌≤◌, ◌==◌, ◌&&◌, ◌||◌, Bool, true, false, List, [], ◌∷◌, ◌++◌, length, take, get_or, Option, Some, None, IfSome, is_some, option_copied, Bor, if◌then◌else◌, refl, sym, ap, subst, ◌∙◌, arith, bytes_eq}
+use Rattle.std.proofs.Common.{◌≡◌, ℕ, ◌+◌, ◌<◌, ◌≤◌, ◌==◌, Bool, true, false, List, [], ◌∷◌, ◌++◌, length, take, get_or, Option, Some, None, IfSome, is_some, option_copied, Bor, if◌then◌else◌, refl, sym, ap, subst, ◌∙◌, arith, bytes_eq}
 use Rattle.std.specs.List.{All, list_any}
 use Rattle.std.proofs.lemmas.Bool.Decides.{nat_tests}
 use Rattle.std.proofs.lemmas.List.{take_all}
 use Rattle.std.proofs.lemmas.List.Elements.{All-more, All-weaker}
 use Rattle.std.proofs.lemmas.List.Folds.{list_any-append}
 use Rattle.std.proofs.lemmas.Slice.Eq.{bytes_eq-Decides}
+use Rattle.std.proofs.lemmas.Bool.{or_left, or_right, and_from}
 use Rattle.ks_auth.specs.Facts.{FactsState, has_derived, has_opened, is_derived, is_of, told}
 use Rattle.ks_base.specs.Rows.{Text}
 use Rattle.ks_fernet.specs.Opened.{Opening}
@@ -19,26 +20,11 @@ kept_trans a b c h k = record { opened = λ held text is. k.opened held text (h.
 
 -- one fact more
 
-or_left : (a b : Bool) → a ≡ true → (a || b) ≡ true
-or_left true b is = refl
-or_left false b is = absurd (cc)
-
-or_right : (a b : Bool) → b ≡ true → (a || b) ≡ true
-or_right true b is = refl
-or_right false b is = is
-
-any_more : {X : Type 0} (p : X → Bool) (xs ys : List X) → list_any p xs ≡ true → list_any p (xs ++ ys) ≡ true
-any_more p xs ys is = list_any-append p xs ys ∙ or_left (list_any p xs) (list_any p ys) is
-
 any_last : {X : Type 0} (p : X → Bool) (xs : List X) (x : X) → p x ≡ true → list_any p (xs ++ x ∷ []) ≡ true
 any_last p xs x is = list_any-append p xs (x ∷ []) ∙ or_right (list_any p xs) (list_any p (x ∷ [])) (or_left (p x) false is)
 
 same_bytes : (bytes : List ℕ) → bytes_eq bytes bytes ≡ true
 same_bytes bytes = (bytes_eq-Decides bytes bytes).1 refl
-
-both : (a b : Bool) → a ≡ true → b ≡ true → (a && b) ≡ true
-both true b is also = also
-both false b is also = absurd (cc)
 
 same_number : (n : ℕ) → (n == n) ≡ true
 same_number n = grind (arith, nat_tests)
@@ -47,7 +33,7 @@ pub opened_now : (old new : FactsState) (held : HeldKey) (text : Text) (fact : O
     → new ≡ record old { opened = old.opened ++ fact ∷ [] } → has_opened held text new.opened ≡ true
 opened_now old new held text fact is grew =
     let itself : is_of held text (record { number = held.number; key = held.key; text = text }) ≡ true =
-    both _ _ (same_number held.number) (both _ _ (both _ _ (same_bytes held.key.signing) (same_bytes held.key.encryption)) (same_bytes text)) in
+    and_from _ _ (same_number held.number) (and_from _ _ (and_from _ _ (same_bytes held.key.signing) (same_bytes held.key.encryption)) (same_bytes text)) in
     let of : is_of held text fact ≡ true = ap (is_of held text) is ∙ itself in
     ap (λ (f : FactsState). has_opened held text f.opened) grew ∙ any_last (is_of held text) old.opened fact of
 
@@ -56,7 +42,7 @@ pub derived_now : (old new : FactsState) (password copy salt digest : List ℕ) 
     → has_derived password salt rounds new.derived ≡ true
 derived_now old new password copy salt digest rounds fact same is grew =
     let itself : is_derived password salt rounds (record { password = password; salt = salt; rounds = rounds; digest = digest }) ≡ true =
-    both _ _ (same_bytes password) (both _ _ (same_bytes salt) (same_number rounds)) in
+    and_from _ _ (same_bytes password) (and_from _ _ (same_bytes salt) (same_number rounds)) in
     let of : is_derived password salt rounds fact ≡ true =
     ap (is_derived password salt rounds) (is ∙ ap (λ (p : List ℕ). record { password = p; salt = salt; rounds = rounds; digest = digest }) same) ∙ itself in
     ap (λ (f : FactsState). has_derived password salt rounds f.derived) grew ∙ any_last (is_derived password salt rounds) old.derived fact of

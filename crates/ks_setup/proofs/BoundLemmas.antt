@@ -3,18 +3,18 @@ use Rattle.std.proofs.Common.{◌≡◌, ℕ, suc, ◌≤◌, Bool, true, false,
 use Rattle.std.specs.Prelude.{Option, Result, codes, nat_le, nat_lt, option_and_then, unwrap_or}
 use Rattle.std.specs.Int.{is_in_range}
 use Rattle.std.specs.Str.{bytes_eq}
-use Rattle.std.proofs.lemmas.Bool.{and_parts}
+use Rattle.std.proofs.lemmas.Bool.{and_parts, leb-true}
 use Rattle.std.proofs.lemmas.Bool.Decides.{nat_tests}
 use Rattle.serde_json.specs.Data.{Data, Items, no_items, item}
 use Rattle.serde_json.specs.Find.{as_array, as_number, as_u64}
 use Rattle.ks_base.specs.declared.shapes.ShapeFault.TheVariants as fault
+use Rattle.ks_base.specs.Results.{◌>>=◌, found, need}
 use Rattle.ks_machine.specs.declared.settings.Settings.{Settings}
 use Rattle.ks_shape.specs.declared.misfit.Misfit.{Misfit}
 use Rattle.ks_shape.specs.declared.misfit.Misfit.TheVariants as misfit
 use Rattle.ks_shape.specs.Bodies.{whole_document}
 use Rattle.ks_shape.specs.Fields.{if_given, judged, needed, needed_value, optional, optional_value}
 use Rattle.ks_shape.specs.Places.{Place, entry_at, names, path_at}
-use Rattle.ks_shape.specs.Readings.{◌>>=◌, found, need}
 use Rattle.ks_shape.specs.Types.{any_text, count_of, list_of, whole}
 use Rattle.ks_setup.specs.declared.written.KeysFrom.{KeysFrom}
 use Rattle.ks_setup.specs.declared.written.KeysFrom.TheVariants.{Folder, File}
@@ -53,9 +53,6 @@ in_range least most n e =
     let above = both.0 in
     let below = both.1 in
     (grind (arith, nat_tests), grind (arith, nat_tests))
-
-le_from : (m n : ℕ) → nat_le m n ≡ true → m ≤ n
-le_from m n e = grind (arith, nat_tests)
 
 whole_within : (least most : ℕ) (value : Data) (n : ℕ) → whole least most value ≡ Ok n → (least ≤ n) × (n ≤ most)
 unfolding whole
@@ -120,7 +117,7 @@ unfolding list_of
 list_count most value items h =
     let all = parts (found (as_array value) misfit.Kind) _ items h in
     let fits = parts (need (nat_le (count_of all.0) most) misfit.Range) _ items all.2 in
-    let few = le_from (count_of all.0) most (needed_holds _ _ _ fits.1) in
+    let few = leb-true (count_of all.0) most (needed_holds _ _ _ fits.1) in
     let P : Items → Type 0 = λ xs. count_of xs ≤ most in
     subst P (same all.0 items fits.2) few
 

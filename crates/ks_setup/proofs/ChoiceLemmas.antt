@@ -2,9 +2,9 @@
 use Rattle.std.proofs.Common.{◌≡◌, ℕ, List, Some, None, Ok, Err, refl}
 use Rattle.std.specs.Prelude.{Result, Option}
 use Rattle.ks_base.specs.declared.shapes.ShapeFault.{ShapeFault}
+use Rattle.ks_base.specs.Results.{◌>>=◌}
 use Rattle.ks_shape.specs.Fields.{needed, optional}
 use Rattle.ks_shape.specs.Places.{Place}
-use Rattle.ks_shape.specs.Readings.{◌>>=◌}
 use Rattle.ks_shape.specs.Types.{id_text}
 use Rattle.ks_setup.specs.declared.grants.OneOfTwo.{OneOfTwo}
 use Rattle.ks_setup.specs.declared.grants.OneOfTwo.TheVariants.{First, Second}

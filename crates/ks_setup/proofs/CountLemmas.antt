@@ -3,10 +3,10 @@ use Rattle.std.proofs.Common.{◌≡◌, ℕ, ◌≤◌, Bool, true, false, Opti
 use Rattle.std.specs.Prelude.{◌&&◌, nat_le, option_and_then}
 use Rattle.std.specs.Int.{is_in_range}
 use Rattle.std.proofs.lemmas.Bool.Decides.{nat_tests}
+use Rattle.ks_base.specs.Results.{◌>>=◌, found, need}
 use Rattle.serde_json.specs.Data.{Data}
 use Rattle.serde_json.specs.Find.{as_number, as_u64}
 use Rattle.ks_shape.specs.declared.misfit.Misfit.TheVariants.{Kind, Range}
-use Rattle.ks_shape.specs.Readings.{◌>>=◌, found, need}
 use Rattle.ks_shape.specs.Types.{whole}
 
 second_holds : (a b : Bool) (m n : ℕ) → (need (a && b) Range >>= (λ _. Ok m)) ≡ Ok n → (b ≡ true) × (m ≡ n)

@@ -4,6 +4,7 @@ use Rattle.std.specs.Prelude.{Option, is_some, if◌then◌else◌}
 use Rattle.std.proofs.lemmas.List.{take-append-drop}
 use Rattle.std.proofs.lemmas.Grind.{common_steps}
 use Rattle.ks_base.specs.declared.users.UserRow.{UserRow}
+use Rattle.ks_base.proofs.ListLemmas.{take_front, drop_front}
 use Rattle.ks_outside.specs.Counts.{Rose}
 use Rattle.ks_outside.specs.Desks.{DeskState}
 use Rattle.ks_setup.specs.declared.derive.DeriveFault.TheVariants.{Random, Memory}
@@ -67,15 +68,9 @@ passwords_more user users = given user.password
     given None = omega arith
     given (Some password) = omega arith
 
-no_bytes : (bytes : List ℕ) → length bytes ≡ 0 → bytes ≡ []
-no_bytes [] h = refl
-no_bytes (b ∷ bytes) h = absurd (omega arith)
-
-take_front : (n : ℕ) (front back : List ℕ) → length front ≡ n → take n (front ++ back) ≡ front
-take_front n front back h = grind (arith, common_steps)
-
-drop_front : (n : ℕ) (front back : List ℕ) → length front ≡ n → drop n (front ++ back) ≡ back
-drop_front n front back h = grind (arith, common_steps)
+none_left : {X : Type 0} (rest : List X) → length rest ≡ 0 → rest ≡ []
+none_left [] h = refl
+none_left (x ∷ rest) h = absurd (omega arith)
 
 take_whole : (n : ℕ) (all : List ℕ) → length all ≡ n → take n all ≡ all
 take_whole n all h = grind (arith, common_steps)
@@ -90,7 +85,7 @@ same_row rounds (Some password) drawn more h =
     ap (λ salt. password_row rounds (Some password) salt) (take_front 16 drawn more h ∙ sym (take_whole 16 drawn h))
 
 same_left : (password : Option (List ℕ)) (drawn more : List ℕ) → length drawn ≡ bytes_for password → left_for password (drawn ++ more) ≡ more
-same_left None drawn more h = ap (λ front. front ++ more) (no_bytes drawn h)
+same_left None drawn more h = ap (λ front. front ++ more) (none_left drawn h)
 same_left (Some password) drawn more h = drop_front 16 drawn more h
 
 users_more : (rounds : ℕ) (user : WrittenUser) (users : List WrittenUser) (drawn more : List ℕ) → length drawn ≡ bytes_for user.password
@@ -142,15 +137,11 @@ deriving_failed rounds users rest others user rows old mid new is h failed =
       rose_later old.fill_faults mid.fill_faults new.fill_faults h.drew.count failed.2,
     )
 
-no_users : (rest : List WrittenUser) → length rest ≡ 0 → rest ≡ []
-no_users [] h = refl
-no_users (user ∷ rest) h = absurd (omega arith)
-
 pub deriving_end : {Link : Type 0} (rounds : ℕ) (users rest : List WrittenUser) (rows : List UserRow) (old new : DeskState Link)
     → length rest ≡ 0 → Deriving rounds users rest rows old new → Derives rounds users old new (Ok rows)
 unfolding users_from
 deriving_end rounds users rest rows old new over h =
-    let is : rest ≡ [] = no_users rest over in
+    let is : rest ≡ [] = none_left rest over in
     let P : List WrittenUser → Type 0 = λ l. length h.drawn + 16 * passwords l ≡ 16 * passwords users in
     let counted : length h.drawn + 16 * passwords [] ≡ 16 * passwords users = subst P is h.counted in
     let rows_are : rows ++ users_from rounds [] [] ≡ users_from rounds users (h.drawn ++ []) = ap (λ l. rows ++ users_from rounds l []) (sym is) ∙ h.so_far [] in (

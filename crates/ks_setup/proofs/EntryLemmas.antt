@@ -1,5 +1,5 @@
 -- Reading one entry more of a list.
-use Rattle.std.proofs.Common.{◌≡◌, ℕ, zero, suc, ◌+◌, ◌<◌, ◌≤◌, List, [], ◌∷◌, ◌++◌, length, get_or, drop, Ok, Err, refl, sym, ap, ◌∙◌, arith, add-one, append_assoc, append-nil}
+use Rattle.std.proofs.Common.{◌≡◌, ℕ, zero, suc, ◌+◌, ◌<◌, ◌≤◌, List, [], ◌∷◌, ◌++◌, length, get_or, drop, Ok, Err, refl, sym, ap, ◌∙◌, arith, add-one, append-nil}
 use Rattle.std.specs.Prelude.{Result}
 use Rattle.serde_json.specs.View.{items_view, view}
 use Rattle.serde_json.specs.declared.value.Value.{Value}
@@ -7,22 +7,13 @@ use Rattle.ks_base.specs.declared.shapes.ShapeFault.{ShapeFault}
 use Rattle.ks_base.specs.declared.shapes.ShapeRefusal.{ShapeRefusal}
 use Rattle.ks_base.specs.declared.shapes.ShapeRefusal.TheVariants as refusal
 use Rattle.ks_shape.specs.Places.{Place, entry_at}
-use Rattle.ks_shape.specs.Readings.{◌>>=◌, Reads}
+use Rattle.ks_shape.specs.Readings.{Reads}
+use Rattle.ks_shape.proofs.NameLemmas.{behind, behind_more}
 use Rattle.ks_setup.specs.Entries.{Entry, entries_from}
-
--- rows that are read, before what the rest gives
-abbrev pub behind : {A : Type 0} → List A → Result (List A) ShapeFault → Result (List A) ShapeFault
-behind rows (Ok others) = Ok (rows ++ others)
-behind rows (Err fault) = Err fault
 
 -- the rows that are read before entry i, and what the entries from there on give
 abbrev pub all_from : {A : Type 0} → Entry A → List (List ℕ) → Place → ℕ → List A → List Value → Result (List A) ShapeFault
 all_from entry names file i rows values = behind rows (entries_from entry names file i (items_view (drop i values)))
-
-behind_more : {A : Type 0} (rows : List A) (row : A) (r : Result (List A) ShapeFault)
-    → behind rows (r >>= (λ others. Ok (row ∷ others))) ≡ behind (rows ++ row ∷ []) r
-behind_more rows row (Ok others) = ap Ok (sym (append_assoc rows (row ∷ []) others))
-behind_more rows row (Err fault) = refl
 
 -- entry i of the values is entry number n of the list
 entry_more : {A : Type 0} (entry : Entry A) (names : List (List ℕ)) (file : Place) (n : ℕ) (rows : List A) (values : List Value) (i : ℕ) (value : Value) (row : A)
@@ -69,7 +60,3 @@ entries_end entry names file n rows (v ∷ values) (suc i) le = entries_end entr
 pub all_read : {A : Type 0} (entry : Entry A) (names : List (List ℕ)) (file : Place) (rows : List A) (values : List Value) (i : ℕ) → length values ≤ i
     → all_from entry names file i rows values ≡ Ok rows
 all_read entry names file rows values i le = entries_end entry names file i rows values i le
-
-pub none_read : {A : Type 0} (r : Result (List A) ShapeFault) → behind [] r ≡ r
-none_read (Ok rows) = refl
-none_read (Err fault) = refl

@@ -3,7 +3,7 @@ use Rattle.std.proofs.Common.{◌≡◌, ℕ, ◌≤◌, arith, Bool, true, fals
 use Rattle.ks_base.specs.declared.memory.Memory.{Memory}
 use Rattle.std.specs.List.{list_all}
 use Rattle.std.specs.Option.{option_map_or}
-use Rattle.std.proofs.lemmas.Bool.{cases_Bool}
+use Rattle.std.proofs.lemmas.Bool.{cases_Bool, and_parts}
 use Rattle.clap.specs.Words.{Row, first_of, matches_of}
 use Rattle.ks_setup.specs.declared.words.Places.{Places}
 use Rattle.ks_setup.specs.declared.words.Words.{Words}
@@ -12,7 +12,7 @@ use Rattle.ks_setup.specs.Words.{Form, IsInRange, check, check_app, folder_place
 use Rattle.ks_setup.proofs.FolderWordLemmas.{folder_is_first, folder_is_rotated, folder_rotated, folder_taken, no_folder_fault, no_max_is_said, two_folders_fault}
 use Rattle.ks_setup.proofs.NameLemmas.{any_name, is_name, named_rotate, named_setup, not_named}
 use Rattle.ks_setup.proofs.NumberLemmas.{number_within}
-use Rattle.ks_setup.proofs.ReadLemmas.{both_true, read_fault, read_none, read_some}
+use Rattle.ks_setup.proofs.ReadLemmas.{read_fault, read_none, read_some}
 use Rattle.ks_setup.proofs.ServeLemmas.{serve_is_other}
 
 -- the numbers that a command is told, and the most that a rotation leaves
@@ -66,7 +66,7 @@ read_in_range form (Err fault) words has is = tt
 
 -- `setup`
 
-plain_from : (dashed : Bool) → (not dashed || false) ≡ true → dashed ≡ false
+pub plain_from : (dashed : Bool) → (not dashed || false) ≡ true → dashed ≡ false
 plain_from true h = cc
 plain_from false h = refl
 
@@ -104,12 +104,12 @@ setup_open : (name : List ℕ) (rest : List (List ℕ)) (places : Places) → li
     → read_by setup (name ∷ rest) ≡ Setup places → OfSetup rest places
 setup_open name [] places h e = refused _ places (setup_usage _ (read_fault setup_app _ (no_folder_fault name))) e
 setup_open name (folder ∷ []) places h e =
-    let p = setup_plain folder (both_true _ _ h).0 in
+    let p = setup_plain folder (and_parts _ _ h).0 in
     (folder, p, refl, setup_same places _ _ (setup_given name folder p) e)
 setup_open name (folder ∷ more ∷ words) places h e =
-    let all = both_true _ _ h in
+    let all = and_parts _ _ h in
     let p = setup_plain folder all.0 in
-    let q = setup_plain more (both_true _ _ all.1).0 in
+    let q = setup_plain more (and_parts _ _ all.1).0 in
     refused _ places (setup_usage _ (read_fault setup_app _ (two_folders_fault name folder more words p q))) e
 
 setup_only : (name : List ℕ) (rest : List (List ℕ)) (places : Places) → read_by setup (name ∷ rest) ≡ Setup places → OfSetup rest places

@@ -1,7 +1,6 @@
 -- Reading one key more.
-use Rattle.std.proofs.Common.{◌≡◌, ℕ, zero, suc, ◌+◌, ◌<◌, ◌≤◌, List, [], ◌∷◌, ◌++◌, length, get_or, drop, Some, None, refl, sym, ap, subst, inl, inr, arith, add-one, append_assoc, append-nil}
+use Rattle.std.proofs.Common.{◌≡◌, ℕ, zero, suc, ◌+◌, ◌<◌, ◌≤◌, List, [], ◌∷◌, ◌++◌, length, get_or, drop, refl, sym, ap, subst, arith, append-nil}
 use Rattle.ks_base.specs.declared.key.Key.{Key}
-use Rattle.ks_fernet.specs.KeyText.{key_of}
 use Rattle.ks_setup.specs.Openings.{AreKeys, IsFirstBad}
 
 -- of these texts those before the number i are read, and their keys are these
@@ -17,26 +16,6 @@ drop_at (t ∷ texts) (suc i) text lt is = drop_at texts i text (omega arith) is
 pub reading_none : (texts : List (List ℕ)) → Reading texts 0 []
 reading_none [] = record { keys = λ more h. h; bad = λ at h. h }
 reading_none (text ∷ texts) = record { keys = λ more h. h; bad = λ at h. h }
-
-pub reading_more : (texts : List (List ℕ)) (i : ℕ) (ring : List (ℕ × Key)) (text : List ℕ) (key : Key) → i < length texts → text ≡ get_or texts i text
-    → key_of text ≡ Some key → Reading texts i ring → Reading texts (i + 1) (ring ++ (i, key) ∷ [])
-reading_more texts i ring text key lt is e h =
-    let at : drop i texts ≡ text ∷ drop (suc i) texts = drop_at texts i text lt is in
-    rw add-one (record {
-      keys = λ more rest.
-          let P : List (ℕ × Key) → Type 0 = λ l. AreKeys 0 texts l in
-          let Q : List (List ℕ) → Type 0 = λ l. AreKeys i l ((i, key) ∷ more) in
-          subst P (sym (append_assoc ring ((i, key) ∷ []) more)) (h.keys ((i, key) ∷ more) (subst Q (sym at) (refl, e, rest)));
-      bad = λ place rest.
-          let Q : List (List ℕ) → Type 0 = λ l. IsFirstBad i l place in
-          h.bad place (subst Q (sym at) (inr (key, e, rest)));
-    })
-
-pub reading_bad : (texts : List (List ℕ)) (i : ℕ) (ring : List (ℕ × Key)) (text : List ℕ) → i < length texts → text ≡ get_or texts i text
-    → key_of text ≡ None → Reading texts i ring → IsFirstBad 0 texts i
-reading_bad texts i ring text lt is e h =
-    let Q : List (List ℕ) → Type 0 = λ l. IsFirstBad i l i in
-    h.bad i (subst Q (sym (drop_at texts i text lt is)) (inl (e, refl)))
 
 nothing_left : (texts : List (List ℕ)) (i : ℕ) → length texts ≤ i → drop i texts ≡ []
 nothing_left [] zero le = refl

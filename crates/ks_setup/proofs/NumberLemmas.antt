@@ -1,11 +1,10 @@
 -- The number that a word writes.
 use Rattle.std.proofs.Common.{◌≡◌, ℕ, Bool, true, false, ◌<◌, ◌≤◌, ◌&&◌, ◌^◌, if◌then◌else◌, List, [], ◌∷◌, length, Option, Some, None, refl, subst, sym, ◌∙◌, ap, arith, inl, inr, lt-ltb, le-leb, nat_le}
-use Rattle.std.proofs.lemmas.Bool.{cases_Bool, cases_lt, leb-true, lt-leb, ltb-true}
+use Rattle.std.proofs.lemmas.Bool.{cases_Bool, cases_lt, leb-true, lt-leb, ltb-true, and_parts}
 use Rattle.std.specs.Char.{digit_value, is_digit}
 use Rattle.std.specs.List.{list_all}
 use Rattle.std.specs.Str.Parse.{AllDigits, IsNumeral, digits_value, without_leading_plus}
 use Rattle.ks_setup.specs.Words.{digits_between, is_numeral, number_between}
-use Rattle.ks_setup.proofs.ReadLemmas.{both_true}
 
 digits_are : (digits : List ℕ) → AllDigits 10 digits → list_all (λ c. is_digit c 10) digits ≡ true
 digits_are [] all = refl
@@ -17,12 +16,12 @@ numeral_is digits is = let t = lt-ltb 0 (length digits) is.0 in rw (t, digits_ar
 are_digits : (digits : List ℕ) → list_all (λ c. is_digit c 10) digits ≡ true → AllDigits 10 digits
 are_digits [] all = tt
 are_digits (c ∷ digits) all =
-    let both = both_true (is_digit c 10) (list_all (λ c. is_digit c 10) digits) all in
+    let both = and_parts (is_digit c 10) (list_all (λ c. is_digit c 10) digits) all in
     (ltb-true (digit_value c) 10 both.0, are_digits digits both.1)
 
 is_from : (digits : List ℕ) → is_numeral digits ≡ true → IsNumeral 10 digits
 is_from digits is =
-    let both = both_true _ (list_all (λ c. is_digit c 10) digits) is in
+    let both = and_parts _ (list_all (λ c. is_digit c 10) digits) is in
     (ltb-true 0 (length digits) both.0, are_digits digits both.1)
 
 between : (least most : ℕ) (digits : List ℕ) → is_numeral digits ≡ true → least ≤ digits_value 10 digits → digits_value 10 digits ≤ most

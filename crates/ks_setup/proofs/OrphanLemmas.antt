@@ -1,13 +1,11 @@
 -- One project more is looked at.
 use Rattle.std.proofs.Common.{◌≡◌, ℕ, ◌+◌, ◌<◌, ◌≤◌, true, false, List, [], ◌∷◌, ◌++◌, length, Option, Some, None, sym, ap, ◌∙◌, get_or, take, drop}
-use Rattle.std.proofs.lemmas.List.{drop_more, drop_all, take_more}
+use Rattle.std.proofs.lemmas.List.{drop_all, take_more}
 use Rattle.std.proofs.lemmas.Bool.{cond-true, cond-false}
 use Rattle.ks_base.specs.declared.rows.ProjectRow.{ProjectRow}
 use Rattle.ks_base.specs.Rows.{Id}
+use Rattle.ks_base.proofs.ListLemmas.{drop_at}
 use Rattle.ks_setup.specs.RowLines.{is_orphan, orphan_place}
-
-dropped : (rows : List ProjectRow) (k : ℕ) (row : ProjectRow) → k < length rows → row ≡ get_or rows k row → drop k rows ≡ row ∷ drop (k + 1) rows
-dropped rows k row within is = drop_more rows k row within ∙ ap (λ r. r ∷ drop (k + 1) rows) (sym is)
 
 taken : (rows : List ProjectRow) (k : ℕ) (row : ProjectRow) → k < length rows → row ≡ get_or rows k row → take (k + 1) rows ≡ take k rows ++ row ∷ []
 taken rows k row within is = take_more rows k row within ∙ ap (λ r. take k rows ++ r ∷ []) (sym is)
@@ -16,7 +14,7 @@ pub orphan_here : (id : Id) (rows : List ProjectRow) (k : ℕ) (row : ProjectRow
     → length (take k rows) ≡ k → is_orphan id (take k rows) row ≡ true → orphan_place id (take k rows) (drop k rows) ≡ whole → Some k ≡ whole
 unfolding orphan_place
 orphan_here id rows k row whole within is long found so_far =
-    ap Some (sym long) ∙ (sym (ap (orphan_place id (take k rows)) (dropped rows k row within is) ∙ cond-true _ _ _ found) ∙ so_far)
+    ap Some (sym long) ∙ (sym (ap (orphan_place id (take k rows)) (drop_at rows k row within is) ∙ cond-true _ _ _ found) ∙ so_far)
 
 pub orphan_later : (id : Id) (rows : List ProjectRow) (k : ℕ) (row : ProjectRow) (whole : Option ℕ) → k < length rows → row ≡ get_or rows k row
     → is_orphan id (take k rows) row ≡ false → orphan_place id (take k rows) (drop k rows) ≡ whole
@@ -24,7 +22,7 @@ pub orphan_later : (id : Id) (rows : List ProjectRow) (k : ℕ) (row : ProjectRo
 unfolding orphan_place
 orphan_later id rows k row whole within is other so_far =
     ap (λ before. orphan_place id before (drop (k + 1) rows)) (taken rows k row within is)
-    ∙ (sym (ap (orphan_place id (take k rows)) (dropped rows k row within is) ∙ cond-false _ _ _ other) ∙ so_far)
+    ∙ (sym (ap (orphan_place id (take k rows)) (drop_at rows k row within is) ∙ cond-false _ _ _ other) ∙ so_far)
 
 pub orphan_nowhere : (id : Id) (rows : List ProjectRow) (k : ℕ) (whole : Option ℕ) → length rows ≤ k
     → orphan_place id (take k rows) (drop k rows) ≡ whole → None ≡ whole

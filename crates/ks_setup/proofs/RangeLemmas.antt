@@ -1,30 +1,26 @@
 -- What a file of the right form opens with is in range.
-use Rattle.std.proofs.Common.{◌≡◌, ℕ, suc, Bool, true, false, List, [], ◌∷◌, length, Option, Some, None, Ok, Err, refl, sym, subst, arith}
-use Rattle.std.specs.Prelude.{Result, IfOk, IfSome, codes, if◌then◌else◌, option_and_then, take, unwrap_or}
-use Rattle.std.specs.Int.{IsInRange, is_in_range}
+use Rattle.std.proofs.Common.{ℕ, suc, Bool, List, [], ◌∷◌, Option, Some, None, Ok, sym, subst, arith}
+use Rattle.std.specs.Prelude.{Result, IfOk, IfSome, codes, take, unwrap_or}
+use Rattle.std.specs.Int.{IsInRange}
 use Rattle.std.specs.List.{AllByRecursion}
-use Rattle.std.proofs.lemmas.Bool.Decides.{nat_tests}
 use Rattle.serde_json.specs.Data.{Data, Items, no_items, item}
-use Rattle.serde_json.specs.Find.{as_number, as_u64}
-use Rattle.ks_base.specs.declared.limits.TheConstants.{DESCRIPTION_BYTES, NAME_BYTES, OPENING_BYTES}
+use Rattle.ks_base.specs.declared.limits.TheConstants.{OPENING_BYTES}
 use Rattle.ks_base.specs.declared.shapes.ShapeFault.{ShapeFault}
 use Rattle.ks_machine.specs.declared.settings.Settings.{Settings}
 use Rattle.ks_machine.specs.Ranges.{AreRounds, IsDescription, IsDomainInRange, IsGroupInRange, IsName, IsProjectInRange, IsRoleInRange, IsSettings, IsUserInRange}
-use Rattle.ks_shape.specs.declared.misfit.Misfit.{Misfit}
 use Rattle.ks_shape.specs.declared.misfit.Misfit.TheVariants as misfit
 use Rattle.ks_shape.specs.Bodies.{whole_document}
-use Rattle.ks_shape.specs.Fields.{FieldType, if_given, judged, needed, needed_value, optional, optional_value}
-use Rattle.ks_shape.specs.Places.{Place, entry_at, names, path_at}
-use Rattle.ks_shape.specs.Readings.{◌>>=◌, found, need}
-use Rattle.ks_shape.specs.Types.{any_text, description_text, id_text, list_of, name_text, password_text, text_of, truth, whole}
-use Rattle.ks_shape.proofs.PropertyLemmas.{If, needed_in, optional_in, skip, step, weaken}
+use Rattle.ks_shape.specs.Fields.{needed, optional, optional_value}
+use Rattle.ks_shape.specs.Places.{Place, entry_at, names}
+use Rattle.ks_shape.specs.Types.{any_text, description_text, id_text, list_of, name_text, password_text, truth, whole}
+use Rattle.ks_shape.proofs.PropertyLemmas.{If, needed_in, optional_in, skip, step}
+use Rattle.ks_shape.proofs.RangeLemmas.{name_in, description_in, whole_in}
 use Rattle.ks_setup.specs.declared.written.Written.{Written}
 use Rattle.ks_setup.specs.declared.written.WrittenUser.{WrittenUser}
 use Rattle.ks_setup.specs.Entries.{Entry, entries, entries_from, if_listed, listed}
 use Rattle.ks_setup.specs.Openings.{password_row, users_from}
 use Rattle.ks_setup.specs.Ranges.{OpensInRange}
 use Rattle.ks_setup.specs.Written.{default_domain, default_settings, document_of, domain_in, file_of, grant_in, group_in, implication_in, is_folder, keys_of, member_in, project_in, role_in, settings_at, settings_in, settings_of, user_in, written_in}
-use Rattle.ks_setup.proofs.BoundLemmas.{in_range}
 
 -- fields
 
@@ -32,32 +28,6 @@ use Rattle.ks_setup.proofs.BoundLemmas.{in_range}
 or_else : {A : Type 0} (P : A → Type 0) (value : Option A) (other : A) → IfSome value P → P other → P (unwrap_or value other)
 or_else P (Some a) other is stands = is
 or_else P None other is stands = stands
-
-text_by : (least most : ℕ) (text : List ℕ) (fits : Bool) → is_in_range least most (length text) ≡ fits
-    → IfOk (need fits misfit.Range >>= (λ _. Ok text)) (λ t. IsInRange least most (length t))
-text_by least most text true is = in_range least most (length text) is
-text_by least most text false is = tt
-
-text_in : (least most : ℕ) (value : Data) → IfOk (text_of least most value) (λ text. IsInRange least most (length text))
-unfolding text_of
-text_in least most value = skip (λ t. IsInRange least most (length t)) (any_text value) _ (λ text. text_by least most text _ refl)
-
-name_is : (value : Data) → IfOk (name_text value) IsName
-name_is value = text_in 1 NAME_BYTES value
-
-description_is : (value : Data) → IfOk (description_text value) IsDescription
-description_is value =
-    weaken IsDescription (λ text. IsInRange 0 DESCRIPTION_BYTES (length text)) (description_text value) (text_in 0 DESCRIPTION_BYTES value) (λ text is. is.1)
-
-whole_by : (least most number : ℕ) (fits : Bool) → is_in_range least most number ≡ fits
-    → IfOk (need fits misfit.Range >>= (λ _. Ok number)) (IsInRange least most)
-whole_by least most number true is = in_range least most number is
-whole_by least most number false is = tt
-
-whole_is : (least most : ℕ) (value : Data) → IfOk (whole least most value) (IsInRange least most)
-unfolding whole
-whole_is least most value =
-    skip (IsInRange least most) (found (option_and_then as_u64 (as_number value)) misfit.Kind) _ (λ number. whole_by least most number _ refl)
 
 -- settings
 
@@ -75,11 +45,11 @@ unfolding settings_at
 settings_in_range place =
     skip IsSettings (optional any_text (names (codes "url")) place) _ (λ url.
     step IsSettings (If (IsInRange 60 604800)) (optional (whole 60 604800) (names (codes "life")) place) _
-    (optional_in (IsInRange 60 604800) (whole 60 604800) (whole_is 60 604800) (names (codes "life")) place) (λ life is_life.
+    (optional_in (IsInRange 60 604800) (whole 60 604800) (whole_in 60 604800) (names (codes "life")) place) (λ life is_life.
     step IsSettings (If (IsInRange 1 100000)) (optional (whole 1 100000) (names (codes "rounds")) place) _
-    (optional_in (IsInRange 1 100000) (whole 1 100000) (whole_is 1 100000) (names (codes "rounds")) place) (λ rounds are_rounds.
+    (optional_in (IsInRange 1 100000) (whole 1 100000) (whole_in 1 100000) (names (codes "rounds")) place) (λ rounds are_rounds.
     step IsSettings (If (IsInRange 2 32)) (optional (whole 2 32) (names (codes "max_active_keys")) place) _
-    (optional_in (IsInRange 2 32) (whole 2 32) (whole_is 2 32) (names (codes "max_active_keys")) place) (λ most are_most.
+    (optional_in (IsInRange 2 32) (whole 2 32) (whole_in 2 32) (names (codes "max_active_keys")) place) (λ most are_most.
     let long = or_else (IsInRange 60 604800) life 3600 is_life (omega arith, omega arith) in
     let many = or_else (IsInRange 1 100000) rounds 10000 are_rounds (omega arith, omega arith) in
     let few = or_else (IsInRange 2 32) most 3 are_most (omega arith, omega arith) in
@@ -99,8 +69,8 @@ domain_is : (entry : Place) → IfOk (domain_in entry) IsDomainInRange
 unfolding domain_in
 domain_is entry =
     skip IsDomainInRange (needed id_text (names (codes "id")) entry) _ (λ id.
-    step IsDomainInRange IsName (needed name_text (names (codes "name")) entry) _ (needed_in IsName name_text name_is _ entry) (λ name is_name.
-    step IsDomainInRange (If IsDescription) (optional description_text (names (codes "description")) entry) _ (optional_in IsDescription description_text description_is _ entry) (λ description is.
+    step IsDomainInRange IsName (needed name_text (names (codes "name")) entry) _ (needed_in IsName name_text name_in _ entry) (λ name is_name.
+    step IsDomainInRange (If IsDescription) (optional description_text (names (codes "description")) entry) _ (optional_in IsDescription description_text description_in _ entry) (λ description is.
     skip IsDomainInRange (optional truth (names (codes "enabled")) entry) _ (λ enabled.
     (is_name, or_else IsDescription description [] is (omega arith))))))
 
@@ -110,8 +80,8 @@ project_is entry =
     skip IsProjectInRange (needed id_text (names (codes "id")) entry) _ (λ id.
     skip IsProjectInRange (needed id_text (names (codes "domain_id")) entry) _ (λ domain.
     skip IsProjectInRange (optional id_text (names (codes "parent_id")) entry) _ (λ parent.
-    step IsProjectInRange IsName (needed name_text (names (codes "name")) entry) _ (needed_in IsName name_text name_is _ entry) (λ name is_name.
-    step IsProjectInRange (If IsDescription) (optional description_text (names (codes "description")) entry) _ (optional_in IsDescription description_text description_is _ entry) (λ description is.
+    step IsProjectInRange IsName (needed name_text (names (codes "name")) entry) _ (needed_in IsName name_text name_in _ entry) (λ name is_name.
+    step IsProjectInRange (If IsDescription) (optional description_text (names (codes "description")) entry) _ (optional_in IsDescription description_text description_in _ entry) (λ description is.
     skip IsProjectInRange (optional truth (names (codes "enabled")) entry) _ (λ enabled.
     (is_name, or_else IsDescription description [] is (omega arith))))))))
 
@@ -123,7 +93,7 @@ unfolding user_in
 user_is entry =
     skip HasName (needed id_text (names (codes "id")) entry) _ (λ id.
     skip HasName (needed id_text (names (codes "domain_id")) entry) _ (λ domain.
-    step HasName IsName (needed name_text (names (codes "name")) entry) _ (needed_in IsName name_text name_is _ entry) (λ name is_name.
+    step HasName IsName (needed name_text (names (codes "name")) entry) _ (needed_in IsName name_text name_in _ entry) (λ name is_name.
     skip HasName (optional truth (names (codes "enabled")) entry) _ (λ enabled.
     skip HasName (optional password_text (names (codes "password")) entry) _ (λ password. is_name)))))
 
@@ -132,16 +102,16 @@ unfolding group_in
 group_is entry =
     skip IsGroupInRange (needed id_text (names (codes "id")) entry) _ (λ id.
     skip IsGroupInRange (needed id_text (names (codes "domain_id")) entry) _ (λ domain.
-    step IsGroupInRange IsName (needed name_text (names (codes "name")) entry) _ (needed_in IsName name_text name_is _ entry) (λ name is_name.
-    step IsGroupInRange (If IsDescription) (optional description_text (names (codes "description")) entry) _ (optional_in IsDescription description_text description_is _ entry) (λ description is.
+    step IsGroupInRange IsName (needed name_text (names (codes "name")) entry) _ (needed_in IsName name_text name_in _ entry) (λ name is_name.
+    step IsGroupInRange (If IsDescription) (optional description_text (names (codes "description")) entry) _ (optional_in IsDescription description_text description_in _ entry) (λ description is.
     (is_name, or_else IsDescription description [] is (omega arith))))))
 
 role_is : (entry : Place) → IfOk (role_in entry) IsRoleInRange
 unfolding role_in
 role_is entry =
     skip IsRoleInRange (needed id_text (names (codes "id")) entry) _ (λ id.
-    step IsRoleInRange IsName (needed name_text (names (codes "name")) entry) _ (needed_in IsName name_text name_is _ entry) (λ name is_name.
-    step IsRoleInRange (If IsDescription) (optional description_text (names (codes "description")) entry) _ (optional_in IsDescription description_text description_is _ entry) (λ description is.
+    step IsRoleInRange IsName (needed name_text (names (codes "name")) entry) _ (needed_in IsName name_text name_in _ entry) (λ name is_name.
+    step IsRoleInRange (If IsDescription) (optional description_text (names (codes "description")) entry) _ (optional_in IsDescription description_text description_in _ entry) (λ description is.
     (is_name, or_else IsDescription description [] is (omega arith)))))
 
 -- lists

@@ -4,6 +4,7 @@ use Rattle.std.specs.Borrow.{Bor}
 use Rattle.std.specs.Prelude.{◌≢◌, map, option_map}
 use Rattle.std.proofs.lemmas.List.{drop-map}
 use Rattle.std.proofs.lemmas.List.Folds.{list_all-map}
+use Rattle.std.proofs.lemmas.Bool.{and_parts}
 use Rattle.std.specs.List.{list_all}
 use Rattle.clap.specs.Kinds.{IsAmong, Kinds}
 use Rattle.clap.specs.Faults.{is_free_app}
@@ -13,10 +14,6 @@ use Rattle.clap.specs.declared.error.kind.ErrorKind.TheVariants as kind
 use Rattle.std.specs.Option.{option_map_or}
 use Rattle.ks_setup.specs.declared.words.Words.TheVariants.{Usage}
 use Rattle.ks_setup.specs.Words.{Form, has_none, is_open, read_by, rows_read}
-
-pub both_true : (a b : Bool) → (a && b) ≡ true → (a ≡ true) × (b ≡ true)
-both_true true b h = (refl, h)
-both_true false b h = (h, cc)
 
 not_both : (a : Bool) (rows : List Row) → (if a && false then Some rows else None) ≡ None
 not_both true rows = refl
@@ -48,7 +45,7 @@ pub read_taken : {X : Type 0} (app : App) (words : List (List ℕ)) (rows : List
     → list_all (is_open app.top.rules) (drop 1 words) ≡ true → (is_simple app ≡ true → (rows ≡ matches_of app words) × X) → fault_of app words ≡ []
     → Some rows ≡ rows_read app words
 read_taken app words rows free all_open found faultless =
-    ap Some (found (both_true (is_simple app) (is_free_app (built app)) free).0).0 ∙ sym (read_some app words all_open faultless)
+    ap Some (found (and_parts (is_simple app) (is_free_app (built app)) free).0).0 ∙ sym (read_some app words all_open faultless)
 
 -- the words, as they were lent
 open_lent : (app : App) (words : List (Bor (List ℕ))) → list_all (is_open app.top.rules) (drop 1 (map (λ word. word.now) words))

@@ -1,22 +1,19 @@
 -- The words that give each command.
-use Rattle.std.proofs.Common.{◌≡◌, ℕ, Bool, true, false, not, ◌||◌, List, [], ◌∷◌, Option, Some, None, refl, ap, ap₂, sym, ◌∙◌, inl, inr, codes}
+use Rattle.std.proofs.Common.{◌≡◌, ℕ, true, false, List, [], ◌∷◌, Option, Some, None, refl, ap, ap₂, sym, ◌∙◌, inl, inr, codes}
 use Rattle.std.specs.List.{list_all}
 use Rattle.std.specs.Option.{option_map_or}
 use Rattle.std.specs.Str.{bytes_eq}
-use Rattle.std.proofs.lemmas.Bool.{cases_Bool}
+use Rattle.std.proofs.lemmas.Bool.{cases_Bool, and_parts}
 use Rattle.clap.specs.Words.{Row, first_of, matches_of}
 use Rattle.ks_setup.specs.declared.words.Places.{Places}
 use Rattle.ks_setup.specs.declared.words.Words.{Words}
 use Rattle.ks_setup.specs.declared.words.Words.TheVariants.{Check, Talk, Usage}
 use Rattle.ks_setup.specs.Words.{check, check_app, is_dashed, is_open, max_said, names_option, read_by, rotate, rotate_app, rotated_with, rows_read, serve, serve_app, setup, setup_app, talk, talk_app, talk_places, words_of}
 use Rattle.ks_setup.proofs.NameLemmas.{check_name, is_name, not_named, other_name, talk_name}
-use Rattle.ks_setup.proofs.ReadLemmas.{both_true, read_fault, read_none, read_some}
+use Rattle.ks_setup.proofs.ReadLemmas.{read_fault, read_none, read_some}
 use Rattle.ks_setup.proofs.ServeLemmas.{serve_is_other}
 use Rattle.ks_setup.proofs.WordLemmas.{check_word_taken, check_words_fault, file_is_first, folder_is_second, no_word_fault, one_word_fault, three_words_fault, two_words_taken}
-
-plain_from : (dashed : Bool) → (not dashed || false) ≡ true → dashed ≡ false
-plain_from true h = cc
-plain_from false h = refl
+use Rattle.ks_setup.proofs.FolderLemmas.{plain_from}
 
 -- no argument of the two commands has a long name
 talk_plain : (word : List ℕ) → is_open talk_app.top.rules word ≡ true → is_dashed word ≡ false
@@ -61,19 +58,19 @@ talk_open : (name : List ℕ) (rest : List (List ℕ)) (places : Places) → lis
     → read_by talk (name ∷ rest) ≡ Talk places → OfTalk rest places
 talk_open name [] places h e = refused _ places (talk_usage _ (read_fault talk_app _ (no_word_fault name))) e
 talk_open name (file ∷ []) places h e =
-    let p = talk_plain file (both_true _ _ h).0 in
+    let p = talk_plain file (and_parts _ _ h).0 in
     refused _ places (talk_usage _ (read_fault talk_app _ (one_word_fault name file p))) e
 talk_open name (file ∷ folder ∷ []) places h e =
-    let all = both_true _ _ h in
+    let all = and_parts _ _ h in
     let p = talk_plain file all.0 in
-    let q = talk_plain folder (both_true _ _ all.1).0 in
+    let q = talk_plain folder (and_parts _ _ all.1).0 in
     (file, folder, p, q, refl, talk_same places _ _ (talk_given name file folder p q) e)
 talk_open name (file ∷ folder ∷ more ∷ words) places h e =
-    let all = both_true _ _ h in
-    let next = both_true _ _ all.1 in
+    let all = and_parts _ _ h in
+    let next = and_parts _ _ all.1 in
     let p = talk_plain file all.0 in
     let q = talk_plain folder next.0 in
-    let r = talk_plain more (both_true _ _ next.1).0 in
+    let r = talk_plain more (and_parts _ _ next.1).0 in
     refused _ places (talk_usage _ (read_fault talk_app _ (three_words_fault name file folder more words p q r))) e
 
 pub talk_only : (name : List ℕ) (rest : List (List ℕ)) (places : Places) → read_by talk (name ∷ rest) ≡ Talk places → OfTalk rest places
@@ -112,7 +109,7 @@ not_usage words usage given = cc (sym usage ∙ given)
 pub check_only : (name : List ℕ) (rest : List (List ℕ)) → read_by check (name ∷ rest) ≡ Check → rest ≡ []
 check_only name [] e = refl
 check_only name (word ∷ words) e = elim (cases_Bool (list_all (is_open check_app.top.rules) (word ∷ words))) [
-  | inl h ↦ not_usage _ (check_usage _ (read_fault check_app _ (check_words_fault name word words (check_plain word (both_true _ _ h).0)))) e
+  | inl h ↦ not_usage _ (check_usage _ (read_fault check_app _ (check_words_fault name word words (check_plain word (and_parts _ _ h).0)))) e
   | inr h ↦ not_usage _ (check_usage _ (read_none check_app (name ∷ word ∷ words) h)) e
 ]
 

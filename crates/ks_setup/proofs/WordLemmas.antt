@@ -1,18 +1,12 @@
 -- What clap makes of the words of each command.
-use Rattle.std.proofs.Common.{◌≡◌, ℕ, true, false, List, [], ◌∷◌, Some, refl, ap, ◌∙◌, codes}
+use Rattle.std.proofs.Common.{◌≡◌, ℕ, false, List, [], ◌∷◌, Some, refl, ap, ◌∙◌, codes}
 use Rattle.clap.specs.Walk.{Held, Rule, Walk, finished, nothing_held, walk, walk_from, walked}
-use Rattle.clap.specs.Words.{App, built, fault_of, first_of, is_simple_and_free, matches_of}
+use Rattle.clap.specs.Words.{App, built, fault_of, first_of, matches_of}
 use Rattle.clap.specs.Faults.{walk_fault}
 use Rattle.clap.specs.declared.error.kind.ErrorKind.TheVariants.{UnknownArgument}
 use Rattle.clap.proofs.OnLiterals.{clap_on_literals}
 use Rattle.ks_setup.specs.Words.{check_app, has_none, is_dashed, talk_app}
 use Rattle.ks_setup.proofs.WalkLemmas.{at_place, behind_word, fault_from, fault_is, fault_of_word, no_fault_of_none, walked_word}
-
-pub check_is_free : is_simple_and_free check_app ≡ true
-check_is_free = refl
-
-pub talk_is_free : is_simple_and_free talk_app ≡ true
-talk_is_free = refl
 
 -- `check` takes no word
 

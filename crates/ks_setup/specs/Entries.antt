@@ -3,10 +3,10 @@ use Rattle.std.specs.Prelude.{ℕ, suc, List, [], ◌∷◌, Option, Some, None,
 use Rattle.serde_json.specs.Data.{Items, no_items, item}
 use Rattle.ks_base.specs.declared.limits.TheConstants.{OPENING_BYTES}
 use Rattle.ks_base.specs.declared.shapes.ShapeFault.{ShapeFault}
+use Rattle.ks_base.specs.Results.{◌>>=◌}
 use Rattle.ks_shape.specs.Places.{Place, entry_at}
 use Rattle.ks_shape.specs.Fields.{optional}
 use Rattle.ks_shape.specs.Types.{list_of}
-use Rattle.ks_shape.specs.Readings.{◌>>=◌}
 
 -- what an entry is read as
 abbrev pub Entry : Type 0 → Type 0

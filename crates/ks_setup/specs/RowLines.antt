@@ -1,13 +1,11 @@
 -- The line that a person reads for each fault of the rows of an opening file.
-use Rattle.std.specs.Prelude.{ℕ, Bool, false, not, ◌&&◌, ◌||◌, if◌then◌else◌, List, [], ◌∷◌, ◌++◌, length, find, position, Option, Some, None, option_map, codes, decimal}
+use Rattle.std.specs.Prelude.{ℕ, Bool, not, ◌&&◌, if◌then◌else◌, List, [], ◌∷◌, ◌++◌, length, find, position, Option, Some, None, option_map, codes, decimal}
 use Rattle.std.specs.List.{concat, list_any}
 use Rattle.std.specs.Option.{option_or}
 use Rattle.ks_base.specs.declared.faults.LoadFault.{LoadFault}
 use Rattle.ks_base.specs.declared.faults.LoadFault.TheVariants as load
-use Rattle.ks_base.specs.declared.grants.Actor.{Actor}
 use Rattle.ks_base.specs.declared.grants.Actor.TheVariants as actor
 use Rattle.ks_base.specs.declared.grants.ImplyRow.{ImplyRow}
-use Rattle.ks_base.specs.declared.grants.Target.{Target}
 use Rattle.ks_base.specs.declared.grants.Target.TheVariants as target
 use Rattle.ks_base.specs.declared.kinds.Kind.{Kind}
 use Rattle.ks_base.specs.declared.kinds.Kind.TheVariants as kind
@@ -16,6 +14,8 @@ use Rattle.ks_base.specs.declared.rows.ProjectRow.{ProjectRow}
 use Rattle.ks_base.specs.Limits.{limit}
 use Rattle.ks_base.specs.Rows.{Id, same}
 use Rattle.ks_base.specs.Tree.{is_child_of}
+use Rattle.ks_base.specs.RoleLists.{names_role}
+use Rattle.ks_base.specs.Grants.{is_of_actor, is_at_target}
 use Rattle.ks_machine.specs.declared.settings.OpenFault.{OpenFault}
 use Rattle.ks_machine.specs.declared.settings.OpenFault.TheVariants as fault
 use Rattle.ks_setup.specs.declared.lines.spot.Field.{Field}
@@ -79,27 +79,6 @@ name_line written kind.Event id = name_unplaced kind.Event id
 
 -- rows that name what does not stand
 
-abbrev pub is_user : Id → Actor → Bool
-is_user id (actor.User user) = same user id
-is_user id (actor.Group group) = false
-
-abbrev pub is_group : Id → Actor → Bool
-is_group id (actor.User user) = false
-is_group id (actor.Group group) = same group id
-
-abbrev pub is_project : Id → Target → Bool
-is_project id (target.Project project) = same project id
-is_project id (target.Domain domain) = false
-is_project id target.System = false
-
-abbrev pub is_domain : Id → Target → Bool
-is_domain id (target.Project project) = false
-is_domain id (target.Domain domain) = same domain id
-is_domain id target.System = false
-
-abbrev pub names_role : Id → ImplyRow → Bool
-names_role id row = same row.prior id || same row.implied id
-
 abbrev pub role_field : Id → ImplyRow → Field
 role_field id row = if same row.prior id then field.Prior else field.Implied
 
@@ -113,17 +92,17 @@ domain_spot written id =
     option_or (spot_at kind.Project field.DomainId (position (λ row. same row.domain id) written.projects))
     (option_or (spot_at kind.User field.DomainId (position (λ row. same row.domain id) written.users))
     (option_or (spot_at kind.Group field.DomainId (position (λ row. same row.domain id) written.groups))
-    (spot_at kind.Grant field.Domain (position (λ row. is_domain id row.target) written.assignments))))
+    (spot_at kind.Grant field.Domain (position (is_at_target (target.Domain id)) written.assignments))))
 
 abbrev pub user_spot : Written → Id → Option Spot
 user_spot written id =
     option_or (spot_at kind.Member field.User (position (λ row. same row.user id) written.members))
-    (spot_at kind.Grant field.User (position (λ row. is_user id row.actor) written.assignments))
+    (spot_at kind.Grant field.User (position (is_of_actor (actor.User id)) written.assignments))
 
 abbrev pub group_spot : Written → Id → Option Spot
 group_spot written id =
     option_or (spot_at kind.Member field.Group (position (λ row. same row.group id) written.members))
-    (spot_at kind.Grant field.Group (position (λ row. is_group id row.actor) written.assignments))
+    (spot_at kind.Grant field.Group (position (is_of_actor (actor.Group id)) written.assignments))
 
 abbrev pub role_spot : Written → Id → Option Spot
 role_spot written id =
@@ -154,7 +133,7 @@ orphan_or (Some place) id other = orphan_line place id
 abbrev pub absent_line : Written → Kind → Id → List ℕ
 absent_line written kind.Domain id = absent_at (domain_spot written id) kind.Domain id
 absent_line written kind.Project id = orphan_or (orphan_place id [] written.projects) id
-    (absent_at (spot_at kind.Grant field.Project (position (λ row. is_project id row.target) written.assignments)) kind.Project id)
+    (absent_at (spot_at kind.Grant field.Project (position (is_at_target (target.Project id)) written.assignments)) kind.Project id)
 absent_line written kind.User id = absent_at (user_spot written id) kind.User id
 absent_line written kind.Group id = absent_at (group_spot written id) kind.Group id
 absent_line written kind.Role id = absent_at (role_spot written id) kind.Role id

@@ -17,12 +17,12 @@ use Rattle.ks_base.specs.declared.rows.RoleRow.{RoleRow}
 use Rattle.ks_base.specs.declared.shapes.ShapeFault.{ShapeFault}
 use Rattle.ks_base.specs.declared.shapes.ShapeFault.TheVariants as fault
 use Rattle.ks_base.specs.declared.users.MemberRow.{MemberRow}
+use Rattle.ks_base.specs.Results.{found, need, ◌>>=◌}
 use Rattle.ks_machine.specs.declared.settings.Settings.{Settings}
 use Rattle.ks_shape.specs.declared.misfit.Misfit.TheVariants as misfit
 use Rattle.ks_shape.specs.Bodies.{document, whole_document}
 use Rattle.ks_shape.specs.Fields.{FieldType, needed, optional, optional_value}
 use Rattle.ks_shape.specs.Places.{Place, names, path_at}
-use Rattle.ks_shape.specs.Readings.{◌>>=◌, found, need}
 use Rattle.ks_shape.specs.Types.{any_text, count_of, description_text, id_text, list_of, name_text, password_text, truth, whole}
 use Rattle.ks_setup.specs.declared.written.KeysFrom.{KeysFrom}
 use Rattle.ks_setup.specs.declared.written.KeysFrom.TheVariants as keys

@@ -6,8 +6,8 @@ use Rattle.std.proofs.lemmas.Str.{IsUtf8-from_is_utf8, is_utf8-from_IsUtf8}
 use Rattle.serde_json.specs.Data.{Data}
 use Rattle.serde_json.specs.Read.{read}
 use Rattle.ks_base.specs.declared.shapes.ShapeFault.TheVariants.{NotJson}
+use Rattle.ks_base.specs.Results.{found}
 use Rattle.ks_shape.specs.Bodies.{document}
-use Rattle.ks_shape.specs.Readings.{found}
 
 pub document_read : (bytes : List ℕ) (value : Data) → IsUtf8 bytes → read bytes ≡ Some value → found (document bytes) NotJson ≡ Ok value
 document_read bytes value utf8 e = rw (is_utf8-from_IsUtf8 bytes utf8, e) refl

@@ -1,17 +1,9 @@
 -- No time text has a moment past the last second of the year 9999.
-use Rattle.std.proofs.Common.{◌≡◌, ℕ, zero, suc, ◌+◌, ◌-◌, ◌≤◌, List, refl, arith, add-suc, add-zero}
+use Rattle.std.proofs.Common.{◌≡◌, ℕ, zero, suc, ◌+◌, ◌-◌, ◌≤◌, List, arith, add-suc, add-zero}
 use Rattle.ks_base.specs.declared.limits.TheConstants.{LAST_SECOND}
 use Rattle.ks_time.specs.Calendar.{Civil, IsCivil, days_in_month, days_in_year, days_of_months, days_of_years, moment_of}
 use Rattle.ks_time.specs.TimeTexts.{IsTimeText}
-
--- 1 January 10000
-all_years : days_of_years 8_030 ≡ 2_932_897
-unfolding days_of_years
-all_years = refl
-
-all_months : (year : ℕ) → days_of_months year 12 ≡ days_in_year year
-unfolding days_of_months
-all_months year = grind arith
+use Rattle.ks_time.proofs.WalkLemmas.{last_year, year_months}
 
 -- more years have more days, and so have more months
 years_rise : (n more : ℕ) → days_of_years n ≤ days_of_years (n + more)
@@ -30,7 +22,7 @@ unfolding days_of_months
 days_in year n day short is =
     let whole : suc n + (11 - n) ≡ 12 = omega arith in
     let rest = rw whole at (months_rise year (suc n) (11 - n)) in
-    omega (arith, rest, is, all_months year)
+    omega (arith, rest, is, year_months year)
 
 -- the days of all years up to one of them
 years_in : (n : ℕ) → n ≤ 8_029 → days_of_years n + days_in_year (1970 + n) ≤ 2_932_897
@@ -38,7 +30,7 @@ unfolding days_of_years
 years_in n short =
     let whole : suc n + (8_029 - n) ≡ 8_030 = omega arith in
     let rest = rw whole at (years_rise (suc n) (8_029 - n)) in
-    omega (arith, rest, all_years)
+    omega (arith, rest, last_year)
 
 last_second : (c : Civil) → IsCivil c → moment_of c ≤ LAST_SECOND
 last_second c is =

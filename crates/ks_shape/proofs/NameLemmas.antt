@@ -6,20 +6,21 @@ use Rattle.serde_json.specs.declared.value.Value.{Value}
 use Rattle.ks_base.specs.declared.shapes.ShapeFault.{ShapeFault}
 use Rattle.ks_base.specs.declared.shapes.ShapeRefusal.{ShapeRefusal}
 use Rattle.ks_base.specs.declared.shapes.ShapeRefusal.TheVariants as refusal
+use Rattle.ks_base.specs.Results.{◌>>=◌}
 use Rattle.ks_machine.specs.declared.bodies.Named.{Named}
 use Rattle.ks_shape.specs.Places.{Place}
 use Rattle.ks_shape.specs.Names.{all_named, named_at}
-use Rattle.ks_shape.specs.Readings.{◌>>=◌, Reads}
+use Rattle.ks_shape.specs.Readings.{Reads}
 
 -- rows that are read, before what the rest gives
-abbrev pub behind : List Named → Result (List Named) ShapeFault → Result (List Named) ShapeFault
+abbrev pub behind : {A : Type 0} → List A → Result (List A) ShapeFault → Result (List A) ShapeFault
 behind rows (Ok others) = Ok (rows ++ others)
 behind rows (Err fault) = Err fault
 
 abbrev pub entry : List ℕ → Value → Place
 entry path value = record { path = path; value = Some (view value) }
 
-behind_more : (rows : List Named) (row : Named) (r : Result (List Named) ShapeFault)
+pub behind_more : {A : Type 0} (rows : List A) (row : A) (r : Result (List A) ShapeFault)
     → behind rows (r >>= (λ others. Ok (row ∷ others))) ≡ behind (rows ++ row ∷ []) r
 behind_more rows row (Ok others) = ap Ok (sym (append_assoc rows (row ∷ []) others))
 behind_more rows row (Err fault) = refl
@@ -63,7 +64,3 @@ named_end path rows [] zero le = ap Ok (append-nil rows)
 named_end path rows [] (suc i) le = ap Ok (append-nil rows)
 named_end path rows (v ∷ values) zero le = absurd (omega arith)
 named_end path rows (v ∷ values) (suc i) le = named_end path rows values i (omega arith)
-
-pub named_start : (r : Result (List Named) ShapeFault) → behind [] r ≡ r
-named_start (Ok rows) = refl
-named_start (Err fault) = refl

@@ -1,11 +1,11 @@
 -- What is read has a property where each part of it has one.
 use Rattle.std.proofs.Common.{List, ℕ, Option, Some, None, Ok, Err}
 use Rattle.std.specs.Prelude.{Result, IfOk, IfSome}
+use Rattle.ks_base.specs.Results.{◌>>=◌}
 use Rattle.serde_json.specs.Data.{Data}
 use Rattle.ks_shape.specs.declared.misfit.Misfit.{Misfit}
 use Rattle.ks_shape.specs.Fields.{FieldType, if_given, judged, needed, needed_value, optional, optional_value}
 use Rattle.ks_shape.specs.Places.{Place, path_at}
-use Rattle.ks_shape.specs.Readings.{◌>>=◌}
 
 -- what is read behind a reading has a property where it has it whatever that reading gives, and where what it gives has another
 pub skip : {A B F : Type 0} (Q : B → Type 0) (r : Result A F) (f : A → Result B F) → ((a : A) → IfOk (f a) Q) → IfOk (r >>= f) Q

@@ -13,6 +13,7 @@ use Rattle.ks_base.specs.declared.limits.TheConstants.{DESCRIPTION_BYTES, NAME_B
 use Rattle.ks_base.specs.declared.shapes.ShapeFault.{ShapeFault}
 use Rattle.ks_base.specs.declared.shapes.ShapeFault.TheVariants as fault
 use Rattle.ks_base.specs.Rows.{Id, Text}
+use Rattle.ks_base.specs.Results.{◌>>=◌, found, need}
 use Rattle.ks_machine.specs.declared.bodies.LoginBody.{LoginBody}
 use Rattle.ks_machine.specs.declared.bodies.Made.{Made}
 use Rattle.ks_machine.specs.declared.bodies.Named.{Named}
@@ -24,16 +25,14 @@ use Rattle.ks_shape.specs.declared.form.Form.{Form}
 use Rattle.ks_shape.specs.declared.form.Form.TheVariants as form
 use Rattle.ks_shape.specs.declared.method.LoginMethod.{LoginMethod}
 use Rattle.ks_shape.specs.declared.method.LoginMethod.TheVariants as method
-use Rattle.ks_shape.specs.declared.misfit.Misfit.{Misfit}
 use Rattle.ks_shape.specs.declared.misfit.Misfit.TheVariants as misfit
 use Rattle.ks_shape.specs.declared.trust.Limits.{Limits}
 use Rattle.ks_shape.specs.Bodies.{body_of, document, form_of, password_of, whole_document}
-use Rattle.ks_shape.specs.Fields.{FieldType, if_given, judged, needed, needed_value, optional, optional_value, unless_null}
+use Rattle.ks_shape.specs.Fields.{judged, needed, optional, unless_null}
 use Rattle.ks_shape.specs.Logins.{domain_scope, login_of, object_scope, password_proof, project_scope, proof_by, scope_at, scope_by, scope_from, system_scope, token_proof, trust_scope, unscoped_text}
 use Rattle.ks_shape.specs.Names.{all_named, name_and_domain, named_at, named_by, own_id, own_name, project_at, project_by, user_at, user_by}
 use Rattle.ks_shape.specs.Places.{Place, names, path_at, place_at}
 use Rattle.ks_shape.specs.Ranges.{BodiesAreInRange, IsBodyFor, IsMadeFor}
-use Rattle.ks_shape.specs.Readings.{◌>>=◌, found, need}
 use Rattle.ks_shape.specs.Rows.{domain_of, group_of, id_at, made_of, name_at, project_of, role_of, user_of}
 use Rattle.ks_shape.specs.Times.{time_of}
 use Rattle.ks_shape.specs.Trusts.{limits_of, roles_at, trust_of}
@@ -51,17 +50,17 @@ text_by : (least most : ℕ) (text : List ℕ) (fits : Bool) → is_in_range lea
 text_by least most text true is = in_range_from least most (length text) is
 text_by least most text false is = tt
 
-text_in : (least most : ℕ) (value : Data) → IfOk (text_of least most value) (λ text. IsInRange least most (length text))
+pub text_in : (least most : ℕ) (value : Data) → IfOk (text_of least most value) (λ text. IsInRange least most (length text))
 unfolding text_of
 text_in least most value = skip (λ t. IsInRange least most (length t)) (any_text value) _ (λ text. text_by least most text _ refl)
 
-name_in : (value : Data) → IfOk (name_text value) IsName
+pub name_in : (value : Data) → IfOk (name_text value) IsName
 name_in value = text_in 1 NAME_BYTES value
 
 password_in : (value : Data) → IfOk (password_text value) IsPassword
 password_in value = text_in 1 PASSWORD_BYTES value
 
-description_in : (value : Data) → IfOk (description_text value) IsDescription
+pub description_in : (value : Data) → IfOk (description_text value) IsDescription
 description_in value =
     weaken IsDescription (λ text. IsInRange 0 DESCRIPTION_BYTES (length text)) (description_text value) (text_in 0 DESCRIPTION_BYTES value) (λ text is. is.1)
 
@@ -319,7 +318,7 @@ whole_by : (least most number : ℕ) (fits : Bool) → is_in_range least most nu
 whole_by least most number true is = in_range_from least most number is
 whole_by least most number false is = tt
 
-whole_in : (least most : ℕ) (value : Data) → IfOk (whole least most value) (IsInRange least most)
+pub whole_in : (least most : ℕ) (value : Data) → IfOk (whole least most value) (IsInRange least most)
 unfolding whole
 whole_in least most value =
     skip (IsInRange least most) (found (option_and_then as_u64 (as_number value)) misfit.Kind) _ (λ number. whole_by least most number _ refl)

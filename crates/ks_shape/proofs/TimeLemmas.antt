@@ -1,15 +1,15 @@
 -- A text has a moment exactly where it is a time text of that moment.
-use Rattle.std.proofs.Common.{◌≡◌, ℕ, ◌+◌, ◌-◌, ◌*◌, ◌/◌, ◌%◌, ◌<◌, ◌≤◌, Bool, true, false, List, ◌++◌, length, take, Some, None, refl, sym, ap, ◌∙◌, arith, length-append, append_assoc}
+use Rattle.std.proofs.Common.{◌≡◌, ℕ, ◌+◌, ◌-◌, ◌*◌, ◌/◌, ◌%◌, ◌≤◌, Bool, true, false, List, ◌++◌, length, take, Some, None, refl, sym, ap, ◌∙◌, arith, length-append, append_assoc}
 use Rattle.std.proofs.Math.Seq.{take-append_seam}
-use Rattle.std.proofs.lemmas.Bool.{and_from, and_parts}
+use Rattle.std.proofs.lemmas.Bool.{and_from, and_parts, ltb-true, lt-ltb}
 use Rattle.std.proofs.lemmas.Bool.Decides.{nat_tests}
 use Rattle.std.proofs.lemmas.Slice.Eq.{bytes_eq-Decides}
 use Rattle.std.specs.Prelude.{Option, Err, Ok, nat_lt, nat_le, if◌then◌else◌, codes}
 use Rattle.std.specs.Int.{IsInRange, is_in_range}
+use Rattle.ks_base.specs.Results.{found}
 use Rattle.ks_time.specs.Calendar.{Civil, IsCivil, days_in_month, moment_of}
 use Rattle.ks_time.specs.TimeTexts.{IsTimeText, clock_text, date_text, is_fraction}
 use Rattle.ks_shape.specs.declared.misfit.Misfit.TheVariants.{Kind}
-use Rattle.ks_shape.specs.Readings.{found}
 use Rattle.ks_shape.specs.Times.{civil_in, fraction_in, is_civil, is_spelled, is_time_text, time_of}
 
 pub in_range_from : (low high n : ℕ) → is_in_range low high n ≡ true → IsInRange low high n
@@ -25,12 +25,6 @@ in_range_true low high n h =
     let below : n ≤ high = h.1 in
     and_from (nat_le low n) (nat_le n high) (grind (arith, nat_tests)) (grind (arith, nat_tests))
 
-lt_from : (m n : ℕ) → nat_lt m n ≡ true → m < n
-lt_from m n e = grind (arith, nat_tests)
-
-lt_true : (m n : ℕ) → m < n → nat_lt m n ≡ true
-lt_true m n h = grind (arith, nat_tests)
-
 is_civil_from : (c : Civil) → is_civil c ≡ true → IsCivil c
 is_civil_from c e =
     let year = and_parts (is_in_range 1970 9999 c.year) _ e in
@@ -42,9 +36,9 @@ is_civil_from c e =
       year = in_range_from _ _ _ year.0;
       month = in_range_from _ _ _ month.0;
       day = in_range_from _ _ _ day.0;
-      hour = lt_from _ _ hour.0;
-      minute = lt_from _ _ minute.0;
-      second = lt_from _ _ minute.1;
+      hour = ltb-true _ _ hour.0;
+      minute = ltb-true _ _ minute.0;
+      second = ltb-true _ _ minute.1;
     }
 
 is_civil_true : (c : Civil) → IsCivil c → is_civil c ≡ true
@@ -52,8 +46,8 @@ is_civil_true c h =
     and_from (is_in_range 1970 9999 c.year) _ (in_range_true 1970 9999 c.year h.year)
     (and_from (is_in_range 1 12 c.month) _ (in_range_true 1 12 c.month h.month)
     (and_from (is_in_range 1 (days_in_month c.year c.month) c.day) _ (in_range_true 1 (days_in_month c.year c.month) c.day h.day)
-    (and_from (nat_lt c.hour 24) _ (lt_true c.hour 24 h.hour)
-    (and_from (nat_lt c.minute 60) (nat_lt c.second 60) (lt_true c.minute 60 h.minute) (lt_true c.second 60 h.second)))))
+    (and_from (nat_lt c.hour 24) _ (lt-ltb c.hour 24 h.hour)
+    (and_from (nat_lt c.minute 60) (nat_lt c.second 60) (lt-ltb c.minute 60 h.minute) (lt-ltb c.second 60 h.second)))))
 
 -- the two digits of a number that has no more
 digits_back : (n : ℕ) → (48 + n / 10 - 48) * 10 + (48 + n % 10 - 48) ≡ n

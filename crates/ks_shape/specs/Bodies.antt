@@ -5,6 +5,7 @@ use Rattle.serde_json.specs.Data.{Data}
 use Rattle.serde_json.specs.Read.{read}
 use Rattle.ks_base.specs.declared.shapes.ShapeFault.{ShapeFault}
 use Rattle.ks_base.specs.declared.shapes.ShapeFault.TheVariants as fault
+use Rattle.ks_base.specs.Results.{found, ◌>>=◌}
 use Rattle.ks_shape.specs.declared.form.Form.{Form}
 use Rattle.ks_shape.specs.declared.form.Form.TheVariants as form
 use Rattle.ks_shape.specs.declared.form.BodyIn.{BodyIn}
@@ -15,7 +16,6 @@ use Rattle.ks_shape.specs.Types.{password_text}
 use Rattle.ks_shape.specs.Logins.{login_of}
 use Rattle.ks_shape.specs.Rows.{has_body, made_of}
 use Rattle.ks_shape.specs.Trusts.{trust_of}
-use Rattle.ks_shape.specs.Readings.{◌>>=◌, found}
 
 -- the original password, then the new one
 unfoldable pub password_of : Place → Result BodyIn ShapeFault

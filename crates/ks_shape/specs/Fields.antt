@@ -4,10 +4,10 @@ use Rattle.serde_json.specs.Data.{Data}
 use Rattle.serde_json.specs.Find.{as_null}
 use Rattle.ks_base.specs.declared.shapes.ShapeFault.{ShapeFault}
 use Rattle.ks_base.specs.declared.shapes.ShapeFault.TheVariants as fault
+use Rattle.ks_base.specs.Results.{found, ◌>>=◌}
 use Rattle.ks_shape.specs.declared.misfit.Misfit.{Misfit}
 use Rattle.ks_shape.specs.declared.misfit.Misfit.TheVariants as misfit
 use Rattle.ks_shape.specs.Places.{Place, value_at, path_at}
-use Rattle.ks_shape.specs.Readings.{◌>>=◌, found}
 
 -- a type of fields: what it makes of a value, or how the value does not fit
 abbrev pub FieldType : Type 0 → Type 0

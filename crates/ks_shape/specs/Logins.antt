@@ -5,6 +5,7 @@ use Rattle.serde_json.specs.Data.{Data}
 use Rattle.serde_json.specs.Find.{as_object, get}
 use Rattle.ks_base.specs.declared.shapes.ShapeFault.{ShapeFault}
 use Rattle.ks_base.specs.declared.shapes.ShapeFault.TheVariants as fault
+use Rattle.ks_base.specs.Results.{need, ◌>>=◌}
 use Rattle.ks_machine.specs.declared.bodies.LoginBody.{LoginBody}
 use Rattle.ks_machine.specs.declared.bodies.Proof.{Proof}
 use Rattle.ks_machine.specs.declared.bodies.Proof.TheVariants as proof
@@ -17,7 +18,6 @@ use Rattle.ks_shape.specs.Places.{Place, names, place_at}
 use Rattle.ks_shape.specs.Fields.{FieldType, judged, needed, unless_null}
 use Rattle.ks_shape.specs.Types.{affirmation, any_text, id_text, one_method, password_text}
 use Rattle.ks_shape.specs.Names.{named_at, project_at, user_at}
-use Rattle.ks_shape.specs.Readings.{◌>>=◌, need}
 
 unfoldable pub password_proof : Place → Result Proof ShapeFault
 password_proof body = do

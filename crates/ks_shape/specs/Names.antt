@@ -2,6 +2,7 @@
 use Rattle.std.specs.Prelude.{ℕ, List, [], ◌∷◌, Option, Some, None, Result, Ok, codes}
 use Rattle.serde_json.specs.Data.{Items, no_items, item}
 use Rattle.ks_base.specs.declared.shapes.ShapeFault.{ShapeFault}
+use Rattle.ks_base.specs.Results.{◌>>=◌}
 use Rattle.ks_machine.specs.declared.bodies.Named.{Named}
 use Rattle.ks_machine.specs.declared.bodies.Named.TheVariants as named
 use Rattle.ks_machine.specs.declared.bodies.UserNamed.{UserNamed}
@@ -11,7 +12,6 @@ use Rattle.ks_machine.specs.declared.bodies.ProjectNamed.TheVariants as project
 use Rattle.ks_shape.specs.Places.{Place, names, place_at}
 use Rattle.ks_shape.specs.Fields.{needed, optional}
 use Rattle.ks_shape.specs.Types.{id_text, name_text}
-use Rattle.ks_shape.specs.Readings.{◌>>=◌}
 
 abbrev pub own_id : Place → Result (Option (List ℕ)) ShapeFault
 own_id place = optional id_text (names (codes "id")) place

@@ -1,26 +1,12 @@
 -- What a reading gives, or the first fault that it meets.
 use Rattle.std.specs.Borrow.{Bor}
-use Rattle.std.specs.Prelude.{◌≡◌, ℕ, List, Bool, true, false, Option, Some, None, Result, Ok, Err}
+use Rattle.std.specs.Prelude.{◌≡◌, ℕ, List, Result, Ok, Err}
 use Rattle.ks_base.specs.declared.shapes.ShapeFault.{ShapeFault}
 use Rattle.ks_base.specs.declared.shapes.ShapeRefusal.{ShapeRefusal}
 use Rattle.ks_base.specs.declared.shapes.ShapeRefusal.TheVariants as refusal
 use Rattle.ks_shape.specs.declared.misfit.Misfit.{Misfit}
 use Rattle.ks_shape.specs.declared.misfit.Unread.{Unread}
 use Rattle.ks_shape.specs.declared.misfit.Unread.TheVariants as unread
-
--- go on with what was read, or stop at the fault
-infixl 10 ◌>>=◌
-abbrev pub ◌>>=◌ : {A B F : Type 0} → Result A F → (A → Result B F) → Result B F
-Ok a >>= f = f a
-Err fault >>= f = Err fault
-
-abbrev pub found : {A F : Type 0} → Option A → F → Result A F
-found (Some a) fault = Ok a
-found None fault = Err fault
-
-abbrev pub need : {F : Type 0} → Bool → F → Result (Unit {0}) F
-need true fault = Ok tt
-need false fault = Err fault
 
 -- an answer is what the definition gives, or there was no memory
 abbrev pub Reads : {A : Type 0} → Result A ShapeRefusal → Result A ShapeFault → Type 0

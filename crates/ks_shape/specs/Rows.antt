@@ -5,12 +5,12 @@ use Rattle.ks_base.specs.declared.kinds.Kind.{Kind}
 use Rattle.ks_base.specs.declared.kinds.Kind.TheVariants as kind
 use Rattle.ks_base.specs.declared.shapes.ShapeFault.{ShapeFault}
 use Rattle.ks_base.specs.declared.shapes.ShapeFault.TheVariants as fault
+use Rattle.ks_base.specs.Results.{◌>>=◌}
 use Rattle.ks_machine.specs.declared.bodies.Made.{Made}
 use Rattle.ks_machine.specs.declared.bodies.Made.TheVariants as made
 use Rattle.ks_shape.specs.Places.{Place, names}
 use Rattle.ks_shape.specs.Fields.{needed, optional}
 use Rattle.ks_shape.specs.Types.{description_text, falsehood, id_text, name_text, password_text, truth}
-use Rattle.ks_shape.specs.Readings.{◌>>=◌}
 
 abbrev pub name_at : Bool → List (List ℕ) → Place → Result (Option (List ℕ)) ShapeFault
 name_at true names body = do

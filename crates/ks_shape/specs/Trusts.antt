@@ -2,6 +2,7 @@
 use Rattle.std.specs.Prelude.{ℕ, ◌-◌, ◌^◌, false, List, Result, Ok, codes, unwrap_or}
 use Rattle.ks_base.specs.declared.limits.TheConstants.{TRUST_ROLES, USES}
 use Rattle.ks_base.specs.declared.shapes.ShapeFault.{ShapeFault}
+use Rattle.ks_base.specs.Results.{◌>>=◌}
 use Rattle.ks_machine.specs.declared.bodies.Named.{Named}
 use Rattle.ks_machine.specs.declared.bodies.TrustBody.{TrustBody}
 use Rattle.ks_shape.specs.declared.trust.Limits.{Limits}
@@ -9,7 +10,6 @@ use Rattle.ks_shape.specs.Places.{Place, names, path_at}
 use Rattle.ks_shape.specs.Fields.{needed, optional}
 use Rattle.ks_shape.specs.Types.{id_text, list_of, time_text, truth, whole}
 use Rattle.ks_shape.specs.Names.{all_named}
-use Rattle.ks_shape.specs.Readings.{◌>>=◌}
 
 -- a role has the path of the list
 unfoldable pub roles_at : List (List ℕ) → Place → Result (List Named) ShapeFault

@@ -1,19 +1,18 @@
 -- The types of fields.
-use Rattle.std.specs.Prelude.{ℕ, suc, Bool, not, ◌&&◌, nat_lt, nat_le, if◌then◌else◌, List, length, Option, Some, None, option_and_then, Result, Ok, codes}
+use Rattle.std.specs.Prelude.{ℕ, suc, Bool, not, nat_le, if◌then◌else◌, List, length, Option, Some, None, option_and_then, Result, Ok, codes}
 use Rattle.std.specs.Int.{is_in_range}
-use Rattle.std.specs.List.{list_all}
 use Rattle.std.specs.Str.{bytes_eq}
 use Rattle.serde_json.specs.Data.{Items, no_items, item}
 use Rattle.serde_json.specs.Find.{as_array, as_bool, as_number, as_str, as_u64}
 use Rattle.ks_base.specs.declared.limits.TheConstants.{DESCRIPTION_BYTES, NAME_BYTES, PASSWORD_BYTES}
-use Rattle.ks_base.specs.Ids.{is_id_byte}
+use Rattle.ks_base.specs.Ids.{is_id}
+use Rattle.ks_base.specs.Results.{found, need, ◌>>=◌}
 use Rattle.ks_shape.specs.declared.method.LoginMethod.{LoginMethod}
 use Rattle.ks_shape.specs.declared.method.LoginMethod.TheVariants as method
 use Rattle.ks_shape.specs.declared.misfit.Misfit.{Misfit}
 use Rattle.ks_shape.specs.declared.misfit.Misfit.TheVariants as misfit
 use Rattle.ks_shape.specs.Fields.{FieldType}
 use Rattle.ks_shape.specs.Times.{time_of}
-use Rattle.ks_shape.specs.Readings.{◌>>=◌, found, need}
 
 abbrev pub any_text : FieldType (List ℕ)
 any_text value = found (as_str value) misfit.Kind
@@ -33,10 +32,6 @@ description_text = text_of 0 DESCRIPTION_BYTES
 
 abbrev pub password_text : FieldType (List ℕ)
 password_text = text_of 1 PASSWORD_BYTES
-
--- 1 to 64 bytes of 0-9, A-Z, a-z, _ and -
-abbrev pub is_id : List ℕ → Bool
-is_id text = nat_lt 0 (length text) && (nat_le (length text) 64 && list_all is_id_byte text)
 
 unfoldable pub id_in : List ℕ → Result (List ℕ) Misfit
 id_in text = do

@@ -3,7 +3,8 @@ ghost use Rattle.serde_json.specs.View.{view};
 ghost use Rattle.ks_base.specs.declared.shapes.ShapeFault.TheVariants as fault;
 ghost use Rattle.ks_shape.specs.Bodies.{body_of, document, form_of, is_form, password_of, whole_document};
 ghost use Rattle.ks_shape.specs.Places.{place_of};
-ghost use Rattle.ks_shape.specs.Readings.{Reads, ReadsBy, found};
+ghost use Rattle.ks_base.specs.Results.{found};
+ghost use Rattle.ks_shape.specs.Readings.{Reads, ReadsBy};
 
 use crate::form::{BodyIn, Form};
 use crate::login::login;

@@ -4,7 +4,8 @@ ghost use Rattle.serde_json.specs.View.{view};
 ghost use Rattle.ks_shape.specs.declared.misfit.Misfit.TheVariants as misfit;
 ghost use Rattle.ks_shape.specs.Times.{time_of};
 ghost use Rattle.ks_shape.specs.Types.{affirmation, any_text, falsehood, id_in, id_text, text_of, time_text, truth, whole};
-ghost use Rattle.ks_shape.specs.Readings.{found, need, same_text};
+ghost use Rattle.ks_base.specs.Results.{found, need};
+ghost use Rattle.ks_shape.specs.Readings.{same_text};
 
 use crate::fields::FieldType;
 use crate::misfit::{Misfit, Unread};

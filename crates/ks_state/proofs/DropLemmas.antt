@@ -1,5 +1,5 @@
 -- What goes with a domain, by the ids of its projects, users and groups.
-use Rattle.std.proofs.Common.{◌≡◌, Bool, not, ◌||◌, ◌&&◌, List, [], ◌∷◌, ◌++◌, map, filter, IfOk, Result, Ok, Err, refl, ap, ◌∙◌}
+use Rattle.std.proofs.Common.{◌≡◌, Bool, not, ◌||◌, ◌&&◌, List, ◌∷◌, ◌++◌, map, filter, IfOk, Result, Ok, Err, ap, ◌∙◌}
 use std.Path.{fun_ext}
 use Rattle.ks_base.specs.declared.events.Revoke.{Revoke}
 use Rattle.ks_base.specs.declared.events.Revoke.TheVariants as revoke
@@ -7,20 +7,17 @@ use Rattle.ks_base.specs.declared.grants.GrantRow.{GrantRow}
 use Rattle.ks_base.specs.declared.trusts.TrustRow.{TrustRow}
 use Rattle.ks_base.specs.declared.users.MemberRow.{MemberRow}
 use Rattle.ks_base.specs.People.{PeopleState, group_ids, is_group_in, is_user_in, users_of}
-use Rattle.ks_base.specs.Rows.{Id}
+use Rattle.ks_base.specs.Rows.{Id, has_id}
 use Rattle.ks_base.specs.Trees.{TreeState, lies_in}
-use Rattle.ks_base.specs.Trusts.{has_id, trusts_gone, trusts_left}
+use Rattle.ks_base.specs.Trusts.{trusts_gone, trusts_left}
 use Rattle.ks_base.specs.declared.memory.Memory.{Memory}
+use Rattle.ks_base.proofs.ListLemmas.{map_twice}
 use Rattle.ks_trust.specs.State.{without_trusts}
 use Rattle.ks_state.specs.declared.trusts_gone.TrustsGone.{TrustsGone}
 use Rattle.ks_machine.specs.Changes.{is_actor_gone, is_id_of, is_left, is_target_gone}
 use Rattle.ks_state.specs.declared.domain_rows.DomainRows.{DomainRows}
 use Rattle.ks_state.specs.DomainRows.{AreOf, has_group, has_project, has_user, is_touched}
 use Rattle.ks_state.proofs.IdLemmas.{names_those}
-
-map_twice : {A B C : Type 0} (f : B → C) (g : A → B) (xs : List A) → map f (map g xs) ≡ map (λ x. f (g x)) xs
-map_twice f g [] = refl
-map_twice f g (x ∷ xs) = ap (λ (rest : List _). f (g x) ∷ rest) (map_twice f g xs)
 
 -- the ids of the rows of a domain say which rows are of it
 had : {X : Type 0} (key : X → Id) (test : X → Bool) (rows : List X) (ids : List Id) → ids ≡ map key (filter test rows) →

@@ -1,6 +1,6 @@
 -- An identity that opens stands for the first front of its opening.
 use Rattle.std.proofs.Common.{◌≡◌, [], None, refl, sym, ap, subst, ◌∙◌, arith}
-use Rattle.ks_machine.specs.Fronts.{replay, replayed}
+use Rattle.ks_machine.specs.Fronts.{replay, replayed, first_front}
 use Rattle.ks_machine.specs.Lawful.{AreLawful, IsOpeningInRange}
 use Rattle.ks_machine.specs.Opened.{open_fault, opened_state}
 use Rattle.ks_machine.specs.Openings.{PlainOpening}
@@ -8,7 +8,7 @@ use Rattle.ks_machine.specs.Ranges.{IsSettings}
 use Rattle.ks_machine.specs.States.{State}
 use Rattle.ks_opening.specs.declared.opened.Opened.{Opened}
 use Rattle.ks_opening.specs.Opened.{state_of}
-use Rattle.ks_state.specs.Standing.{Stands, first_front, with_live}
+use Rattle.ks_state.specs.Standing.{Stands, with_live}
 
 first_state : (opening : PlainOpening) → opened_state opening ≡ with_live (replay (first_front opening))
 unfolding replay replayed opened_state

@@ -2,6 +2,7 @@
 use Rattle.std.proofs.Common.{◌≡◌, ℕ, suc, ◌+◌, ◌-◌, ◌≤◌, ◌==◌, ◌||◌, nat_le, true, false, List, [], ◌∷◌, ◌++◌, length, take, drop, Some, None, refl, sym, ap, ◌∙◌, arith, append_assoc, append-nil}
 use Rattle.std.proofs.lemmas.Bool.{ne_eqb}
 use Rattle.std.proofs.lemmas.List.{take-append-drop}
+use Rattle.ks_laws.proofs.LawLemmas.{lawful_longer}
 use Rattle.ks_base.specs.declared.events.EventRow.{EventRow}
 use Rattle.ks_base.specs.declared.events.Revoke.{Revoke}
 use Rattle.ks_base.specs.declared.kinds.Kind.TheVariants as kind
@@ -61,17 +62,11 @@ newest_after newest changes entry are =
 
 -- lawful fronts
 
-lawful_higher : (S : State) (last : ℕ) (entries : List Entry) (low high : ℕ) → low ≤ high → AreLawful S last entries low → AreLawful S last entries high
-unfolding AreLawful
-lawful_higher S last [] low high le h = omega (arith, le, h)
-lawful_higher S last (entry ∷ entries) low high le h =
-    (h.0, h.1, h.2, h.3, lawful_higher (apply S entry.moment entry.change) entry.moment entries low high le h.4)
-
 pub lawful_raised : (f : Front) (moment : ℕ) → f.high ≤ moment → moment ≤ last_moment → IsLawful f → IsLawful (record f { high = moment })
 lawful_raised f moment le last lawful = record {
   range = lawful.range;
   accepted = lawful.accepted;
-  changes = lawful_higher (opened_state f.opening) 0 f.changes f.high moment le lawful.changes;
+  changes = lawful_longer (opened_state f.opening) 0 f.changes f.high moment lawful.changes le;
   high = last;
   count = lawful.count;
 }

@@ -8,15 +8,15 @@ use Rattle.ks_base.specs.Rows.{Id}
 use Rattle.ks_base.specs.Tables.{id_cmp, IsAscending}
 use Rattle.ks_base.specs.Trusts.{trusts_gone, trusts_left}
 use Rattle.ks_trust.proofs.IdLists.{gone_by_ids, left_by_ids, names_those}
-use Rattle.ks_trust.specs.State.{ids_of, is_named, without_trusts, IsClosed}
+use Rattle.ks_trust.specs.State.{ids_of, is_listed, without_trusts, IsClosed}
 use Rattle.ks_state.specs.declared.trusts_gone.TrustsGone.{TrustsGone}
 
 pub left_is : (trusts : List TrustRow) (test : TrustRow → Bool) (touched : List Id) (r : Result (List Id) Memory) → IsAscending id_cmp (λ trust. trust.id) trusts →
-    touched ≡ ids_of (filter test trusts) → IfOk r (λ all. all ≡ ids_of (trusts_gone trusts (is_named touched))) →
+    touched ≡ ids_of (filter test trusts) → IfOk r (λ all. all ≡ ids_of (trusts_gone trusts (is_listed touched))) →
     IfOk r (λ ids. without_trusts ids trusts ≡ trusts_left trusts test)
 left_is trusts test touched (Ok all) up is h =
     ap (λ ids. without_trusts ids trusts)
-    (h ∙ ap ids_of (gone_by_ids trusts test touched (λ t among. ap (λ ids. is_named ids t) is ∙ names_those trusts test t up among)))
+    (h ∙ ap ids_of (gone_by_ids trusts test touched (λ t among. ap (λ ids. is_listed ids t) is ∙ names_those trusts test t up among)))
     ∙ left_by_ids trusts test up
 left_is trusts test touched (Err e) up is h = tt
 

@@ -4,7 +4,6 @@ use Rattle.ks_base.specs.Revocation.{live}
 use Rattle.ks_machine.specs.declared.change.Entry.{Entry}
 use Rattle.ks_machine.specs.Fronts.{Front, replay}
 use Rattle.ks_machine.specs.Lawful.{IsLawful}
-use Rattle.ks_machine.specs.Openings.{PlainOpening}
 use Rattle.ks_machine.specs.States.{State}
 use Rattle.ks_state.specs.Shown.{Shown}
 
@@ -35,7 +34,3 @@ pub record StandsWithAllKept (shown : Shown) (f : Front) : Type 0 where
 -- how many changes were made
 abbrev pub changes_made : Shown → ℕ
 changes_made shown = shown.state.made
-
--- the front of an opening, before any change
-abbrev pub first_front : PlainOpening → Front
-first_front opening = record { opening = opening; changes = []; high = 0; kept = 0 }

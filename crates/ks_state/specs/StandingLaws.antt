@@ -2,22 +2,16 @@
 -- from one by a change at most there is one alone.
 use Rattle.std.proofs.Common.{◌≡◌, ◌+◌, ◌≤◌, List, [], ◌∷◌, ◌++◌, length, refl, sym, ap, ◌∙◌, arith, length-append}
 use Rattle.ks_machine.specs.declared.change.Entry.{Entry}
-use Rattle.ks_machine.specs.Changes.{apply}
-use Rattle.ks_machine.specs.Fronts.{Front, ◌⊑◌, replay, replayed}
+use Rattle.ks_machine.specs.Fronts.{Front, ◌⊑◌, replay}
 use Rattle.ks_machine.specs.Opened.{opened_state}
 use Rattle.ks_machine.specs.States.{State}
+use Rattle.ks_machine.proofs.FrontLemmas.{made_after}
 use Rattle.ks_state.specs.Shown.{Shown}
 use Rattle.ks_state.specs.Standing.{AreNewest, Stands, StandsWithAllKept, changes_made}
 
 pub high_is : (shown : Shown) (f : Front) → Stands shown f → shown.state.high ≡ f.high
 unfolding replay
 high_is shown f stands = ap (λ (S : State). S.high) stands.state
-
--- each change is counted
-made_after : (S : State) (entries : List Entry) → (replayed S entries).made ≡ S.made + length entries
-unfolding replayed apply
-made_after S [] = omega arith
-made_after S (entry ∷ entries) = omega (arith, made_after (apply S entry.moment entry.change) entries)
 
 made_is : (f : Front) → (replay f).made ≡ length f.changes
 unfolding replay opened_state

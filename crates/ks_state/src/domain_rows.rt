@@ -3,7 +3,7 @@ ghost use Rattle.std.specs.Prelude.{◌≡◌, ◌∷◌, ◌++◌, ◌||◌, �
 ghost use Rattle.ks_base.specs.declared.events.Revoke.{Revoke};
 ghost use Rattle.ks_base.specs.People.{group_ids, is_group_in, is_user_in, users_of};
 ghost use Rattle.ks_base.specs.Trees.{projects_of};
-ghost use Rattle.ks_base.specs.Trusts.{has_id};
+ghost use Rattle.ks_base.specs.Rows.{has_id};
 ghost use Rattle.ks_state.specs.DomainRows.{AreOf};
 ghost use Rattle.ks_machine.specs.Changes.{is_actor_gone, is_left, is_target_gone};
 
@@ -80,7 +80,7 @@ impl DomainRows {
     }
 }
 
-#[tactic(auto, using(crate::proofs::IdLemmas::some_ids_ascend))]
+#[tactic(auto, using(ks_base::proofs::TableLemmas::some_ids_ascend))]
 fn projects_of(tree: &Tree, domain: &Id) -> Result<IdSet, Memory>
     ensures { IfOk result (λ ids. ids ≡ projects_of domain.now tree.now) }
 {
@@ -88,7 +88,7 @@ fn projects_of(tree: &Tree, domain: &Id) -> Result<IdSet, Memory>
     Ok(IdSet::of(tree.projects_of(domain)?))
 }
 
-#[tactic(auto, using(crate::proofs::IdLemmas::some_ids_ascend))]
+#[tactic(auto, using(ks_base::proofs::TableLemmas::some_ids_ascend))]
 fn users_of(people: &People, domain: &Id) -> Result<IdSet, Memory>
     ensures { IfOk result (λ ids. ids ≡ users_of domain.now people.now) }
 {
@@ -96,7 +96,7 @@ fn users_of(people: &People, domain: &Id) -> Result<IdSet, Memory>
     Ok(IdSet::of(people.users_of(domain)?))
 }
 
-#[tactic(auto, using(crate::proofs::IdLemmas::some_ids_ascend))]
+#[tactic(auto, using(ks_base::proofs::TableLemmas::some_ids_ascend))]
 fn groups_of(people: &People, domain: &Id) -> Result<IdSet, Memory>
     ensures { IfOk result (λ ids. ids ≡ group_ids domain.now people.now) }
 {

@@ -1,10 +1,8 @@
-ghost use Rattle.std.specs.Prelude.{◌≡◌, length};
-ghost use Rattle.std.specs.List.Sorted.{IsSearchInRange};
-ghost use Rattle.ks_base.specs.Places.{IsPlace};
+ghost use Rattle.std.specs.Prelude.{◌≡◌};
 ghost use Rattle.ks_base.specs.Tables.{id_cmp, IsAscending};
-ghost use Rattle.ks_base.specs.Trusts.{has_id};
+ghost use Rattle.ks_base.specs.Rows.{has_id};
 
-use ks_base::{Id, IdList};
+use ks_base::{Id, IdList, has_id};
 use std::marker::Model;
 
 /// Ids, each once, in their order.
@@ -24,15 +22,6 @@ impl Model for IdSet {
     ghost invariant = { λ set. IsAscending id_cmp (λ id. id) set.ids };
 }
 
-/// The place of the id, or the one where it belongs.
-fn place(ids: &[Id], id: &Id) -> Result<usize, usize>
-    requires { IsAscending id_cmp (λ other. other) ids.now }
-    ensures bound { IsSearchInRange result (length ids.now) }
-    ensures place { IsPlace id_cmp (λ other. other) id.now ids.now result }
-{
-    ids.binary_search_by(|other| other.cmp(id))
-}
-
 impl IdSet {
     /// The ids of a list that is in order.
     pub(crate) fn of(ids: IdList) -> IdSet
@@ -46,10 +35,7 @@ impl IdSet {
     pub(crate) fn has(&self, id: &Id) -> bool
         ensures { result ≡ has_id self.now id.now }
     {
-        match place(self.ids.as_slice(), id) {
-            Ok(_) => true,
-            Err(_) => false,
-        }
+        has_id(self.ids.as_slice(), id)
     }
 
     /// The ids, in their order.

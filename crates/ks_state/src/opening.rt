@@ -5,7 +5,8 @@ ghost use Rattle.ks_machine.specs.Opened.{open_fault};
 ghost use Rattle.ks_machine.specs.Ranges.{IsSettings};
 ghost use Rattle.ks_opening.specs.Opened.{TellsFault, state_of};
 ghost use Rattle.ks_policy.specs.Openings.{plain};
-ghost use Rattle.ks_state.specs.Standing.{Stands, first_front};
+ghost use Rattle.ks_machine.specs.Fronts.{first_front};
+ghost use Rattle.ks_state.specs.Standing.{Stands};
 
 use crate::Identity;
 use crate::log::Log;

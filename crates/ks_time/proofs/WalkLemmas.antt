@@ -14,7 +14,7 @@ pub record IsYear (total : ℕ) (found : Walk) : Type 0 where
   pub sum : days_of_years found.whole + found.days ≡ total
 
 -- 1 January 10000
-last_year : days_of_years 8_030 ≡ 2_932_897
+pub last_year : days_of_years 8_030 ≡ 2_932_897
 last_year = omega (arith, years_same 8_030, day_count-end)
 
 no_years : days_of_years 0 ≡ 0
@@ -40,7 +40,7 @@ pub record IsMonth (year total : ℕ) (found : Walk) : Type 0 where
   pub day : found.days < days_in_month year (suc found.whole)
   pub sum : days_of_months year found.whole + found.days ≡ total
 
-year_months : (year : ℕ) → days_of_months year 12 ≡ days_in_year year
+pub year_months : (year : ℕ) → days_of_months year 12 ≡ days_in_year year
 unfolding days_of_months
 year_months year = grind arith
 

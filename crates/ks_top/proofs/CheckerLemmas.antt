@@ -1,8 +1,7 @@
 -- How the checker's calls move a check that stands.
-use Rattle.std.proofs.Common.{◌≡◌, ℕ, ◌+◌, ◌<◌, List, [], ◌∷◌, ◌++◌, length, Bool, true, false, not, ◌-◌, ◌≢◌, take, drop, ◌==◌, Option, Some, Result, Ok, Err, OnOk, refl, sym, ap, ◌∙◌, arith, length-append, append_assoc, append-nil}
+use Rattle.std.proofs.Common.{◌≡◌, ℕ, ◌+◌, ◌<◌, List, [], ◌∷◌, ◌++◌, length, Bool, true, false, ◌-◌, ◌≢◌, take, drop, ◌==◌, Option, Some, Result, Ok, Err, OnOk, refl, sym, ap, ◌∙◌, arith, length-append, append_assoc, append-nil}
 use Rattle.std.proofs.lemmas.Bool.Decides.{nat_tests}
 use Rattle.std.proofs.lemmas.List.{take-append-drop}
-use Rattle.std.proofs.lemmas.List.Folds.{list_all-append}
 use Rattle.ks_top.specs.declared.fault.Fault.{Fault}
 use Rattle.ks_top.specs.declared.fault.Fault.TheVariants as fault
 use Rattle.ks_top.specs.declared.checker.Place.{Place}
@@ -131,9 +130,6 @@ stands_written (Err failed) whole rest old new written written' before h wrote =
   front = λ more. let X = check_from old.place (old.line.items ++ (rest ++ more)) in
       (wrote.1.0 ++ X.output, front_more h.so_far wrote.0 wrote.1.0 old.answers.items X.output wrote.1.1 ∙ sym (ap (λ (c : Checked). c.output) (h.same more)));
 }
-
-pub line_in_line : (line last : List ℕ) → IsInLine line → IsInLine last → IsInLine (line ++ last)
-line_in_line line last a b = list_all-append (λ x. not (x == 10)) line last ∙ rw (a, b) refl
 
 ends_early : (place : Place) → place.lines ≡ 0 → check_from place [] ≡ bad_line 1
 unfolding lines_of steps_of
@@ -477,6 +473,3 @@ untouched text before left written left_is written_is = record {
   written_is = written_is ∙ ap Some (sym (append-nil before));
   front = ((check_of []).output, refl);
 }
-
-pub not_true : (b : Bool) → b ≡ false → b ≡ true → ⊥
-not_true b off on = cc

@@ -2,7 +2,7 @@
 use Rattle.std.proofs.Common.{◌≡◌, ℕ, ◌+◌, ◌-◌, inl, inr, List, [], ◌∷◌, ◌++◌, length, map, take, Option, Some, refl, sym, ap, subst, ◌∙◌, append-nil}
 use Rattle.std.specs.List.{AllByRecursion, flat_map}
 use Rattle.std.specs.declared.convert.Infallible.{Infallible}
-use Rattle.ks_machine.specs.Fronts.{Front, IsSound, ◌⊑◌}
+use Rattle.ks_machine.specs.Fronts.{Front, IsSound, ◌⊑◌, first_front}
 use Rattle.ks_machine.specs.Openings.{PlainOpening}
 use Rattle.ks_machine.proofs.FrontLemmas.{reflexive, transitive}
 use Rattle.ks_outside.specs.Desks.{DeskState}
@@ -19,7 +19,6 @@ use Rattle.ks_setup.specs.declared.words.Words.{Words}
 use Rattle.ks_setup.specs.declared.words.Words.TheVariants as asked
 use Rattle.ks_setup.specs.Words.{words_of}
 use Rattle.ks_state.specs.Shown.{Shown}
-use Rattle.ks_state.specs.Standing.{first_front}
 use Rattle.ks_top.specs.declared.fault.Fault.{Fault}
 use Rattle.ks_top.proofs.ServeLemmas.{below_none, first_sound}
 use Rattle.ks_top.specs.Identities.{HadNoRoom}

@@ -45,9 +45,6 @@ next_index : (indices : List ℕ) (k : ℕ) → k < length indices →
 unfolding indices_text
 next_index indices k within = ap indices_text (drop-cons indices k 0 within) ∙ rw add-one refl
 
-pub line_begun : (indices : List ℕ) → codes "keys" ++ (indices_text (drop 0 indices) ++ codes "\n") ≡ keys_line indices
-line_begun indices = refl
-
 pub line_more : (line blank indices : List ℕ) (k : ℕ) → k < length indices → blank ≡ 32 ∷ [] → line ++ (indices_text (drop k indices) ++ codes "\n") ≡ keys_line indices →
     ((line ++ blank) ++ decimal (get_or indices k 0)) ++ (indices_text (drop (k + 1) indices) ++ codes "\n") ≡ keys_line indices
 line_more line blank indices k within is so_far =
@@ -128,16 +125,6 @@ rotation_said max random files before now indices (Err (fault.Keys reason)) draw
 rotation_said max random files before now indices (Err (fault.Opening reason)) drawn made says = absurd says
 rotation_said max random files before now indices (Err (fault.State reason)) drawn made says = absurd says
 rotation_said max random files before now indices (Err fault.Desk) drawn made says = absurd says
-
-pub rotation_refused : (max : ℕ) (random : List ℕ) (files : List KeyFile) (before : List ℕ) (now : Outside) (fault : KeysFault) → HasDrawn 32 random now.random
-    → Rotates (staged_from random) max files now.files (Err fault) → now.written ≡ Some before → EndsRotation max random files before now (Err (named fault))
-rotation_refused max random files before now Failed drawn left kept = (drawn, left, kept)
-rotation_refused max random files before now Memory drawn left kept = (inr drawn, left, kept)
-rotation_refused max random files before now NoKeys drawn left kept = (drawn, left.0, left.1, kept)
-rotation_refused max random files before now IndexEnd drawn left kept = (drawn, left.0, left.1, kept)
-rotation_refused max random files before now (BadKey index) drawn left kept = absurd left
-rotation_refused max random files before now TooMany drawn left kept = absurd left
-rotation_refused max random files before now AlreadySet drawn left kept = absurd left
 
 -- a line that was not written is no fault of the folder or of the desk
 pub says_no_folder : (r : Result (Unit {0}) Fault) → IfErr r IsSayingFault → r ≡ Err fault.Folder → ⊥

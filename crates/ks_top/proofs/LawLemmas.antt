@@ -1,9 +1,10 @@
 -- What holds of every run.
 use Rattle.std.proofs.Common.{◌≡◌, ℕ, zero, suc, ◌-◌, ◌⊎◌, inl, inr, Bool, true, false, ◌||◌, List, [], ◌∷◌, take, map, Option, Some, None, refl, sym, ap, subst, ◌∙◌}
+use Rattle.std.proofs.lemmas.Bool.{or_cases}
 use Rattle.std.specs.List.{AllZip}
 use Rattle.std.specs.declared.convert.Infallible.{Infallible}
 use Rattle.ks_base.specs.declared.faults.KeysFault.TheVariants as keys
-use Rattle.ks_machine.specs.Fronts.{Front}
+use Rattle.ks_machine.specs.Fronts.{Front, first_front}
 use Rattle.ks_outside.specs.Counts.{Rose}
 use Rattle.ks_outside.specs.Desks.{DeskState}
 use Rattle.ks_outside.specs.Files.{DirState}
@@ -16,7 +17,6 @@ use Rattle.ks_setup.specs.declared.words.Words.{Words}
 use Rattle.ks_setup.specs.declared.words.Words.TheVariants as asked
 use Rattle.ks_setup.specs.Words.{words_of}
 use Rattle.ks_state.specs.Shown.{Shown}
-use Rattle.ks_state.specs.Standing.{first_front}
 use Rattle.ks_top.specs.declared.fault.Fault.{Fault}
 use Rattle.ks_top.specs.declared.fault.Fault.TheVariants as fault
 use Rattle.ks_top.specs.Identities.{Opened, Stopped}
@@ -221,10 +221,6 @@ talk_counted : {Link Seat : Type 0} (view : Seat → Place Link) (old new : Worl
 talk_counted view old new None talks = stopped_counted old new talks
 talk_counted view old new (Some state) talks = absurd (talked_counted old new state talks)
 
-either_true : (a b : Bool) → (a || b) ≡ true → (a ≡ true) ⊎ (b ≡ true)
-either_true true b is = inl refl
-either_true false b is = inr is
-
 some_rose : {Link : Type 0} (stream : Link → StreamState) (connections : ℕ) (seen journal : Front) (olds news : List (Place Link)) (shifts : List (Shift Infallible Link))
     → AreServed stream connections seen journal olds news shifts → some_failed shifts ≡ true → SomeAcceptRose olds news
 some_rose stream connections seen journal [] [] [] served failed = cc failed
@@ -233,7 +229,7 @@ some_rose stream connections seen journal [] (new ∷ news) shifts served failed
 some_rose stream connections seen journal (old ∷ olds) [] shifts served failed = absurd served
 some_rose stream connections seen journal (old ∷ olds) (new ∷ news) [] served failed = absurd served
 some_rose stream connections seen journal (old ∷ olds) (new ∷ news) (shift ∷ shifts) served failed =
-    elim (either_true shift.failed (some_failed shifts) failed) as (λ _. Rose old.desk.accept_faults new.desk.accept_faults ⊎ SomeAcceptRose olds news) [
+    elim (or_cases shift.failed (some_failed shifts) failed) as (λ _. Rose old.desk.accept_faults new.desk.accept_faults ⊎ SomeAcceptRose olds news) [
       | inl here ↦ inl (served.0.accepts.rose here)
       | inr there ↦ inr (some_rose stream connections seen journal olds news shifts served.1 there)
     ]

@@ -1,8 +1,9 @@
 -- How an opening is read: the text of the file, the keys of the folder, and what is refused.
-use Rattle.std.proofs.Common.{◌≡◌, ℕ, ◌<◌, ◌+◌, Bool, true, false, List, [], ◌++◌, length, take, drop, Option, Some, None, Ok, Err, refl, sym, ap, ◌∙◌, arith, inl, inr, ⊎_elim, append_assoc, append-nil, length-append}
+use Rattle.std.proofs.Common.{◌≡◌, ℕ, ◌<◌, ◌+◌, Bool, true, false, List, [], ◌++◌, length, take, drop, Option, Some, None, Ok, Err, refl, sym, ap, ◌∙◌, arith, inl, inr, ⊎_elim, append_assoc, length-append}
 use Rattle.std.proofs.lemmas.List.{take-append-drop}
 use Rattle.std.specs.Prelude.{Result, nat_le}
 use Rattle.std.proofs.lemmas.Bool.Decides.{nat_tests}
+use Rattle.std.proofs.lemmas.Option.{same_Some}
 use Rattle.ks_base.specs.declared.faults.KeysFault.{KeysFault}
 use Rattle.ks_base.specs.declared.faults.KeysFault.TheVariants as keys
 use Rattle.ks_base.specs.declared.key.Key.{Key}
@@ -22,7 +23,7 @@ use Rattle.ks_setup.specs.Written.{document_of, file_of, folder_wanted}
 use Rattle.ks_top.specs.declared.fault.Fault.{Fault}
 use Rattle.ks_top.specs.declared.fault.Fault.TheVariants as fault
 use Rattle.ks_top.specs.Opened.{AreHeld, IsOpening, IsText, RefusesFolder, RefusesForm, StopsOpening}
-use Rattle.ks_top.specs.steps.Openings.{HasRead, IsRead, IsReadFault, IsWhole, RefusesKeys, StopsHeld, of_opening}
+use Rattle.ks_top.specs.steps.Openings.{HasRead, IsRead, IsWhole, RefusesKeys, StopsHeld, of_opening}
 
 -- a desk from which nothing was drawn
 pub drew_none : {Link : Type 0} (desk : DeskState Link) → Drew desk desk []
@@ -36,12 +37,6 @@ read_none told left is = (told, refl, is)
 pub read_more : (told text piece rest : List ℕ) (n : ℕ) (left : Option (List ℕ)) → told ≡ text ++ rest → Takes rest left piece n → HasRead told (text ++ take n piece) left
 read_more told text piece rest n left is takes =
     (drop n rest, is ∙ ap (λ xs. text ++ xs) (sym (take-append-drop n rest)) ∙ sym (append_assoc text (take n rest) (drop n rest)) ∙ ap (λ xs. (text ++ xs) ++ drop n rest) (sym takes.given), takes.rest)
-
-pub read_whole : (told text piece rest : List ℕ) (left : Option (List ℕ)) → told ≡ text ++ rest → Takes rest left piece 0 → IsWhole told text
-read_whole told text piece rest left is takes = inl (is ∙ ap (λ xs. text ++ xs) (takes.ended refl) ∙ append-nil text)
-
-pub read_long : (told text : List ℕ) (left : Option (List ℕ)) → HasRead told text left → OPENING_BYTES < length text → IsWhole told text
-read_long told text left read long = inr (long, (read.0, read.1))
 
 -- a file that is longer than an opening file may be is refused as such
 
@@ -74,18 +69,15 @@ formed_text file text written read formed told left =
 same_reason : (a b : ShapeFault) (text other : List ℕ) → file_of text ≡ Err a → file_of text ≡ Err b → file_of other ≡ Err b → file_of other ≡ Err a
 same_reason a b text other one two three = three ∙ (sym two ∙ one)
 
-some_same : (a b : List ℕ) → Some a ≡ Some b → a ≡ b
-some_same a b h = cc h
-
 refused_whole : (file : StreamState) (text told : List ℕ) (reason : ShapeFault) → file.left ≡ Some told → IsWhole told text → file_of text ≡ Err reason → RefusesForm file reason
 refused_whole file text told reason left (inl same) refused = record {
   text = text;
-  is_text = λ other is. some_same other told (sym is ∙ left) ∙ same;
+  is_text = λ other is. same_Some other told (sym is ∙ left) ∙ same;
   refused = refused;
 }
 refused_whole file text told reason left (inr (long, (rest, is))) refused = record {
   text = told;
-  is_text = λ other is. some_same other told (sym is ∙ left);
+  is_text = λ other is. same_Some other told (sym is ∙ left);
   refused = same_reason reason (shape.Range []) text told refused (file_long text long) (file_long told (longer told text rest is long));
 }
 
@@ -152,18 +144,6 @@ held_stops file dir desk text fault.Write read stops = absurd stops
 held_stops file dir desk text (fault.BadLine n) read stops = absurd stops
 held_stops file dir desk text (fault.State reason) read stops = absurd stops
 held_stops file dir desk text fault.Desk read stops = absurd stops
-
-pub reading_stops : {Link : Type 0} (file : StreamState) (dir : DirState) (desk : DeskState Link) (f : Fault) → IsReadFault f → StopsOpening file dir desk desk f
-reading_stops file dir desk fault.Read is = refl
-reading_stops file dir desk fault.Memory is = ([], drew_none desk)
-reading_stops file dir desk fault.Usage is = absurd is
-reading_stops file dir desk fault.Write is = absurd is
-reading_stops file dir desk (fault.BadLine n) is = absurd is
-reading_stops file dir desk (fault.Opening reason) is = absurd is
-reading_stops file dir desk (fault.State reason) is = absurd is
-reading_stops file dir desk fault.Folder is = absurd is
-reading_stops file dir desk (fault.Keys reason) is = absurd is
-reading_stops file dir desk fault.Desk is = absurd is
 
 -- the file, read before, is refused
 pub opening_stops : {Link : Type 0} (file : StreamState) (dir : DirState) (old new : DeskState Link) (text : List ℕ) (held : List (ℕ × Key)) (f : OpeningFault) → IsRead file text

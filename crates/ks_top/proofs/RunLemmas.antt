@@ -1,5 +1,6 @@
 -- What each command does, as what the program does by its words.
 use Rattle.std.proofs.Common.{◌≡◌, ℕ, inl, List, Option, Some, Result, Ok, Err, IfErr, IfSome, refl, sym, subst}
+use Rattle.ks_base.specs.Refusals.{fault_in}
 use Rattle.ks_outside.specs.Counts.{Counts}
 use Rattle.ks_outside.specs.Files.{KeyFile}
 use Rattle.ks_outside.specs.Streams.{OnlyReads, OnlyWrites, StreamState}
@@ -9,7 +10,7 @@ use Rattle.ks_setup.specs.Words.{words_of}
 use Rattle.ks_state.specs.Shown.{Shown}
 use Rattle.ks_top.specs.declared.fault.Fault.{Fault}
 use Rattle.ks_top.specs.declared.fault.Fault.TheVariants as fault
-use Rattle.ks_top.specs.Ending.{EndsCheck, IsStreamFault, fault_of, result_of}
+use Rattle.ks_top.specs.Ending.{EndsCheck, IsStreamFault, result_of}
 use Rattle.ks_top.specs.KeyFolders.{EndsRotation, EndsSetup, IsFolderFault, OnlyDraws}
 use Rattle.ks_top.specs.Runs.{ChangesKeys, Checks, Does, Rotates, Runs, SetsUp, outside}
 use Rattle.ks_top.specs.World.{World}
@@ -22,15 +23,15 @@ runs_by view stream words asked old new f state is does = inl (subst (λ w. Does
 
 -- a result and its fault
 
-same_result : (r : Result (Unit {0}) Fault) → result_of (fault_of r) ≡ r
+same_result : (r : Result (Unit {0}) Fault) → result_of (fault_in r) ≡ r
 same_result (Ok done) = refl
 same_result (Err reason) = refl
 
-err_of : (r : Result (Unit {0}) Fault) (f : Fault) → fault_of r ≡ Some f → r ≡ Err f
+err_of : (r : Result (Unit {0}) Fault) (f : Fault) → fault_in r ≡ Some f → r ≡ Err f
 err_of (Ok done) f h = absurd (cc h)
 err_of (Err reason) f h = cc h
 
-caused : (P : Fault → Type 0) (r : Result (Unit {0}) Fault) → IfErr r P → IfSome (fault_of r) P
+caused : (P : Fault → Type 0) (r : Result (Unit {0}) Fault) → IfErr r P → IfSome (fault_in r) P
 caused P (Ok done) is = tt
 caused P (Err reason) is = is
 
@@ -46,14 +47,14 @@ abbrev Ends : {Link Seat : Type 0} → World Link Seat → World Link Seat → R
 Ends old new r =
     (text before : List ℕ) → old.input.left ≡ Some text → old.output.written ≡ Some before → EndsCheck text before new.input.left new.output.written r
 
-pub checks : {Link Seat : Type 0} (old new : World Link Seat) (r : Result (Unit {0}) Fault) (f : Option Fault) → f ≡ fault_of r → Ends old new r → IfErr r IsStreamFault
+pub checks : {Link Seat : Type 0} (old new : World Link Seat) (r : Result (Unit {0}) Fault) (f : Option Fault) → f ≡ fault_in r → Ends old new r → IfErr r IsStreamFault
     → OnlyReads (r ≡ Err fault.Read) old.input new.input → OnlyWrites (r ≡ Err fault.Write) old.output new.output
     → new ≡ record old { input = new.input; output = new.output } → Checks old new f
 checks old new r f is told causes reads writes others = subst (Checks old new) (sym is) (record {
   told = λ text before left written. subst (EndsCheck text before new.input.left new.output.written) (sym (same_result r)) (told text before left written);
   causes = caused IsStreamFault r causes;
-  reads = reads_for (r ≡ Err fault.Read) (fault_of r ≡ Some fault.Read) old.input new.input (err_of r fault.Read) reads;
-  writes = writes_for (r ≡ Err fault.Write) (fault_of r ≡ Some fault.Write) old.output new.output (err_of r fault.Write) writes;
+  reads = reads_for (r ≡ Err fault.Read) (fault_in r ≡ Some fault.Read) old.input new.input (err_of r fault.Read) reads;
+  writes = writes_for (r ≡ Err fault.Write) (fault_in r ≡ Some fault.Write) old.output new.output (err_of r fault.Write) writes;
   others = others;
 })
 
@@ -66,12 +67,12 @@ pub record Keeps {Link Seat : Type 0} (old new : World Link Seat) (r : Result (U
   pub desk : OnlyDraws old.desk new.desk
   pub others : new ≡ record old { output = new.output; dir = new.dir; desk = new.desk }
 
-changes_keys : {Link Seat : Type 0} (old new : World Link Seat) (r : Result (Unit {0}) Fault) → Keeps old new r → ChangesKeys old new (fault_of r)
+changes_keys : {Link Seat : Type 0} (old new : World Link Seat) (r : Result (Unit {0}) Fault) → Keeps old new r → ChangesKeys old new (fault_in r)
 changes_keys old new r keeps = record {
   causes = caused IsFolderFault r keeps.causes;
-  folder = counts_for (r ≡ Err fault.Folder) (fault_of r ≡ Some fault.Folder) old.dir.faults new.dir.faults (err_of r fault.Folder) keeps.folder;
-  draws = counts_for (r ≡ Err fault.Desk) (fault_of r ≡ Some fault.Desk) old.desk.fill_faults new.desk.fill_faults (err_of r fault.Desk) keeps.draws;
-  writes = writes_for (r ≡ Err fault.Write) (fault_of r ≡ Some fault.Write) old.output new.output (err_of r fault.Write) keeps.writes;
+  folder = counts_for (r ≡ Err fault.Folder) (fault_in r ≡ Some fault.Folder) old.dir.faults new.dir.faults (err_of r fault.Folder) keeps.folder;
+  draws = counts_for (r ≡ Err fault.Desk) (fault_in r ≡ Some fault.Desk) old.desk.fill_faults new.desk.fill_faults (err_of r fault.Desk) keeps.draws;
+  writes = writes_for (r ≡ Err fault.Write) (fault_in r ≡ Some fault.Write) old.output new.output (err_of r fault.Write) keeps.writes;
   desk = keeps.desk;
   others = keeps.others;
 }
@@ -81,7 +82,7 @@ TellsSetup old new r =
     (random before : List ℕ) (files : List KeyFile) → old.desk.random ≡ Some random → old.dir.files ≡ Some files → old.output.written ≡ Some before
     → EndsSetup random files before (outside new) r
 
-pub sets_up : {Link Seat : Type 0} (old new : World Link Seat) (r : Result (Unit {0}) Fault) (f : Option Fault) → f ≡ fault_of r → TellsSetup old new r → Keeps old new r → SetsUp old new f
+pub sets_up : {Link Seat : Type 0} (old new : World Link Seat) (r : Result (Unit {0}) Fault) (f : Option Fault) → f ≡ fault_in r → TellsSetup old new r → Keeps old new r → SetsUp old new f
 sets_up old new r f is told keeps = subst (SetsUp old new) (sym is) (record {
   told = λ random before files drawn stood written. subst (EndsSetup random files before (outside new)) (sym (same_result r)) (told random before files drawn stood written);
   changes = changes_keys old new r keeps;
@@ -92,7 +93,7 @@ TellsRotation max old new r =
     (random before : List ℕ) (files : List KeyFile) → old.desk.random ≡ Some random → old.dir.files ≡ Some files → old.output.written ≡ Some before
     → EndsRotation max random files before (outside new) r
 
-pub rotates : {Link Seat : Type 0} (max : ℕ) (old new : World Link Seat) (r : Result (Unit {0}) Fault) (f : Option Fault) → f ≡ fault_of r → TellsRotation max old new r → Keeps old new r → Rotates max old new f
+pub rotates : {Link Seat : Type 0} (max : ℕ) (old new : World Link Seat) (r : Result (Unit {0}) Fault) (f : Option Fault) → f ≡ fault_in r → TellsRotation max old new r → Keeps old new r → Rotates max old new f
 rotates max old new r f is told keeps = subst (Rotates max old new) (sym is) (record {
   told = λ random before files drawn stood written. subst (EndsRotation max random files before (outside new)) (sym (same_result r)) (told random before files drawn stood written);
   changes = changes_keys old new r keeps;

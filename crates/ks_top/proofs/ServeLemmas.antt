@@ -1,23 +1,23 @@
 -- Desks that are served beside each other, from an opening to the end of the journal.
 use Rattle.std.proofs.Common.{◌≡◌, ℕ, zero, suc, ◌+◌, ◌-◌, ◌≤◌, ◌⊎◌, inl, inr, Bool, true, false, List, [], ◌∷◌, ◌++◌, length, take, drop, map, min, Option, Some, None, Result, Ok, Err, refl, sym, ap, subst, ◌∙◌, arith}
 use Rattle.std.proofs.lemmas.Bool.Decides.{nat_tests}
-use Rattle.std.proofs.lemmas.List.{length-map, take-append-drop}
+use Rattle.std.proofs.lemmas.List.{length-map, take-append-drop, take_min, drop_min}
 use Rattle.std.specs.Prelude.{if◌then◌else◌, is_ok}
 use Rattle.std.specs.Result.{IsOk}
 use Rattle.std.specs.List.{AllByRecursion}
 use Rattle.std.specs.declared.convert.Infallible.{Infallible}
-use Rattle.ks_machine.specs.Fronts.{Front, IsSound, ◌⊑◌}
+use Rattle.ks_machine.specs.Fronts.{Front, IsSound, ◌⊑◌, first_front}
 use Rattle.ks_machine.specs.Openings.{PlainOpening}
 use Rattle.ks_outside.specs.Desks.{DeskState}
 use Rattle.ks_outside.specs.Files.{DirState}
 use Rattle.ks_outside.specs.Streams.{StreamState}
-use Rattle.ks_server.proofs.LawLemmas.{receipts_are_placed}
-use Rattle.ks_server.specs.Exchanges.{Asked, calls, refused, Exchange, bare, front_after, made}
+use Rattle.ks_server.proofs.LawLemmas.{receipts_are_placed, late_more}
+use Rattle.ks_server.specs.Exchanges.{Exchange, bare, front_after, made}
 use Rattle.ks_server.specs.Laws.{IsPlaced}
 use Rattle.ks_server.specs.Orders.{Goes, IsLate}
 use Rattle.ks_server.specs.Work.{IsReadingAmong}
 use Rattle.ks_server.specs.Workers.{AreServed, Place, ServesAll, Shift, all_exchanges, exchanges_of}
-use Rattle.ks_state.specs.Standing.{StandsWithAllKept, first_front}
+use Rattle.ks_state.specs.Standing.{StandsWithAllKept}
 use Rattle.ks_state.specs.Shown.{Shown}
 use Rattle.ks_top.specs.declared.fault.Fault.{Fault}
 use Rattle.ks_top.specs.declared.fault.Fault.TheVariants as fault
@@ -28,39 +28,17 @@ use Rattle.ks_turn.specs.Sums.{below, times}
 
 -- the first of some desks, and those behind them
 
-taken : {A : Type 0} (k : ℕ) (xs : List A) → take (min k (length xs)) xs ≡ take k xs
-taken zero xs =
-    let none : min 0 (length xs) ≡ 0 = omega arith in
-    ap (λ n. take n xs) none
-taken {A} (suc k) [] =
-    let none : min (suc k) 0 ≡ 0 = omega arith in
-    ap (λ n. take {A = A} n []) none
-taken (suc k) (x ∷ xs) =
-    let one : min (suc k) (suc (length xs)) ≡ suc (min k (length xs)) = omega arith in
-    ap (λ n. take n (x ∷ xs)) one ∙ ap (λ l. x ∷ l) (taken k xs)
-
-dropped : {A : Type 0} (k : ℕ) (xs : List A) → drop (min k (length xs)) xs ≡ drop k xs
-dropped zero xs =
-    let none : min 0 (length xs) ≡ 0 = omega arith in
-    ap (λ n. drop n xs) none
-dropped {A} (suc k) [] =
-    let none : min (suc k) 0 ≡ 0 = omega arith in
-    ap (λ n. drop {A = A} n []) none
-dropped (suc k) (x ∷ xs) =
-    let one : min (suc k) (suc (length xs)) ≡ suc (min k (length xs)) = omega arith in
-    ap (λ n. drop n (x ∷ xs)) one ∙ dropped k xs
-
 -- of a list that begins with x, at least one
 
 taken_first : {A : Type 0} (workers : ℕ) (x : A) (xs : List A) → 1 ≤ workers → take (min workers (length (x ∷ xs))) (x ∷ xs) ≡ x ∷ take (workers - 1) xs
 taken_first workers x xs some =
     let one : min workers (suc (length xs)) ≡ suc (min (workers - 1) (length xs)) = omega arith in
-    ap (λ n. take n (x ∷ xs)) one ∙ ap (λ l. x ∷ l) (taken (workers - 1) xs)
+    ap (λ n. take n (x ∷ xs)) one ∙ ap (λ l. x ∷ l) (take_min (workers - 1) xs)
 
 dropped_first : {A : Type 0} (workers : ℕ) (x : A) (xs : List A) → 1 ≤ workers → drop (min workers (length (x ∷ xs))) (x ∷ xs) ≡ drop (workers - 1) xs
 dropped_first workers x xs some =
     let one : min workers (suc (length xs)) ≡ suc (min (workers - 1) (length xs)) = omega arith in
-    ap (λ n. drop n (x ∷ xs)) one ∙ dropped (workers - 1) xs
+    ap (λ n. drop n (x ∷ xs)) one ∙ drop_min (workers - 1) xs
 
 -- as many others put in the place of the first
 
@@ -102,11 +80,6 @@ served_length stream connections seen journal (old ∷ olds) (new ∷ news) (shi
 
 -- no call is later than the highest moment
 
-late_by : (asked : Asked) (memory : Bool) (moment high : ℕ) → moment ≤ high → IsLate asked memory moment → IsLate asked memory high
-late_by (calls call) false moment high le late = omega (arith, le, late)
-late_by (calls call) true moment high le late = tt
-late_by (refused why) memory moment high le late = tt
-
 abbrev IsReached : ℕ → Exchange → Type 0
 IsReached high x = IsLate x.asked x.receipt.memory high
 
@@ -114,7 +87,7 @@ reached_in : (seen journal since now : Front) (xs : List Exchange) → Goes jour
     → AllByRecursion (λ (x : Exchange). IsReached journal.high x) xs
 reached_in seen journal since now [] goes placed = tt
 reached_in seen journal since now (x ∷ xs) goes placed = (
-  late_by x.asked x.receipt.memory x.receipt.moment journal.high placed.0.high goes.1.late,
+  late_more x.asked x.receipt.memory x.receipt.moment journal.high placed.0.high goes.1.late,
   reached_in seen journal (front_after journal x) now xs goes.2 placed.1,
 )
 

@@ -1,10 +1,9 @@
 -- A talk, from an opening to the end of its connection.
 use Rattle.std.proofs.Common.{◌≡◌, ℕ, ◌+◌, ◌⊎◌, inl, inr, List, length, Option, Some, Result, Err, refl, sym, ap, ◌∙◌, subst, arith}
 use Rattle.std.specs.declared.convert.Infallible.{Infallible}
-use Rattle.std.proofs.lemmas.Bool.Decides.{nat_tests}
 use Rattle.ks_machine.specs.declared.settings.OpenFault.{OpenFault}
 use Rattle.ks_machine.specs.declared.settings.OpenFault.TheVariants as state
-use Rattle.ks_machine.specs.Fronts.{Front}
+use Rattle.ks_machine.specs.Fronts.{Front, first_front}
 use Rattle.ks_machine.specs.Opened.{open_fault}
 use Rattle.ks_machine.specs.Openings.{PlainOpening}
 use Rattle.ks_outside.specs.Counts.{Counts}
@@ -18,7 +17,7 @@ use Rattle.ks_server.specs.Sessions.{EndsSession}
 use Rattle.ks_server.specs.Ties.{KeepsLinks}
 use Rattle.ks_server.specs.Work.{Moves}
 use Rattle.ks_server.specs.Work as work
-use Rattle.ks_state.specs.Standing.{Stands, StandsWithAllKept, first_front}
+use Rattle.ks_state.specs.Standing.{Stands, StandsWithAllKept}
 use Rattle.ks_state.specs.Shown.{Shown}
 use Rattle.ks_top.specs.declared.fault.Fault.{Fault}
 use Rattle.ks_top.specs.declared.fault.Fault.TheVariants as fault
@@ -27,6 +26,7 @@ use Rattle.ks_top.specs.Opened.{IsOpening, StopsOpening}
 use Rattle.ks_top.specs.Talk.{Served, Talked, ending}
 use Rattle.ks_top.specs.World.{World}
 use Rattle.ks_top.specs.steps.Openings.{of_state}
+use Rattle.ks_top.proofs.ServeLemmas.{below_none}
 use Rattle.ks_turn.specs.Passes.{Ends, Passed, first_pass}
 use Rattle.ks_turn.specs.Sums.{below, times}
 
@@ -47,9 +47,6 @@ pub looks_for : (P Q : Type 0) (old new : DirState) → (Q → P) → OnlyLooks 
 looks_for P Q old new from looks = record { files = looks.files; faults = counts_for P Q old.faults new.faults from looks.faults }
 
 -- the changes that were made
-
-below_none : (n : ℕ) → below n 0 ≡ 0
-below_none n = grind (arith, nat_tests)
 
 made_once : (opening : PlainOpening) (pass after : Passed) (xs : List Exchange) → Moves (first_pass pass.turn (first_front opening)) after xs → Ends (first_front opening) after
     → (n : ℕ) → times n (made after.seen xs) ≡ below n (length after.seen.changes)

@@ -69,7 +69,3 @@ status_of (Some (fault.Keys Memory)) = 5
 abbrev pub result_of : Option Fault → Result (Unit {0}) Fault
 result_of None = Ok tt
 result_of (Some f) = Err f
-
-abbrev pub fault_of : Result (Unit {0}) Fault → Option Fault
-fault_of (Ok done) = None
-fault_of (Err f) = Some f

@@ -2,10 +2,11 @@
 use Rattle.std.specs.Prelude.{◌≡◌, Option, Some, None}
 use Rattle.ks_machine.specs.Opened.{open_fault}
 use Rattle.ks_machine.specs.Openings.{PlainOpening}
+use Rattle.ks_machine.specs.Fronts.{first_front}
 use Rattle.ks_outside.specs.Desks.{DeskState}
 use Rattle.ks_outside.specs.Files.{OnlyLooks}
 use Rattle.ks_outside.specs.Streams.{OnlyReads}
-use Rattle.ks_state.specs.Standing.{StandsWithAllKept, first_front}
+use Rattle.ks_state.specs.Standing.{StandsWithAllKept}
 use Rattle.ks_state.specs.Shown.{Shown}
 use Rattle.ks_top.specs.declared.fault.Fault.{Fault}
 use Rattle.ks_top.specs.declared.fault.Fault.TheVariants as fault

@@ -4,7 +4,7 @@ use Rattle.std.specs.List.{AllByRecursion, AllZip}
 use Rattle.std.specs.declared.convert.Infallible.{Infallible}
 use Rattle.ks_base.specs.declared.faults.KeysFault.TheVariants as keys
 use Rattle.ks_machine.specs.declared.settings.OpenFault.TheVariants as state
-use Rattle.ks_machine.specs.Fronts.{Front, ◌⊑◌}
+use Rattle.ks_machine.specs.Fronts.{Front, ◌⊑◌, first_front}
 use Rattle.ks_machine.specs.Openings.{PlainOpening}
 use Rattle.ks_outside.specs.Counts.{Rose}
 use Rattle.ks_outside.specs.Desks.{DeskState}
@@ -21,7 +21,7 @@ use Rattle.ks_setup.specs.declared.words.Words.{Words}
 use Rattle.ks_setup.specs.declared.words.Words.TheVariants as asked
 use Rattle.ks_setup.specs.Words.{words_of}
 use Rattle.ks_state.specs.Shown.{Shown}
-use Rattle.ks_state.specs.Standing.{StandsWithAllKept, first_front}
+use Rattle.ks_state.specs.Standing.{StandsWithAllKept}
 use Rattle.ks_top.specs.declared.fault.Fault.{Fault}
 use Rattle.ks_top.specs.declared.fault.Fault.TheVariants as fault
 use Rattle.ks_top.specs.Runs.{Runs}

@@ -2,7 +2,7 @@
 use Rattle.std.specs.Prelude.{◌≡◌, ◌⊎◌, ℕ, ◌-◌, Bool, true, false, List, ◌∷◌, length, take, drop, map, Option, Some, None}
 use Rattle.std.specs.List.{AllByRecursion}
 use Rattle.std.specs.declared.convert.Infallible.{Infallible}
-use Rattle.ks_machine.specs.Fronts.{Front, ◌⊑◌}
+use Rattle.ks_machine.specs.Fronts.{Front, ◌⊑◌, first_front}
 use Rattle.ks_machine.specs.Openings.{PlainOpening}
 use Rattle.ks_outside.specs.Desks.{DeskState}
 use Rattle.ks_outside.specs.Files.{DirState}
@@ -11,7 +11,7 @@ use Rattle.ks_server.specs.Exchanges.{made}
 use Rattle.ks_server.specs.Orders.{IsLate}
 use Rattle.ks_server.specs.Work.{IsReadingAmong}
 use Rattle.ks_server.specs.Workers.{AreServed, Place, Shift, all_exchanges, some_failed}
-use Rattle.ks_state.specs.Standing.{StandsWithAllKept, first_front}
+use Rattle.ks_state.specs.Standing.{StandsWithAllKept}
 use Rattle.ks_state.specs.Shown.{Shown}
 use Rattle.ks_top.specs.declared.fault.Fault.{Fault}
 use Rattle.ks_top.specs.declared.fault.Fault.TheVariants as fault

@@ -1,7 +1,7 @@
 -- What `talk` does behind its opening: it serves one connection, and ends with the identity.
 use Rattle.std.specs.Prelude.{◌≡◌, ◌⊎◌, ℕ, List, Option, Some, None, length}
 use Rattle.std.specs.declared.convert.Infallible.{Infallible}
-use Rattle.ks_machine.specs.Fronts.{Front}
+use Rattle.ks_machine.specs.Fronts.{Front, first_front}
 use Rattle.ks_machine.specs.Openings.{PlainOpening}
 use Rattle.ks_outside.specs.Counts.{Counts}
 use Rattle.ks_outside.specs.Desks.{DeskState}
@@ -11,7 +11,7 @@ use Rattle.ks_server.specs.Exchanges.{Exchange, bare, made}
 use Rattle.ks_server.specs.Orders.{Goes, GoesAlone}
 use Rattle.ks_server.specs.Sessions.{EndsSession}
 use Rattle.ks_server.specs.Ties.{AreNumbered, KeepsLinks, Tied}
-use Rattle.ks_state.specs.Standing.{StandsWithAllKept, first_front}
+use Rattle.ks_state.specs.Standing.{StandsWithAllKept}
 use Rattle.ks_state.specs.Shown.{Shown}
 use Rattle.ks_top.specs.declared.fault.Fault.{Fault}
 use Rattle.ks_top.specs.declared.fault.Fault.TheVariants as fault

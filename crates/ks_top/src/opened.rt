@@ -4,7 +4,8 @@ ghost use Rattle.ks_machine.specs.Opened.{open_fault};
 ghost use Rattle.ks_outside.specs.Files.{OnlyLooks};
 ghost use Rattle.ks_outside.specs.Streams.{OnlyReads};
 ghost use Rattle.ks_policy.specs.Openings.{plain};
-ghost use Rattle.ks_state.specs.Standing.{StandsWithAllKept, first_front};
+ghost use Rattle.ks_machine.specs.Fronts.{first_front};
+ghost use Rattle.ks_state.specs.Standing.{StandsWithAllKept};
 ghost use Rattle.ks_top.specs.Opened.{IsOpening, StopsOpening};
 
 use crate::fault::Fault;

@@ -1,5 +1,5 @@
 ghost use Rattle.std.specs.Prelude.{◌≡◌, Some, None};
-ghost use Rattle.ks_top.specs.Ending.{fault_of};
+ghost use Rattle.ks_base.specs.Refusals.{fault_in};
 
 use crate::fault::Fault;
 use ks_state::Identity;
@@ -14,7 +14,7 @@ pub struct Outcome {
 impl Outcome {
     /// No identity was opened.
     pub fn of(ended: Result<(), Fault>) -> Outcome
-        ensures fault { result.fault ≡ fault_of ended }
+        ensures fault { result.fault ≡ fault_in ended }
         ensures state { result.state ≡ None }
     {
         match ended {

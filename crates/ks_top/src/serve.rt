@@ -5,7 +5,8 @@ ghost use Rattle.ks_outside.specs.Desks.{DeskState};
 ghost use Rattle.ks_outside.specs.Files.{DirState};
 ghost use Rattle.ks_outside.specs.Streams.{StreamState};
 ghost use Rattle.ks_policy.specs.Openings.{plain};
-ghost use Rattle.ks_state.specs.Standing.{StandsWithAllKept, first_front};
+ghost use Rattle.ks_machine.specs.Fronts.{first_front};
+ghost use Rattle.ks_state.specs.Standing.{StandsWithAllKept};
 ghost use Rattle.ks_top.specs.Serve.{Served, Serves, desk_fault};
 
 use crate::fault::Fault;

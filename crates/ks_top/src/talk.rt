@@ -4,7 +4,8 @@ ghost use Rattle.ks_outside.specs.Desks.{DeskState};
 ghost use Rattle.ks_outside.specs.Files.{DirState};
 ghost use Rattle.ks_outside.specs.Streams.{StreamState};
 ghost use Rattle.ks_policy.specs.Openings.{plain};
-ghost use Rattle.ks_state.specs.Standing.{StandsWithAllKept, first_front};
+ghost use Rattle.ks_machine.specs.Fronts.{first_front};
+ghost use Rattle.ks_state.specs.Standing.{StandsWithAllKept};
 ghost use Rattle.ks_top.specs.Talk.{Served, Talks, ending};
 
 use crate::fault::Fault;

@@ -1,8 +1,8 @@
-use Rattle.std.proofs.Common.{◌≡◌, ℕ, zero, suc, Bool, true, false, ◌||◌, if◌then◌else◌, List, [], ◌∷◌, ◌++◌, map, Some, None, refl, ap, sym, ◌∙◌, arith, append_assoc}
-use Rattle.std.specs.List.{find, list_any}
-use Rattle.std.specs.Option.{is_some}
+use Rattle.std.proofs.Common.{◌≡◌, ℕ, zero, suc, Bool, true, false, List, [], ◌∷◌, ◌++◌, map, Some, None, refl, ap, sym, ◌∙◌, arith, append_assoc}
+use Rattle.std.specs.List.{find}
 use Rattle.ks_base.specs.declared.rows.ProjectRow.{ProjectRow}
-use Rattle.ks_base.specs.Tree.{parent_of, with_parent, above_within}
+use Rattle.ks_base.specs.Tree.{parent_of, above_within}
+use Rattle.ks_base.specs.Tables.{with_higher}
 
 -- with no step left no project above is found
 pub no_steps : (steps : ℕ) (projects : List ProjectRow) (project : ProjectRow) → steps ≡ 0 → above_within steps projects project ≡ []
@@ -15,13 +15,13 @@ pub none_above : (steps : ℕ) (projects : List ProjectRow) (project : ProjectRo
     above_within steps projects project ≡ []
 unfolding above_within
 none_above zero projects project none = refl
-none_above (suc steps) projects project none = ap (with_parent (above_within steps projects)) (sym none)
+none_above (suc steps) projects project none = ap (with_higher (above_within steps projects)) (sym none)
 
 -- a step up
 parent_above : (steps : ℕ) (projects : List ProjectRow) (project parent : ProjectRow) → Some parent ≡ parent_of projects project →
     above_within (suc steps) projects project ≡ parent ∷ above_within steps projects parent
 unfolding above_within
-parent_above steps projects project parent some = ap (with_parent (above_within steps projects)) (sym some)
+parent_above steps projects project parent some = ap (with_higher (above_within steps projects)) (sym some)
 
 pub step_up : (steps next : ℕ) (projects : List ProjectRow) (project parent : ProjectRow) → steps ≡ suc next → Some parent ≡ parent_of projects project →
     above_within steps projects project ≡ parent ∷ above_within next projects parent
@@ -33,14 +33,6 @@ found_here test xs rest x is passes = ap (find test) is ∙ rw passes refl
 
 pub found_behind : {X : Type 0} (test : X → Bool) (xs rest : List X) (x : X) → xs ≡ x ∷ rest → test x ≡ false → find test xs ≡ find test rest
 found_behind test xs rest x is fails = ap (find test) is ∙ rw fails refl
-
-pub any_found : {X : Type 0} (test : X → Bool) (xs : List X) → is_some (find test xs) ≡ list_any test xs
-any_found test [] = refl
-any_found test (x ∷ xs) = any_by (test x) (any_found test xs)
-  where
-    any_by : (b : Bool) → is_some (find test xs) ≡ list_any test xs → is_some (if b then Some x else find test xs) ≡ (b || list_any test xs)
-    any_by true rest = refl
-    any_by false rest = rest
 
 -- one more item is behind those that were gathered
 pub gathered : {X Y : Type 0} (f : X → Y) (ys : List Y) (xs rest : List X) (x : X) → xs ≡ x ∷ rest →

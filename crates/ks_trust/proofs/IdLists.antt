@@ -1,29 +1,16 @@
 -- Lists of the ids of trusts, and what they name.
-use Rattle.std.proofs.Common.{◌≡◌, Bool, true, false, not, cond, ◌||◌, inl, inr, List, [], ◌∷◌, map, filter, Some, refl, sym, ap, subst, ◌∙◌}
-use Rattle.std.specs.declared.cmp.Ordering.TheVariants.{Less}
+use Rattle.std.proofs.Common.{◌≡◌, Bool, true, false, not, ◌||◌, inl, inr, List, [], ◌∷◌, filter, refl, sym, ap, subst, ◌∙◌}
 use Rattle.std.proofs.lemmas.Cmp.{nat_list_cmp_total}
 use Rattle.std.proofs.lemmas.Slice.Eq.{bytes_eq-Decides}
+use Rattle.std.proofs.lemmas.Bool.{or_left, or_right}
 use Rattle.ks_base.specs.declared.trusts.TrustRow.{TrustRow}
-use Rattle.ks_base.specs.Rows.{Id, same}
-use Rattle.ks_base.specs.Tables.{id_cmp, AreAbove, IsAscending, Among}
-use Rattle.ks_base.specs.Trusts.{AreChained, goes, has_id, parent_trust, trusts_gone, trusts_left}
+use Rattle.ks_base.specs.Rows.{Id, same, has_id}
+use Rattle.ks_base.specs.Tables.{id_cmp, IsAscending, Among}
+use Rattle.ks_base.specs.Trusts.{AreChained, goes, trusts_gone, trusts_left}
 use Rattle.ks_base.proofs.ChainLemmas.{goes_alike, goes_down, parent_among}
 use Rattle.ks_base.proofs.RowLemmas.{among_filter, filter_among, same_row}
-use Rattle.ks_base.proofs.TableLemmas.{ascending_filter}
-use Rattle.ks_trust.specs.State.{ids_of, is_named, without_trusts, IsClosed}
-
--- ids ascend as their rows do
-above_ids : (low : Id) (trusts : List TrustRow) → AreAbove id_cmp (λ row. row.id) low trusts → AreAbove id_cmp (λ id. id) low (ids_of trusts)
-above_ids low [] above = tt
-above_ids low (trust ∷ trusts) above = (above.0, above_ids low trusts above.1)
-
-pub ids_ascend : (trusts : List TrustRow) → IsAscending id_cmp (λ row. row.id) trusts → IsAscending id_cmp (λ id. id) (ids_of trusts)
-ids_ascend [] up = tt
-ids_ascend (trust ∷ trusts) up = (above_ids trust.id trusts up.0, ids_ascend trusts up.1)
-
-pub some_ids_ascend : (test : TrustRow → Bool) (trusts : List TrustRow) → IsAscending id_cmp (λ row. row.id) trusts →
-    IsAscending id_cmp (λ id. id) (ids_of (filter test trusts))
-some_ids_ascend test trusts up = ids_ascend (filter test trusts) (ascending_filter id_cmp (λ row. row.id) test trusts up)
+use Rattle.ks_base.proofs.ListLemmas.{filter_alike}
+use Rattle.ks_trust.specs.State.{ids_of, is_listed, without_trusts, IsClosed}
 
 -- a named trust is one of those whose ids are listed
 record WithId (trusts : List TrustRow) (id : Id) : Type 0 where
@@ -39,14 +26,6 @@ named_by next trusts id false is has later = let found = later has in record { t
 named : (trusts : List TrustRow) (id : Id) → has_id (ids_of trusts) id ≡ true → WithId trusts id
 named [] id has = cc
 named (next ∷ trusts) id has = named_by next trusts id (same next.id id) refl has (named trusts id)
-
-or_left : (a b : Bool) → a ≡ true → (a || b) ≡ true
-or_left true b is = refl
-or_left false b is = cc
-
-or_right : (a b : Bool) → b ≡ true → (a || b) ≡ true
-or_right true b is = refl
-or_right false b is = is
 
 names : (trusts : List TrustRow) (trust : TrustRow) → Among trusts trust → has_id (ids_of trusts) trust.id ≡ true
 names [] trust among = absurd among
@@ -74,7 +53,7 @@ names_by test trusts trust false true has is up among =
 names_by test trusts trust false false has is up among = refl
 
 pub names_those : (trusts : List TrustRow) (test : TrustRow → Bool) (trust : TrustRow) → IsAscending id_cmp (λ row. row.id) trusts → Among trusts trust →
-    is_named (ids_of (filter test trusts)) trust ≡ test trust
+    is_listed (ids_of (filter test trusts)) trust ≡ test trust
 names_those trusts test trust up among = names_by test trusts trust (has_id (ids_of (filter test trusts)) trust.id) (test trust) refl refl up among
 
 -- with each trust that goes all its redelegations go
@@ -85,19 +64,13 @@ gone_are_closed trusts touched up all trust parent among found is =
     let parent_goes = sym (names_those trusts (goes trusts touched) parent up above) ∙ is in
     names_those trusts (goes trusts touched) trust up among ∙ goes_down trusts touched trust parent all among found parent_goes
 
--- what is tested alike is left alike
-filter_alike : (p q : TrustRow → Bool) (trusts : List TrustRow) → ((t : TrustRow) → Among trusts t → p t ≡ q t) → filter p trusts ≡ filter q trusts
-filter_alike p q [] alike = refl
-filter_alike p q (trust ∷ trusts) alike =
-    rw (alike trust (inl refl)) (ap (λ (rows : List TrustRow). cond (q trust) (trust ∷ rows) rows) (filter_alike p q trusts (λ t among. alike t (inr among))))
-
-pub gone_by_ids : (trusts : List TrustRow) (touched : TrustRow → Bool) (ids : List Id) → ((trust : TrustRow) → Among trusts trust → is_named ids trust ≡ touched trust) →
-    trusts_gone trusts (is_named ids) ≡ trusts_gone trusts touched
+pub gone_by_ids : (trusts : List TrustRow) (touched : TrustRow → Bool) (ids : List Id) → ((trust : TrustRow) → Among trusts trust → is_listed ids trust ≡ touched trust) →
+    trusts_gone trusts (is_listed ids) ≡ trusts_gone trusts touched
 gone_by_ids trusts touched ids alike =
-    filter_alike (goes trusts (is_named ids)) (goes trusts touched) trusts (λ t among. goes_alike trusts (is_named ids) touched t alike among)
+    filter_alike (goes trusts (is_listed ids)) (goes trusts touched) trusts (λ t among. goes_alike trusts (is_listed ids) touched t alike among)
 
 pub left_by_ids : (trusts : List TrustRow) (touched : TrustRow → Bool) → IsAscending id_cmp (λ row. row.id) trusts →
     without_trusts (ids_of (trusts_gone trusts touched)) trusts ≡ trusts_left trusts touched
 left_by_ids trusts touched up =
-    filter_alike (λ t. not (is_named (ids_of (trusts_gone trusts touched)) t)) (λ t. not (goes trusts touched t)) trusts
+    filter_alike (λ t. not (is_listed (ids_of (trusts_gone trusts touched)) t)) (λ t. not (goes trusts touched t)) trusts
     (λ t among. ap not (names_those trusts (goes trusts touched) t up among))

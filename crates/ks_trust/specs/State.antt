@@ -3,15 +3,15 @@ use Rattle.std.specs.Prelude.{◌≡◌, Bool, true, false, not, ◌||◌, List,
 use Rattle.std.specs.Option.{option_map_or}
 use Rattle.ks_base.specs.declared.events.Revoke.{Revoke}
 use Rattle.ks_base.specs.declared.trusts.TrustRow.{TrustRow}
-use Rattle.ks_base.specs.Rows.{Id}
+use Rattle.ks_base.specs.Rows.{Id, has_id}
 use Rattle.ks_base.specs.Tables.{id_cmp, put_row, Among}
-use Rattle.ks_base.specs.Trusts.{has_id, has_role, names_trust, parent_trust}
+use Rattle.ks_base.specs.Trusts.{has_role, names_trust, parent_trust}
 
 abbrev pub ids_of : List TrustRow → List Id
 ids_of trusts = map (λ trust. trust.id) trusts
 
-abbrev pub is_named : List Id → TrustRow → Bool
-is_named ids trust = has_id ids trust.id
+abbrev pub is_listed : List Id → TrustRow → Bool
+is_listed ids trust = has_id ids trust.id
 
 -- a trust of what a revocation names, or one with the role, if there is one
 abbrev pub is_touched : Revoke → Option Id → TrustRow → Bool
@@ -21,11 +21,11 @@ is_touched what role trust = names_trust what trust || option_map_or (λ id. has
 abbrev pub IsClosed : List TrustRow → List Id → Type 0
 IsClosed trusts ids =
     (trust parent : TrustRow) → Among trusts trust → parent_trust trusts trust.parent ≡ Some parent →
-    is_named ids parent ≡ true → is_named ids trust ≡ true
+    is_listed ids parent ≡ true → is_listed ids trust ≡ true
 
 -- the lists that changes make
 abbrev pub with_trust : TrustRow → List TrustRow → List TrustRow
 with_trust trust trusts = put_row id_cmp (λ row. row.id) trust trusts
 
 abbrev pub without_trusts : List Id → List TrustRow → List TrustRow
-without_trusts ids trusts = filter (λ trust. not (is_named ids trust)) trusts
+without_trusts ids trusts = filter (λ trust. not (is_listed ids trust)) trusts

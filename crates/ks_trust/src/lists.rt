@@ -2,8 +2,9 @@
 ghost use Rattle.std.specs.Prelude.{◌≡◌, false, filter, option_copied, IfOk};
 ghost use Rattle.std.specs.Option.{option_map_or};
 ghost use Rattle.ks_base.specs.Tables.{id_cmp, IsAscending};
-ghost use Rattle.ks_base.specs.Trusts.{has_id, has_role, names_trust, trusts_gone};
-ghost use Rattle.ks_trust.specs.State.{ids_of, is_named, is_touched, IsClosed};
+ghost use Rattle.ks_base.specs.Rows.{has_id};
+ghost use Rattle.ks_base.specs.Trusts.{has_role, names_trust, trusts_gone};
+ghost use Rattle.ks_trust.specs.State.{ids_of, is_listed, is_touched, IsClosed};
 
 use crate::Trusts;
 use crate::trusts::has_id;
@@ -96,7 +97,7 @@ impl Trusts {
     /// The ids of the trusts that these ids name, and of all that descend from one of them, in their order, each
     /// once.
     pub fn with_children(&self, ids: &IdList) -> Result<IdList, Memory>
-        ensures ids { IfOk result (λ all. all ≡ ids_of (trusts_gone self.now (is_named ids.now))) }
+        ensures ids { IfOk result (λ all. all ≡ ids_of (trusts_gone self.now (is_listed ids.now))) }
         ensures ascending { IfOk result (λ all. IsAscending id_cmp (λ id. id) all) }
         ensures closed { IfOk result (λ all. IsClosed self.now all) }
     {
@@ -106,7 +107,7 @@ impl Trusts {
     }
 
     fn ids_hanging_on(&self, ids: &IdList) -> Result<Vec<Id>, AllocError>
-        ensures { IfOk result (λ all. all.items ≡ ids_of (trusts_gone self.now (is_named ids.now))) }
+        ensures { IfOk result (λ all. all.items ≡ ids_of (trusts_gone self.now (is_listed ids.now))) }
     {
         self.rows
             .iter()

@@ -1,9 +1,9 @@
 ghost use Rattle.std.specs.Prelude.{◌≡◌, [], length, option_copied};
 ghost use Rattle.std.specs.List.Sorted.{IsSearchInRange};
 ghost use Rattle.ks_base.specs.Places.{IsPlace};
-ghost use Rattle.ks_base.specs.Rows.{trust_of};
+ghost use Rattle.ks_base.specs.Rows.{trust_of, has_id};
 ghost use Rattle.ks_base.specs.Tables.{id_cmp, IsAscending};
-ghost use Rattle.ks_base.specs.Trusts.{parent_trust, has_id, AreChained};
+ghost use Rattle.ks_base.specs.Trusts.{parent_trust, AreChained};
 
 use ks_base::{Id, IdList, TrustRow};
 use std::alloc::Global;

@@ -2,7 +2,7 @@
 ghost use Rattle.std.specs.Prelude.{◌≡◌, IfSome, IsSomeAnd, option_map};
 ghost use Rattle.ks_base.specs.Rows.{trust_of};
 ghost use Rattle.ks_base.specs.Trusts.{first_trustor, goes, LeadsTo};
-ghost use Rattle.ks_trust.specs.State.{is_named};
+ghost use Rattle.ks_trust.specs.State.{is_listed};
 
 use crate::Trusts;
 use crate::trusts::has_id;
@@ -34,7 +34,7 @@ impl Trusts {
 
     /// Whether the list names the trust, or one above it.
     pub(crate) fn hangs_on(&self, ids: &IdList, trust: &TrustRow) -> bool
-        ensures { result ≡ goes self.now (is_named ids.now) trust.now }
+        ensures { result ≡ goes self.now (is_listed ids.now) trust.now }
     {
         let mut top = trust;
         'up: for _ in 0..self.rows.len() {

@@ -1,6 +1,7 @@
 -- Each step of the turn keeps its rule.
 use Rattle.std.proofs.Common.{◌≡◌, ◌≢◌, ◌⊎◌, inl, inr, ⊎_elim, ℕ, zero, suc, ◌+◌, ◌-◌, ◌<◌, ◌≤◌, List, [], ◌∷◌, ◌++◌, length, max, set, get_or, Option, None, Some, true, false, refl, sym, ap, subst, ◌∙◌, arith, length-append, length-set, get_or-set_same}
 use Rattle.std.proofs.lemmas.Bool.Decides.{nat_tests}
+use Rattle.std.proofs.lemmas.Bool.{false≢true}
 use mathlib.Core.Logic.{dite}
 use mathlib.Core.Option.{none, some, some-injective, some-ne-none}
 use native.Mathlib.Decide.{dec_le, ℕ_discrete}
@@ -17,12 +18,6 @@ use Rattle.ks_turn.specs.Sums.{below, times, total}
 use Rattle.ks_turn.specs.Views.{cut_off, first_view, front_at, given, holding, left_over, met, risen, seen_of, since, spent}
 use Rattle.ks_turn.proofs.SumLemmas.{length-numbers, times-append, times-numbers, total_set, total_snoc}
 use Rattle.ks_turn.proofs.ViewLemmas.{each_set, each_snoc, pairs_set, pairs_snoc, some_set, some_snoc, within}
-
-no_yes : false ≡ true → ⊥
-no_yes e = cc
-
-turned_about : (f g : Front) → AreOrdered f g → AreOrdered g f
-turned_about f g o = ⊎_elim (λ (a : f ⊑ g). inr a) (λ (b : g ⊑ f). inl b) o
 
 max_of : (m n high : ℕ) → m ≤ high → n ≤ high → max m n ≤ high
 max_of m n high le ge = omega (arith, le, ge)
@@ -48,7 +43,7 @@ length_grows own old new later is =
 risen_low : (old new top : ℕ) → old ≤ new → top ≤ old → risen old new top ≤ new
 risen_low old new top le low = grind (arith, nat_tests)
 
-risen_up : (old new top : ℕ) → old < new → risen old new top ≡ new
+pub risen_up : (old new top : ℕ) → old < new → risen old new top ≡ new
 risen_up old new top lt = grind (arith, nat_tests)
 
 pub risen_not : (old top : ℕ) → risen old old top ≡ top
@@ -72,7 +67,7 @@ module _ (first : Front) where
     seen = later_saw (front_at first base) (front_at first next) (front_at first v.seen) a k.seen;
     told = later_saw (front_at first base) (front_at first next) (front_at first v.told) a k.told;
     ordered = k.ordered;
-    holds = λ h. absurd (no_yes (sym rests ∙ h));
+    holds = λ h. absurd (false≢true (sym rests ∙ h));
     spent = k.spent;
     top = omega (arith, k.top, a.high);
   }
@@ -107,7 +102,7 @@ module _ (first : Front) where
       free = λ _. (x, refl, stands);
       taken = λ held. absurd (held refl);
       each = λ by w e. subst (λ (u : View). Knows first (seen_of first) 0 0 by u) (only_at v w by e)
-          (record { seen = saw; told = saw; ordered = inl (reflexive first); holds = λ h. absurd (no_yes h); spent = λ z. absurd (omega arith); top = omega arith });
+          (record { seen = saw; told = saw; ordered = inl (reflexive first); holds = λ h. absurd (false≢true h); spent = λ z. absurd (omega arith); top = omega arith });
       ordered = λ i j u w d e. subst (λ (p : View × View). AreOrdered (front_at first p.0.seen) (front_at first p.1.seen)) (λ k. (only_at v u i d k, only_at v w j e k)) (inl (reflexive first));
       last = (0, v, refl, (omega arith, inl refl));
       weights = refl;
@@ -218,7 +213,7 @@ module _ (first : Front) where
                 seen = saw;
                 told = saw;
                 ordered = inl (reflexive (front_at first (seen_of f)));
-                holds = λ h. absurd (no_yes h);
+                holds = λ h. absurd (false≢true h);
                 spent = λ z. absurd (omega arith);
                 top = risen_low v.seen.high f.high v.top later.high (omega (arith, mine.top, high));
               })
@@ -244,7 +239,7 @@ module _ (first : Front) where
     -- who holds the turn is another than this
     held_else : (views : List View) (holder id : ℕ) (v w : View) → get_elem? views id ≡ some v → v.holds ≡ false → HeldBy holder views → HeldBy holder (set views id w)
     held_else views holder id v w at rests held =
-        let apart : holder ≢ id = λ same. no_yes (sym rests ∙ ap (λ (u : View). u.holds) (some-injective v held.0 (sym at ∙ ap (λ k. get_elem? views k) (sym same) ∙ held.1)) ∙ held.2) in
+        let apart : holder ≢ id = λ same. false≢true (sym rests ∙ ap (λ (u : View). u.holds) (some-injective v held.0 (sym at ∙ ap (λ k. get_elem? views k) (sym same) ∙ held.1)) ∙ held.2) in
         (held.0, set_else views id holder w apart ∙ held.1, held.2)
 
     -- a view is cut in two, or two are made one
@@ -265,7 +260,7 @@ module _ (first : Front) where
           free = r.free;
           taken = λ n. let t = r.taken n in let h = held_else s.views r.holder id v w at rests t.1 in (t.0, (h.0, at_longer vs (c ∷ []) r.holder h.0 h.1, h.2));
           each = each_snoc P vs c
-              (λ j. record { seen = mine.seen; told = mine.seen; ordered = inl (reflexive (front_at first v.seen)); holds = λ h. absurd (no_yes h); spent = λ z. absurd (omega arith); top = omega arith })
+              (λ j. record { seen = mine.seen; told = mine.seen; ordered = inl (reflexive (front_at first v.seen)); holds = λ h. absurd (false≢true h); spent = λ z. absurd (omega arith); top = omega arith })
               (each_set P s.views id w
               (record { seen = mine.seen; told = mine.told; ordered = mine.ordered; holds = mine.holds; spent = λ z. absurd (omega arith); top = mine.top })
               (λ j u apart e. r.each j u e));
@@ -307,7 +302,7 @@ module _ (first : Front) where
           free = r.free;
           taken = λ n. let t = r.taken n in (t.0, held_else vs r.holder other w e there rests' (held_else s.views r.holder id v m at rests t.1));
           each = each_set P vs other e
-              (record { seen = saw; told = saw; ordered = inl (reflexive first); holds = λ h. absurd (no_yes h); spent = λ _. (refl, refl, refl); top = omega arith })
+              (record { seen = saw; told = saw; ordered = inl (reflexive first); holds = λ h. absurd (false≢true h); spent = λ _. (refl, refl, refl); top = omega arith })
               (λ j u _ d. each_met j u d);
           ordered = pairs_set R vs other e (inl (reflexive first))
               (λ j u _ d. let k = each_met j u d in (inl k.seen.start, inr k.seen.start))

@@ -1,7 +1,8 @@
 //! The cases, each over an identity and a turn of its own.
 ghost use Rattle.std.specs.Prelude.{◌≡◌};
 ghost use Rattle.ks_policy.specs.Openings.{plain};
-ghost use Rattle.ks_state.specs.Standing.{StandsWithAllKept, first_front};
+ghost use Rattle.ks_machine.specs.Fronts.{first_front};
+ghost use Rattle.ks_state.specs.Standing.{StandsWithAllKept};
 
 use crate::links::Links;
 use crate::{aged_token, desks, old_password, opening};

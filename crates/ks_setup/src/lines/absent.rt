@@ -3,9 +3,13 @@ ghost use Rattle.std.specs.Prelude.{◌≡◌, ◌&&◌, [], IfOk, find, positio
 ghost use Rattle.std.specs.List.{list_any};
 ghost use Rattle.std.specs.Option.{option_copied};
 ghost use Rattle.ks_base.specs.declared.kinds.Kind.TheVariants as variant;
+ghost use Rattle.ks_base.specs.declared.grants.Actor.TheVariants as actors;
+ghost use Rattle.ks_base.specs.declared.grants.Target.TheVariants as targets;
+ghost use Rattle.ks_base.specs.Grants.{is_at_target, is_of_actor};
 ghost use Rattle.ks_base.specs.Rows.{same};
 ghost use Rattle.ks_base.specs.Tree.{is_child_of};
-ghost use Rattle.ks_setup.specs.RowLines.{absent_at, absent_line, domain_spot, group_spot, implication_at, is_domain, is_group, is_orphan, is_project, is_user, names_role, orphan_line, orphan_place, role_field, role_spot, user_spot};
+ghost use Rattle.ks_base.specs.RoleLists.{names_role};
+ghost use Rattle.ks_setup.specs.RowLines.{absent_at, absent_line, domain_spot, group_spot, implication_at, is_orphan, orphan_line, orphan_place, role_field, role_spot, user_spot};
 
 use crate::lines::spot::{Field, Spot, id_quoted, joined, located, row_name, spot_at};
 use crate::written::{Written, WrittenUser};
@@ -44,64 +48,32 @@ fn member_group(rows: &[MemberRow], group: &Id) -> Option<usize>
     rows.iter().position(|row| row.group == *group)
 }
 
-fn is_user(actor: &Actor, id: &Id) -> bool
-    ensures { result ≡ is_user id.now actor.now }
-{
-    match actor {
-        Actor::User(user) => *user == *id,
-        Actor::Group(_) => false,
-    }
-}
-
-fn is_group(actor: &Actor, id: &Id) -> bool
-    ensures { result ≡ is_group id.now actor.now }
-{
-    match actor {
-        Actor::User(_) => false,
-        Actor::Group(group) => *group == *id,
-    }
-}
-
-fn is_project(target: &Target, id: &Id) -> bool
-    ensures { result ≡ is_project id.now target.now }
-{
-    match target {
-        Target::Project(project) => *project == *id,
-        Target::Domain(_) | Target::System => false,
-    }
-}
-
-fn is_domain(target: &Target, id: &Id) -> bool
-    ensures { result ≡ is_domain id.now target.now }
-{
-    match target {
-        Target::Domain(domain) => *domain == *id,
-        Target::Project(_) | Target::System => false,
-    }
-}
-
 fn grant_user(rows: &[GrantRow], user: &Id) -> Option<usize>
-    ensures { result ≡ position (λ row. is_user user.now row.actor) rows.now }
+    ensures { result ≡ position (is_of_actor (actors.User user.now)) rows.now }
 {
-    rows.iter().position(|row| is_user(&row.actor, user))
+    let who = Actor::User(*user);
+    rows.iter().position(|row| row.is_of(&who))
 }
 
 fn grant_group(rows: &[GrantRow], group: &Id) -> Option<usize>
-    ensures { result ≡ position (λ row. is_group group.now row.actor) rows.now }
+    ensures { result ≡ position (is_of_actor (actors.Group group.now)) rows.now }
 {
-    rows.iter().position(|row| is_group(&row.actor, group))
+    let who = Actor::Group(*group);
+    rows.iter().position(|row| row.is_of(&who))
 }
 
 fn grant_project(rows: &[GrantRow], project: &Id) -> Option<usize>
-    ensures { result ≡ position (λ row. is_project project.now row.target) rows.now }
+    ensures { result ≡ position (is_at_target (targets.Project project.now)) rows.now }
 {
-    rows.iter().position(|row| is_project(&row.target, project))
+    let place = Target::Project(*project);
+    rows.iter().position(|row| row.is_at(&place))
 }
 
 fn grant_domain(rows: &[GrantRow], domain: &Id) -> Option<usize>
-    ensures { result ≡ position (λ row. is_domain domain.now row.target) rows.now }
+    ensures { result ≡ position (is_at_target (targets.Domain domain.now)) rows.now }
 {
-    rows.iter().position(|row| is_domain(&row.target, domain))
+    let place = Target::Domain(*domain);
+    rows.iter().position(|row| row.is_at(&place))
 }
 
 fn grant_role(rows: &[GrantRow], role: &Id) -> Option<usize>

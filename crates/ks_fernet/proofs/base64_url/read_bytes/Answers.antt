@@ -1,6 +1,6 @@
 use Rattle.std.proofs.Common.{arith}
+use Rattle.ks_aes_cbc.specs.Aes.{AreBytes}
 use Rattle.base64.specs.GeneralPurpose.{decoded_of}
-use Rattle.ks_fernet.specs.Base64Url.{AreBytes}
 use Rattle.ks_fernet.proofs.Spelling.{bytes_of-whole, bytes_of-other}
 use Rattle.ks_fernet.proofs.base64_url.read_bytes.Goals as goal
 

@@ -1,6 +1,7 @@
 use Rattle.std.proofs.Common.{◌≡◌, rules, ℕ, List, ◌++◌, ◌∙◌, ap}
+use Rattle.ks_aes_cbc.specs.Aes.{AreBytes}
 use Rattle.ks_hmac.specs.Hmac.{hmac_of}
-use Rattle.ks_fernet.specs.Base64Url.{AreBytes, bare_text}
+use Rattle.ks_fernet.specs.Base64Url.{bare_text}
 use Rattle.ks_fernet.specs.Opening.{signed_bytes}
 use Rattle.ks_fernet.proofs.Sealed.{AreSealed, if_ok_equal, sealed_bytes_are}
 use Rattle.ks_fernet.proofs.sealing.seal.Goals as goal

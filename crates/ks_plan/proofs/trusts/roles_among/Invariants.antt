@@ -1,6 +1,6 @@
 -- The roles so far, and those that are left.
 use Rattle.std.proofs.Common.{◌≡◌, ◌++◌, drop, filter}
-use Rattle.ks_base.specs.Trusts.{has_id}
+use Rattle.ks_base.specs.Rows.{has_id}
 use Rattle.ks_plan.proofs.trusts.roles_among.Given as goal
 
 abbrev pub invariant-loop-role : goal.invariant-loop-role

@@ -1,5 +1,5 @@
 use Rattle.std.proofs.Common.{◌∙◌}
-use Rattle.ks_routes.proofs.IdLemmas.{is_id_read}
+use Rattle.ks_base.proofs.IdLemmas.{is_id_read}
 use Rattle.ks_routes.proofs.pattern.is_id.Goals as goal
 
 pub returns : goal.returns

@@ -1,6 +1,7 @@
 use Rattle.std.proofs.Common.{◌≡◌, length, map, sym, ◌∙◌, arith}
 use Rattle.std.proofs.lemmas.List.{length-map}
-use Rattle.ks_server.proofs.SeatLemmas.{have_worked, left_is, map_twice}
+use Rattle.ks_base.proofs.ListLemmas.{map_twice}
+use Rattle.ks_server.proofs.SeatLemmas.{have_worked, left_is}
 use Rattle.ks_server.specs.Workers.{Place}
 use Rattle.ks_server.specs.steps.Seats.{seat_state, seated}
 use Rattle.ks_server.proofs.workers.serve.Goals as goal

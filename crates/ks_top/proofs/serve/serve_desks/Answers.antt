@@ -1,8 +1,9 @@
 use Rattle.std.proofs.Common.{◌≡◌, ◌++◌, length, min, refl, subst, ap, ◌∙◌, arith}
+use Rattle.ks_machine.specs.Fronts.{first_front}
 use denote.Param.Send.{sendable}
 use Rattle.ks_policy.specs.Openings.{plain}
 use Rattle.ks_server.specs.Workers.{Place}
-use Rattle.ks_state.specs.Standing.{StandsWithAllKept, first_front}
+use Rattle.ks_state.specs.Standing.{StandsWithAllKept}
 use Rattle.ks_state.proofs.SendLemmas.{identity_send}
 use Rattle.ks_top.proofs.ServeLemmas.{Left, appended, at_first, had_no_room, left_all, joined, left_length, grown}
 use Rattle.ks_top.proofs.TalkLemmas.{first_is}

@@ -1,6 +1,6 @@
 use Rattle.std.proofs.Common.{refl, rules, subst}
+use Rattle.ks_machine.specs.Fronts.{first_front}
 use Rattle.ks_policy.specs.Openings.{plain}
-use Rattle.ks_state.specs.Standing.{first_front}
 use Rattle.ks_top.proofs.TalkLemmas.{first_is, served}
 use Rattle.ks_turn.specs.Passes.{Ends}
 use Rattle.ks_top.proofs.talk.serve_one.Goals as goal

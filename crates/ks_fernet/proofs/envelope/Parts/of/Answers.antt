@@ -1,6 +1,6 @@
 use Rattle.std.proofs.Common.{arith, ap, ◌∙◌}
 use Rattle.std.specs.Int.{w64, from_be_bytes}
-use Rattle.ks_fernet.specs.Base64Url.{AreBytes}
+use Rattle.ks_aes_cbc.specs.Aes.{AreBytes}
 use Rattle.ks_fernet.proofs.Tokens.{AreCut, cut_ciphertext, cut_iv, cut_signed, cut_time}
 use Rattle.ks_fernet.proofs.envelope.Parts.of.Goals as goal
 

@@ -1,6 +1,7 @@
 use Rattle.std.proofs.Common.{◌∙◌, sym, length, eqb-true}
+use Rattle.ks_base.proofs.ListLemmas.{above_zero}
 use Rattle.ks_rule.specs.Seen.{seen}
-use Rattle.ks_rule.proofs.TokenLemmas.{next_closing, next_kept, not_empty}
+use Rattle.ks_rule.proofs.TokenLemmas.{next_closing, next_kept}
 use Rattle.ks_rule.proofs.tokens.Tokens.next_of_word.Goals as goal
 
 pub returns-then-is_empty-clause-next : goal.returns-then-is_empty-clause-next
@@ -13,7 +14,7 @@ returns-then-is_empty-clause-next c =
 
 pub returns-clause-next : goal.returns-clause-next
 returns-clause-next c =
-    let some = not_empty (length c.without_closes-kept.result.now) (sym c.is_empty.ensures ∙ c.if-is_empty.false) in
+    let some = above_zero (length c.without_closes-kept.result.now) (sym c.is_empty.ensures ∙ c.if-is_empty.false) in
     let next =
     next_kept c.args.text.now c.cut_word.result.0.now c.cut_word.result.1.now c.without_closes-kept.result.now (seen c.of.result) c.requires.word c.cut_word.ensures.word c.cut_word.ensures.behind c.without_closes-kept.ensures.kept some c.of.ensures.seen
     in

@@ -1,8 +1,9 @@
 use Rattle.std.proofs.Common.{subst, sym}
+use Rattle.ks_machine.specs.Fronts.{first_front}
 use Rattle.ks_policy.specs.Openings.{plain}
 use Rattle.ks_opening.specs.Opened.{state_of}
 use Rattle.ks_state.specs.Shown.{Shown}
-use Rattle.ks_state.specs.Standing.{Stands, first_front}
+use Rattle.ks_state.specs.Standing.{Stands}
 use Rattle.ks_state.proofs.OpenLemmas.{settings_are, stands_first}
 use Rattle.ks_state.proofs.identity.Identity.open.Goals as goal
 

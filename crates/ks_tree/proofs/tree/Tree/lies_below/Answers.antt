@@ -3,7 +3,7 @@ use Rattle.std.specs.List.{find}
 use Rattle.std.specs.Option.{is_some}
 use Rattle.ks_base.specs.Rows.{same}
 use Rattle.ks_base.specs.Tree.{above}
-use Rattle.ks_tree.proofs.WalkLemmas.{any_found}
+use Rattle.ks_base.proofs.ListLemmas.{any_found}
 use Rattle.ks_tree.proofs.tree.Tree.lies_below.Goals as goal
 
 pub returns : goal.returns

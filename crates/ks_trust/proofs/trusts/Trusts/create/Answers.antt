@@ -1,5 +1,5 @@
 use Rattle.std.proofs.Common.{sym}
-use Rattle.ks_trust.proofs.RowChanges.{made_chained, made_new}
+use Rattle.ks_base.proofs.TrustLemmas.{made_chained, made_new}
 use Rattle.ks_trust.proofs.trusts.Trusts.create.Goals as goal
 
 pub add-requires-clause-new : goal.add-requires-clause-new

@@ -1,8 +1,8 @@
-use Rattle.std.proofs.Common.{List, sym, ap, subst, ◌∙◌}
+use Rattle.std.proofs.Common.{List, sym, ap, ◌∙◌}
 use Rattle.ks_base.specs.declared.trusts.TrustRow.{TrustRow}
-use Rattle.ks_base.specs.Tables.{id_cmp, IsAscending}
-use Rattle.ks_base.specs.Trusts.{AreChained, use_fault, use_trust}
-use Rattle.ks_trust.proofs.RowChanges.{ascending_used, chained_used, set_used}
+use Rattle.ks_base.specs.Trusts.{use_fault, use_trust}
+use Rattle.ks_base.proofs.TrustLemmas.{ascending_used, chained_used}
+use Rattle.ks_trust.proofs.RowChanges.{set_used}
 use Rattle.ks_trust.proofs.trusts.Trusts.use_one.Goals as goal
 
 pub invariant_of-self : goal.invariant_of-self
