@@ -28,6 +28,8 @@ pub const FEWEST_KEYS: u32 = 2;
 pub const DEFAULT_KEYS: u32 = 3;
 /// The highest index of a key.
 pub const LAST_KEY_INDEX: u32 = 999_999_999;
+/// Bytes of a file of a key.
+pub const KEY_FILE_BYTES: usize = 64;
 /// Entries of the journal that an identity keeps.
 pub const ENTRIES: usize = 65_536;
 

@@ -4,7 +4,7 @@ use Rattle.std.specs.Prelude.{◌≡◌, ℕ, ◌≤◌, ◌==◌, nat_le, nat_l
 use Rattle.ks_base.specs.declared.faults.KeysFault.{KeysFault}
 use Rattle.ks_base.specs.declared.faults.KeysFault.TheVariants.{Failed, NoKeys, BadKey, TooMany, AlreadySet, IndexEnd, Memory}
 use Rattle.ks_base.specs.declared.key.Key.{Key}
-use Rattle.ks_base.specs.declared.limits.TheConstants.{KEYS}
+use Rattle.ks_base.specs.declared.limits.TheConstants.{KEYS, KEY_FILE_BYTES}
 use Rattle.ks_fernet.specs.KeyText.{key_of}
 use Rattle.ks_outside.specs.Files.{AreIndices, KeyFile}
 
@@ -14,9 +14,9 @@ line_of [] = []
 line_of (byte ∷ []) = if byte == 10 then [] else byte ∷ []
 line_of (byte ∷ next ∷ more) = byte ∷ line_of (next ∷ more)
 
--- the key that a content is the text of, with at most one line feed behind it; a content of more than 64 bytes is none
+-- the key that a content is the text of, with at most one line feed behind it; a longer content is none
 unfoldable pub key_in_file : List ℕ → Option Key
-key_in_file content = if nat_le (length content) 64 then key_of (line_of content) else None
+key_in_file content = if nat_le (length content) KEY_FILE_BYTES then key_of (line_of content) else None
 
 abbrev pub with_key : ℕ → Option Key → Result (List (ℕ × Key)) KeysFault → Result (List (ℕ × Key)) KeysFault
 with_key index None more = Err (BadKey index)
@@ -50,4 +50,8 @@ AreFolderKeys keys = (1 ≤ length keys) × (length keys ≤ KEYS) × AreIndices
 abbrev pub IsReadingFault : KeysFault → Type 0
 IsReadingFault AlreadySet = ⊥
 IsReadingFault IndexEnd = ⊥
-IsReadingFault fault = Unit {0}
+IsReadingFault Failed = Unit {0}
+IsReadingFault NoKeys = Unit {0}
+IsReadingFault (BadKey index) = Unit {0}
+IsReadingFault TooMany = Unit {0}
+IsReadingFault Memory = Unit {0}

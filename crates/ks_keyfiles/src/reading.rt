@@ -4,7 +4,7 @@ ghost use Rattle.ks_outside.specs.Files.{KeyFile, OnlyLooks, AreIndices, indices
 ghost use Rattle.ks_keyfiles.specs.Folders.{ReadsAs, AreFolderKeys, IsReadingFault, folder_of, keys_in, key_in_file, line_of};
 ghost use Rattle.ks_keyfiles.specs.Readings.{IsCallFault, key_at};
 
-use ks_base::limits::KEYS;
+use ks_base::limits::{KEY_FILE_BYTES, KEYS};
 use ks_base::{Key, KeyList, KeysFault};
 use ks_fernet::{KeyText, read_key};
 use ks_outside::{DirFault, KeyDir};
@@ -61,7 +61,7 @@ fn read_file<D: KeyDir>(dir: &mut D, index: u32) -> Result<Option<Key>, KeysFaul
     ensures causes { IfErr result IsCallFault }
     ensures looks { OnlyLooks (result ≡ Err KeysFault.Failed) (D.dir dir.old) (D.dir dir.new) }
 {
-    let mut piece = [0; 64];
+    let mut piece = [0; KEY_FILE_BYTES];
     match dir.read(index, &mut piece) {
         Ok(Some(count)) => Ok(key_in(&piece[..count])),
         Ok(None) => Ok(None),
@@ -71,7 +71,7 @@ fn read_file<D: KeyDir>(dir: &mut D, index: u32) -> Result<Option<Key>, KeysFaul
 
 /// The key in a file of this content.
 fn key_in(content: &[u8]) -> Option<Key>
-    requires { length content.now ≤ 64 }
+    requires { length content.now ≤ KEY_FILE_BYTES }
     ensures { result ≡ key_in_file content.now }
 {
     match read_key(without_line_feed(content)) {

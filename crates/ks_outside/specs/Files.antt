@@ -2,7 +2,7 @@
 -- index.
 use Rattle.std.specs.Prelude.{◌≡◌, ℕ, ◌+◌, ◌≤◌, nat_lt, nat_le, ◌==◌, List, [], ◌∷◌, ◌++◌, length, take, map, filter, find, Option, Some, None, Result, Ok, Err, ◌⊎◌, if◌then◌else◌}
 use Rattle.std.specs.Option.{option_map}
-use Rattle.ks_base.specs.declared.limits.TheConstants.{LAST_KEY_INDEX}
+use Rattle.ks_base.specs.declared.limits.TheConstants.{LAST_KEY_INDEX, KEY_FILE_BYTES}
 use Rattle.ks_outside.specs.Counts.{Counts}
 
 -- an index and its content
@@ -69,7 +69,7 @@ Changes before after now (Err _) = (now ≡ Some before) ⊎ (now ≡ Some after
 -- a content of at most 64 bytes
 abbrev pub short_content : Option (List ℕ) → Option (List ℕ)
 short_content None = None
-short_content (Some content) = if nat_le (length content) 64 then Some content else None
+short_content (Some content) = if nat_le (length content) KEY_FILE_BYTES then Some content else None
 
 -- what a read answers: none, or a content's length, with the content in the front of the piece
 abbrev pub Gives : Option (List ℕ) → List ℕ → Option ℕ → Type 0

@@ -6,7 +6,7 @@ ghost use Rattle.ks_outside.specs.Real.{untold_dir};
 use crate::files::{indices, put};
 use crate::real_source::read_uninterrupted;
 use crate::{DirFault, Failed, KeyDir};
-use ks_base::limits::LAST_KEY_INDEX;
+use ks_base::limits::{KEY_FILE_BYTES, LAST_KEY_INDEX};
 use ks_base::{Bytes, Memory};
 use std::alloc::Global;
 use std::fs::{DirEntry, File, OpenFile, OpenOptions};
@@ -73,7 +73,11 @@ impl<R: Files + AllocGlobal + Clone + Drop> KeyDir for Folder<'_, R> {
         self.counted(answer)
     }
 
-    fn read(&mut self, index: u32, into: &mut [u8; 64]) -> Result<Option<usize>, DirFault> {
+    fn read(
+        &mut self,
+        index: u32,
+        into: &mut [u8; KEY_FILE_BYTES],
+    ) -> Result<Option<usize>, DirFault> {
         let answer = read(self.rt, self.path.as_str(), index, into);
         self.counted(answer)
     }
@@ -113,9 +117,9 @@ fn read<R: Files + AllocGlobal>(
     rt: &R,
     path: &str,
     index: u32,
-    into: &mut [u8; 64],
+    into: &mut [u8; KEY_FILE_BYTES],
 ) -> Result<Option<usize>, DirFault>
-    ensures { IfOk result (λ found. IfSome found (λ n. n ≤ 64)) }
+    ensures { IfOk result (λ found. IfSome found (λ n. n ≤ KEY_FILE_BYTES)) }
 {
     if index > LAST_KEY_INDEX {
         return Ok(None);
@@ -126,7 +130,7 @@ fn read<R: Files + AllocGlobal>(
     };
     let mut held = [0; 65];
     let count = read_front(&mut file, &mut held)?;
-    if count > 64 {
+    if count > KEY_FILE_BYTES {
         return Ok(None);
     }
     into[..count].copy_from_slice(&held[..count]);

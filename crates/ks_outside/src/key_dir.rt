@@ -3,6 +3,7 @@ ghost use Rattle.ks_outside.specs.Counts.{Counts};
 ghost use Rattle.ks_outside.specs.Files.{KeyFile, DirState, OnlyLooks, AreIndices, IsFree, Stands, Changes, Gives, indices_of, content_at, short_content, with_file, without};
 
 use crate::DirFault;
+use ks_base::limits::KEY_FILE_BYTES;
 
 /// A folder of key files: a finite map from an index, 0 to 999,999,999, to a content. After an error a
 /// change was made whole or not at all.
@@ -17,8 +18,12 @@ pub trait KeyDir {
 
     /// Reads a file into the front of a piece, and says how long its content is. It is `None` where the
     /// index is missing or its content is longer than 64 bytes.
-    fn read(&mut self, index: u32, into: &mut [u8; 64]) -> Result<Option<usize>, DirFault>
-        ensures within { IfOk result (λ found. IfSome found (λ n. n ≤ 64)) }
+    fn read(
+        &mut self,
+        index: u32,
+        into: &mut [u8; KEY_FILE_BYTES],
+    ) -> Result<Option<usize>, DirFault>
+        ensures within { IfOk result (λ found. IfSome found (λ n. n ≤ KEY_FILE_BYTES)) }
         ensures told { IfOk result (λ found. (told : List KeyFile) → (dir self.old).files ≡ Some told → Gives (short_content (content_at index told)) into.new found) }
         ensures looks { OnlyLooks (result ≡ Err DirFault.Failed) (dir self.old) (dir self.new) };
 

@@ -7,6 +7,7 @@ ghost use Rattle.ks_outside.specs.InMemory.{Called, told_dir};
 use crate::calls::Calls;
 use crate::files::{filed, find_place, indices, moved, put, short, take_out};
 use crate::{DirFault, Failed, KeyDir};
+use ks_base::limits::KEY_FILE_BYTES;
 use ks_base::{Bytes, Memory};
 use std::alloc::Global;
 use std::marker::Model;
@@ -121,8 +122,12 @@ impl KeyDir for MemoryDir {
         Ok(indices(alloc, self.files.as_slice())?)
     }
 
-    fn read(&mut self, index: u32, into: &mut [u8; 64]) -> Result<Option<usize>, DirFault>
-        ensures within { IfOk result (λ found. IfSome found (λ n. n ≤ 64)) }
+    fn read(
+        &mut self,
+        index: u32,
+        into: &mut [u8; KEY_FILE_BYTES],
+    ) -> Result<Option<usize>, DirFault>
+        ensures within { IfOk result (λ found. IfSome found (λ n. n ≤ KEY_FILE_BYTES)) }
         ensures told { IfOk result (λ found. (told : List KeyFile) → Some self.old.files ≡ Some told → Gives (short_content (content_at index told)) into.new found) }
         ensures looks { OnlyLooks (result ≡ Err DirFault.Failed) (told_dir self.old) (told_dir self.new) }
 

@@ -5,6 +5,7 @@ use Rattle.std.specs.declared.alloc.Global.{Global}
 use Rattle.serde_json.specs.Data.{Data, Members, no_members, member}
 use Rattle.serde_json.specs.Find.{as_object, as_str}
 use Rattle.ks_base.specs.Tables.{id_cmp, put_row}
+use Rattle.ks_base.specs.declared.limits.TheConstants.{POLICY_RULES}
 use Rattle.ks_rule.specs.Grammar.{IsRule}
 use Rattle.ks_policy.specs.declared.fault.PolicyFault.{PolicyFault}
 use Rattle.ks_policy.specs.declared.fault.PolicyFault.TheVariants.{NotObject, NotText, Cycle, TooMany, Memory}
@@ -23,9 +24,9 @@ over texts no_members = Ok texts
 over texts (member name value members) =
     option_map_or (λ text. over (put_text name text texts) members) (as_str value) (Err (NotText name))
 
--- at most 1,024 rules, the defaults among them
+-- at most POLICY_RULES rules, the defaults among them
 abbrev pub within_limit : Result (List RuleText) PolicyFault → Result (List RuleText) PolicyFault
-within_limit (Ok texts) = if nat_le (length texts) 1024 then Ok texts else Err TooMany
+within_limit (Ok texts) = if nat_le (length texts) POLICY_RULES then Ok texts else Err TooMany
 within_limit (Err fault) = Err fault
 
 -- the texts of the rules, or the first fault

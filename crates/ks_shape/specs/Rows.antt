@@ -72,7 +72,11 @@ has_body kind.Project = true
 has_body kind.User = true
 has_body kind.Group = true
 has_body kind.Role = true
-has_body _ = false
+has_body kind.Implication = false
+has_body kind.Grant = false
+has_body kind.Member = false
+has_body kind.Trust = false
+has_body kind.Event = false
 
 abbrev pub made_of : Kind → Bool → Place → Result Made ShapeFault
 made_of kind.Domain new body = domain_of new body
