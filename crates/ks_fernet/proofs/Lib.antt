@@ -1,3 +1,4 @@
+pub mod AnswerLemmas
 pub mod DecodedBytes
 pub mod Spelling
 pub mod KeyTexts

@@ -10,3 +10,4 @@ pub mod AllFacts
 pub mod TokenLemmas
 pub mod EndedLemmas
 pub mod RefusedLemmas
+pub mod OpenedLemmas

@@ -1,6 +1,6 @@
 //! What holds of the definitions of fronts, and of the lists of roles. Each law is the contract of a function that does
 //! nothing.
-ghost use Rattle.ks_machine.specs.FactLaws.{AllFactsSuffice, FewFactsSuffice};
+ghost use Rattle.ks_machine.specs.FactLaws.{AllFactsSuffice, FewFactsSuffice, KeysOpenAlike};
 ghost use Rattle.ks_machine.specs.TokenLaws.{HasItsTrust, IsRefusedEverAfter, IsTrustBound};
 ghost use Rattle.ks_machine.specs.Laws.{AnswersAtCuts, AreComparable, AreOrderedByNumbers, AreSame, CutsComeBefore, CutsGoOn, EventsAreCutOff, EventsGoOn, EventsKeepSound, GoesOn, IsReflexive, IsTransitive, ReplaysEachChange, RolesAreEffective, RolesAreImplied};
 
@@ -58,6 +58,13 @@ pub fn few_facts_suffice()
 #[tactic(auto, using(crate::proofs::AllFacts::all_facts))]
 pub fn all_facts_suffice()
     ensures { AllFactsSuffice }
+{}
+
+/// With all facts the keys of a ring find in a text exactly what the same keys find alone; so a call opens a token as a check
+/// of it does.
+#[tactic(auto, using(crate::proofs::OpenedLemmas::keys_open_alike))]
+pub fn keys_open_alike()
+    ensures { KeysOpenAlike }
 {}
 
 /// The roles of a valid token of a trust are among those that are effective for the trust's first trustor at the

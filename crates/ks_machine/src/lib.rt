@@ -29,8 +29,8 @@ pub use command::Command;
 pub use derived::Derived;
 pub use laws::{
     all_facts_suffice, calls_go_on, changes_are_replayed, cuts_are_fronts, few_facts_suffice,
-    fronts_are_ordered, journals_go_on, revoked_tokens_stay_refused, roles_are_effective,
-    roles_are_implied, trusts_are_bounded,
+    fronts_are_ordered, journals_go_on, keys_open_alike, revoked_tokens_stay_refused,
+    roles_are_effective, roles_are_implied, trusts_are_bounded,
 };
 pub use lines::{ReadToken, first_answer, read_payload, token_lines};
 pub use reply::Reply;
