@@ -6,7 +6,7 @@ use Rattle.ks_base.specs.declared.faults.KeysFault.TheVariants.{Failed, NoKeys, 
 use Rattle.ks_base.specs.declared.key.Key.{Key}
 use Rattle.ks_outside.specs.Files.{AreIndices, IsFree, KeyFile, indices_of}
 use Rattle.ks_keyfiles.specs.Readings.{IsCallFault}
-use Rattle.ks_keyfiles.specs.Rotations.{AreRotated, IsRotating, Rotates, excess, highest, promoted, removals, removed, rotated, rotation_fault, staged_anew}
+use Rattle.ks_keyfiles.specs.Rotations.{AreRotated, IsRotating, RotatesFiles, excess, highest, promoted, removals, removed, rotated, rotation_fault, staged_anew}
 use Rattle.ks_keyfiles.specs.Setups.{IsOneOf, key_text}
 use Rattle.ks_keyfiles.specs.steps.Removals.{AreOldest, promoted_indices}
 use Rattle.ks_keyfiles.proofs.IndexLemmas.{dropped_rises, promoted_rises}
@@ -56,7 +56,7 @@ gone_is_excess new most files were now gone rising small listed is least many =
 
 -- a rotation that stopped while the oldest went
 stopped : (new : Key) (most : ℕ) (files : List KeyFile) (now : Option (List KeyFile)) (fault : KeysFault) → IsCallFault fault → IsRotating new most files now
-    → Rotates new most files now (Err fault)
+    → RotatesFiles new most files now (Err fault)
 stopped new most files now Failed cause left = left
 stopped new most files now Memory cause left = left
 stopped new most files now NoKeys cause left = absurd cause
@@ -72,12 +72,12 @@ removing new most n files now none many (inr left) = inr (none, inr (inr (subst 
 
 pub removing_stopped : (new : Key) (most n : ℕ) (files : List KeyFile) (now : Option (List KeyFile)) (fault : KeysFault) → rotation_fault (indices_of files) ≡ None
     → n ≡ excess most (staged_anew new files) → IsCallFault fault → (now ≡ Some (staged_anew new files)) ⊎ IsOneOf (removals n (staged_anew new files)) now
-    → Rotates new most files now (Err fault)
+    → RotatesFiles new most files now (Err fault)
 removing_stopped new most n files now fault none many cause left = stopped new most files now fault cause (removing new most n files now none many left)
 
 -- or for want of memory behind all
 pub answer_lost : (new : Key) (most n : ℕ) (files : List KeyFile) (now : Option (List KeyFile)) (fault : KeysFault) → rotation_fault (indices_of files) ≡ None
-    → n ≡ excess most (staged_anew new files) → fault ≡ Memory → now ≡ Some (removed n (staged_anew new files)) → Rotates new most files now (Err fault)
+    → n ≡ excess most (staged_anew new files) → fault ≡ Memory → now ≡ Some (removed n (staged_anew new files)) → RotatesFiles new most files now (Err fault)
 answer_lost new most n files now fault none many memory is =
     rw memory (removing new most n files now none many (left_by n n (staged_anew new files) now (omega arith) is))
 

@@ -10,7 +10,7 @@ use Rattle.ks_base.specs.declared.key.Key.{Key}
 use Rattle.ks_fernet.specs.Base64Url.{padded_text}
 use Rattle.ks_outside.specs.Files.{KeyFile, Changes, IsFree, indices_of, with_file}
 use Rattle.ks_keyfiles.specs.Readings.{IsCallFault}
-use Rattle.ks_keyfiles.specs.Setups.{IsSettingUp, SetsUp, begun, key_text, setup_fault}
+use Rattle.ks_keyfiles.specs.Setups.{IsSettingUp, SetsUpFiles, begun, key_text, setup_fault}
 
 padded_is : (bytes : List ℕ) → encode_of url_safe bytes ≡ padded_text bytes
 unfolding padded_text
@@ -62,7 +62,7 @@ second_is_free primary were files now none made told =
 -- what failed in the middle leaves the folder as after one of the steps
 
 stopped : (staged primary : Key) (files : List KeyFile) (now : Option (List KeyFile)) (fault : KeysFault) → IsCallFault fault
-    → IsSettingUp staged primary files now → SetsUp staged primary files now (Err fault)
+    → IsSettingUp staged primary files now → SetsUpFiles staged primary files now (Err fault)
 stopped staged primary files now Failed cause left = left
 stopped staged primary files now Memory cause left = left
 stopped staged primary files now NoKeys cause left = absurd cause
@@ -72,14 +72,14 @@ stopped staged primary files now AlreadySet cause left = absurd cause
 stopped staged primary files now IndexEnd cause left = absurd cause
 
 pub first_failed : (staged primary : Key) (files : List KeyFile) (now : Option (List KeyFile)) (fault : KeysFault) → files ≡ [] → IsCallFault fault
-    → (now ≡ Some files) ⊎ (now ≡ Some (with_file 1 (key_text primary) files)) → SetsUp staged primary files now (Err fault)
+    → (now ≡ Some files) ⊎ (now ≡ Some (with_file 1 (key_text primary) files)) → SetsUpFiles staged primary files now (Err fault)
 first_failed staged primary [] now fault none cause (inl same) = stopped staged primary [] now fault cause (inl same)
 first_failed staged primary [] now fault none cause (inr made) = stopped staged primary [] now fault cause (inr (refl, inl made))
 first_failed staged primary (file ∷ files) now fault none cause changes = cc
 
 pub second_done : (staged primary : Key) (files : List KeyFile) (now : Option (List KeyFile)) (r : Result (Unit {0}) KeysFault) → files ≡ []
     → IfErr r IsCallFault → Changes (with_file 1 (key_text primary) files) (with_file 0 (key_text staged) (with_file 1 (key_text primary) files)) now r
-    → SetsUp staged primary files now r
+    → SetsUpFiles staged primary files now r
 second_done staged primary [] now (Ok done) none cause changes = (refl, changes)
 second_done staged primary [] now (Err fault) none cause (inl same) = stopped staged primary [] now fault cause (inr (refl, inl same))
 second_done staged primary [] now (Err fault) none cause (inr made) = stopped staged primary [] now fault cause (inr (refl, inr (inl made)))

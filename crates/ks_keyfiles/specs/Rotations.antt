@@ -65,16 +65,16 @@ abbrev pub IsRotating : Key → ℕ → List KeyFile → Option (List KeyFile) �
 IsRotating new most files now = (now ≡ Some files) ⊎ ((rotation_fault (indices_of files) ≡ None) × IsOneOf (rotation new most files) now)
 
 -- a rotation of a folder with these files: what it answers, and what is there then
-abbrev pub Rotates : Key → ℕ → List KeyFile → Option (List KeyFile) → Result (Vec ℕ Global) KeysFault → Type 0
-Rotates new most files now (Ok indices) =
+abbrev pub RotatesFiles : Key → ℕ → List KeyFile → Option (List KeyFile) → Result (Vec ℕ Global) KeysFault → Type 0
+RotatesFiles new most files now (Ok indices) =
     (rotation_fault (indices_of files) ≡ None) × (now ≡ Some (rotated new most files)) × (indices.items ≡ indices_of (rotated new most files))
-Rotates new most files now (Err Failed) = IsRotating new most files now
-Rotates new most files now (Err Memory) = IsRotating new most files now
-Rotates new most files now (Err NoKeys) = (rotation_fault (indices_of files) ≡ Some NoKeys) × (now ≡ Some files)
-Rotates new most files now (Err IndexEnd) = (rotation_fault (indices_of files) ≡ Some IndexEnd) × (now ≡ Some files)
-Rotates new most files now (Err (BadKey index)) = ⊥
-Rotates new most files now (Err TooMany) = ⊥
-Rotates new most files now (Err AlreadySet) = ⊥
+RotatesFiles new most files now (Err Failed) = IsRotating new most files now
+RotatesFiles new most files now (Err Memory) = IsRotating new most files now
+RotatesFiles new most files now (Err NoKeys) = (rotation_fault (indices_of files) ≡ Some NoKeys) × (now ≡ Some files)
+RotatesFiles new most files now (Err IndexEnd) = (rotation_fault (indices_of files) ≡ Some IndexEnd) × (now ≡ Some files)
+RotatesFiles new most files now (Err (BadKey index)) = ⊥
+RotatesFiles new most files now (Err TooMany) = ⊥
+RotatesFiles new most files now (Err AlreadySet) = ⊥
 
 -- the indices of a folder that was rotated, told or not: the staged one's, and at most `most` in all
 abbrev pub AreRotated : ℕ → List ℕ → Type 0

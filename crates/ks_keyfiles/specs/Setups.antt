@@ -38,15 +38,15 @@ abbrev pub IsSettingUp : Key → Key → List KeyFile → Option (List KeyFile) 
 IsSettingUp staged primary files now = (now ≡ Some files) ⊎ ((setup_fault files ≡ None) × IsOneOf (setting staged primary) now)
 
 -- a setup of a folder with these files: what it answers, and what is there then
-abbrev pub SetsUp : Key → Key → List KeyFile → Option (List KeyFile) → Result (Unit {0}) KeysFault → Type 0
-SetsUp staged primary files now (Ok done) = (setup_fault files ≡ None) × (now ≡ Some (set_up staged primary))
-SetsUp staged primary files now (Err Failed) = IsSettingUp staged primary files now
-SetsUp staged primary files now (Err Memory) = IsSettingUp staged primary files now
-SetsUp staged primary files now (Err AlreadySet) = (setup_fault files ≡ Some AlreadySet) × (now ≡ Some files)
-SetsUp staged primary files now (Err NoKeys) = ⊥
-SetsUp staged primary files now (Err (BadKey index)) = ⊥
-SetsUp staged primary files now (Err TooMany) = ⊥
-SetsUp staged primary files now (Err IndexEnd) = ⊥
+abbrev pub SetsUpFiles : Key → Key → List KeyFile → Option (List KeyFile) → Result (Unit {0}) KeysFault → Type 0
+SetsUpFiles staged primary files now (Ok done) = (setup_fault files ≡ None) × (now ≡ Some (set_up staged primary))
+SetsUpFiles staged primary files now (Err Failed) = IsSettingUp staged primary files now
+SetsUpFiles staged primary files now (Err Memory) = IsSettingUp staged primary files now
+SetsUpFiles staged primary files now (Err AlreadySet) = (setup_fault files ≡ Some AlreadySet) × (now ≡ Some files)
+SetsUpFiles staged primary files now (Err NoKeys) = ⊥
+SetsUpFiles staged primary files now (Err (BadKey index)) = ⊥
+SetsUpFiles staged primary files now (Err TooMany) = ⊥
+SetsUpFiles staged primary files now (Err IndexEnd) = ⊥
 
 -- the faults of a setup
 abbrev pub IsSetupFault : KeysFault → Type 0

@@ -5,7 +5,7 @@ ghost use Rattle.ks_base.specs.declared.limits.TheConstants.{LAST_KEY_INDEX};
 ghost use Rattle.ks_outside.specs.Counts.{Counts};
 ghost use Rattle.ks_outside.specs.Files.{KeyFile, Changes, AreIndices, indices_of};
 ghost use Rattle.ks_keyfiles.specs.Readings.{IsCallFault};
-ghost use Rattle.ks_keyfiles.specs.Rotations.{AreRotated, IsRotationFault, Rotates, highest, promoted, rotation_fault};
+ghost use Rattle.ks_keyfiles.specs.Rotations.{AreRotated, IsRotationFault, RotatesFiles, highest, promoted, rotation_fault};
 ghost use Rattle.ks_keyfiles.specs.steps.Removals.{AreOldest, Removes, promoted_indices};
 
 use crate::writing::{list, remove, rename, write};
@@ -25,7 +25,7 @@ use std::alloc::Global;
 pub fn rotate_dir<D: KeyDir>(dir: &mut D, new: Key, max: u32) -> Result<Vec<u32>, KeysFault>
     requires least { 2 ≤ max }
     requires most { max ≤ 32 }
-    ensures told { (files : List KeyFile) → (D.dir dir.old).files ≡ Some files → Rotates new max files (D.dir dir.new).files result }
+    ensures told { (files : List KeyFile) → (D.dir dir.old).files ≡ Some files → RotatesFiles new max files (D.dir dir.new).files result }
     ensures indices { IfOk result (λ indices. AreRotated max indices.items) }
     ensures causes { IfErr result IsRotationFault }
     ensures faults { Counts (result ≡ Err faults.Failed) (D.dir dir.old).faults (D.dir dir.new).faults }

@@ -5,7 +5,7 @@ ghost use Rattle.ks_outside.specs.Counts.{Counts};
 ghost use Rattle.ks_outside.specs.Files.{KeyFile, IsFree, Stands, Changes, OnlyLooks, AreIndices, content_at, indices_of, with_file, without};
 ghost use Rattle.ks_fernet.specs.Base64Url.{padded_text};
 ghost use Rattle.ks_keyfiles.specs.Readings.{IsCallFault};
-ghost use Rattle.ks_keyfiles.specs.Setups.{IsSetupFault, SetsUp, key_text};
+ghost use Rattle.ks_keyfiles.specs.Setups.{IsSetupFault, SetsUpFiles, key_text};
 
 use crate::reading::fault_of;
 use base64::engine::general_purpose::URL_SAFE;
@@ -108,7 +108,7 @@ pub(crate) fn remove<D: KeyDir>(dir: &mut D, index: u32) -> Result<(), KeysFault
 /// `AlreadySet` where the folder lists an index, and then nothing is changed. A fault of the folder is `Failed`, and
 /// want of memory `Memory`; after either in the middle the first key may stand alone.
 pub fn setup<D: KeyDir>(dir: &mut D, staged: Key, primary: Key) -> Result<(), KeysFault>
-    ensures told { (files : List KeyFile) → (D.dir dir.old).files ≡ Some files → SetsUp staged primary files (D.dir dir.new).files result }
+    ensures told { (files : List KeyFile) → (D.dir dir.old).files ≡ Some files → SetsUpFiles staged primary files (D.dir dir.new).files result }
     ensures causes { IfErr result IsSetupFault }
     ensures faults { Counts (result ≡ Err faults.Failed) (D.dir dir.old).faults (D.dir dir.new).faults }
 {

@@ -53,12 +53,12 @@ use Rattle.ks_machine.specs.Fit.{AreFields, IsFolderFor, IsGrant}
 use Rattle.ks_machine.specs.Keys.{keys_read, load_keys, rotate_keys}
 use Rattle.ks_machine.specs.Lawful.{ActorStands, Fits, IsStanding, TakesKeys, TargetStands}
 use Rattle.ks_machine.specs.Listings.{delete, events, get, is_domain_listed, is_group_listed, is_project_listed, is_role_listed, is_user_listed, list, row_at, rows_listed}
-use Rattle.ks_machine.specs.Members.{actor_stands, all_stand, grant, grants_of, groups_of, implication, implied, implies, imply, is_granted, is_implied, is_in, join, leave, members_of, target_stands, told_inference, ungrant, unimply, unless_standing}
+use Rattle.ks_machine.specs.Members.{actor_stands, all_stand, grant, grants_of, list_groups_of, implication, implied, implies, imply, is_granted, is_implied, is_in, join, leave, list_members_of, target_stands, told_inference, ungrant, unimply, unless_standing}
 use Rattle.ks_machine.specs.Moment.{last_moment}
 use Rattle.ks_machine.specs.Outcomes.{Outcome, key, tells}
 use Rattle.ks_machine.specs.States.{State}
 use Rattle.ks_machine.specs.Steps.{answered, as_caller, as_caller_about, caller_of, is_allowed, missing, revoked_subject, subject_of, told_subject}
-use Rattle.ks_machine.specs.Tables.{of_row, of_tree, people, roles, standing_domain, standing_group, standing_project, standing_role, standing_user, trees, unless_row, unless_tree}
+use Rattle.ks_machine.specs.Tables.{row_cause, tree_cause, people, roles, standing_domain, standing_group, standing_project, standing_role, standing_user, trees, unless_row, unless_tree}
 use Rattle.ks_machine.specs.Told.{IsBodyTellable, IsEventTellable, IsRowTellable}
 use Rattle.ks_machine.specs.Validity.{Valid, validity}
 use Rattle.ks_ring.specs.Rings.{highest, refusal_of}
@@ -145,10 +145,10 @@ good_delete : (S : State) (moment : ℕ) (kind_of_row : Kind) (id : Id) → Give
 unfolding delete Fits drop_user_fault drop_group_fault
 good_delete S moment kind.Domain id =
     gives_bind (λ _. drop_domain_fault (trees S.rows) id ≡ None) (IsGood S moment) (unless_tree (drop_domain_fault (trees S.rows) id)) _
-    (gives_fault of_tree (drop_domain_fault (trees S.rows) id)) (λ _ free. good_changes S moment (change.DropDomain id) body.Nothing (λ room. free) tt)
+    (gives_fault tree_cause (drop_domain_fault (trees S.rows) id)) (λ _ free. good_changes S moment (change.DropDomain id) body.Nothing (λ room. free) tt)
 good_delete S moment kind.Project id =
     gives_bind (λ _. drop_project_fault (trees S.rows) id ≡ None) (IsGood S moment) (unless_tree (drop_project_fault (trees S.rows) id)) _
-    (gives_fault of_tree (drop_project_fault (trees S.rows) id)) (λ _ free. good_changes S moment (change.DropProject id) body.Nothing (λ room. free) tt)
+    (gives_fault tree_cause (drop_project_fault (trees S.rows) id)) (λ _ free. good_changes S moment (change.DropProject id) body.Nothing (λ room. free) tt)
 good_delete S moment kind.User id =
     gives_bind (λ old. user_of id S.rows.users ≡ Some old) (IsGood S moment) (standing_user S.rows id) _
     (gives_found (user_of id S.rows.users) (cause.Absent kind.User id)) (λ old is.
@@ -176,13 +176,13 @@ good_unless : (S : State) (moment : ℕ) (is : Bool) (what : Change) (told : Bod
 good_unless S moment true what told fits tellable = good_tells S moment told tellable
 good_unless S moment false what told fits tellable = good_changes S moment what told (λ room. fits) tellable
 
-good_groups_of : (S : State) (moment : ℕ) (id : Id) → Gives (IsGood S moment) (groups_of S.rows id)
-unfolding groups_of
+good_groups_of : (S : State) (moment : ℕ) (id : Id) → Gives (IsGood S moment) (list_groups_of S.rows id)
+unfolding list_groups_of
 good_groups_of S moment id =
     gives_past (IsGood S moment) (standing_user S.rows id) _ (λ _. good_tells S moment _ (all_mapped IsRowTellable (λ found. row.Group found) _ (λ x among. tt)))
 
-good_members_of : (S : State) (moment : ℕ) (id : Id) → Gives (IsGood S moment) (members_of S.rows id)
-unfolding members_of
+good_members_of : (S : State) (moment : ℕ) (id : Id) → Gives (IsGood S moment) (list_members_of S.rows id)
+unfolding list_members_of
 good_members_of S moment id =
     gives_past (IsGood S moment) (standing_group S.rows id) _ (λ _. good_tells S moment _ (all_mapped IsRowTellable (λ found. row.User found) _ (λ x among. tt)))
 
@@ -190,14 +190,14 @@ good_join : (S : State) (moment : ℕ) (member : MemberRow) → Gives (IsGood S 
 unfolding join Fits
 good_join S moment member =
     gives_bind (λ _. join_group_fault (people S.rows) member ≡ None) (IsGood S moment) (unless_row (join_group_fault (people S.rows) member)) _
-    (gives_fault of_row (join_group_fault (people S.rows) member)) (λ _ free.
+    (gives_fault row_cause (join_group_fault (people S.rows) member)) (λ _ free.
     good_unless S moment (is_some (member_of member S.rows.members)) (change.Join member) body.Nothing free tt)
 
 may_leave : (rows : Rows) (member : MemberRow) → Gives (λ _. leave_group_fault (people rows) member ≡ None) (is_in rows member)
 unfolding is_in
 may_leave rows member =
     gives_bind (λ _. leave_group_fault (people rows) member ≡ None) (λ _. leave_group_fault (people rows) member ≡ None) (unless_row (leave_group_fault (people rows) member)) _
-    (gives_fault of_row (leave_group_fault (people rows) member)) (λ _ free.
+    (gives_fault row_cause (leave_group_fault (people rows) member)) (λ _ free.
     gives_go Cause (λ _. leave_group_fault (people rows) member ≡ None) (tells body.Nothing) free)
 
 good_is_in : (S : State) (moment : ℕ) (member : MemberRow) → Gives (IsGood S moment) (is_in S.rows member)
@@ -219,7 +219,7 @@ good_imply : (S : State) (moment : ℕ) (inference : ImplyRow) → Gives (IsGood
 unfolding imply Fits
 good_imply S moment inference =
     gives_bind (λ _. imply_fault (roles S.rows) inference ≡ None) (IsGood S moment) (unless_row (imply_fault (roles S.rows) inference)) _
-    (gives_fault of_row (imply_fault (roles S.rows) inference)) (λ _ free.
+    (gives_fault row_cause (imply_fault (roles S.rows) inference)) (λ _ free.
     good_unless S moment (is_implication inference S.rows.implications) (change.Imply inference) (told_inference S.rows inference true) free tt)
 
 good_implication : (S : State) (moment : ℕ) (inference : ImplyRow) → Gives (IsGood S moment) (implication S.rows inference)
@@ -234,7 +234,7 @@ good_unimply : (S : State) (moment : ℕ) (inference : ImplyRow) → Gives (IsGo
 unfolding unimply Fits
 good_unimply S moment inference =
     gives_bind (λ _. unimply_fault (roles S.rows) inference ≡ None) (IsGood S moment) (unless_row (unimply_fault (roles S.rows) inference)) _
-    (gives_fault of_row (unimply_fault (roles S.rows) inference)) (λ _ free.
+    (gives_fault row_cause (unimply_fault (roles S.rows) inference)) (λ _ free.
     good_changes S moment (change.Unimply inference) body.Nothing (λ room. free) tt)
 
 gives_target : (rows : Rows) (at : Target) → Gives (λ _. TargetStands rows at) (target_stands rows at)
@@ -281,7 +281,7 @@ unfolding grant Fits
 good_grant S moment granted is =
     gives_bind (λ _. Stand S.rows granted) (IsGood S moment) (all_stand S.rows granted) _ (gives_stand S.rows granted) (λ _ stand.
     gives_bind (λ _. grant_fault S.rows.grants granted ≡ None) (IsGood S moment) (unless_row (grant_fault S.rows.grants granted)) _
-    (gives_fault of_row (grant_fault S.rows.grants granted)) (λ _ free.
+    (gives_fault row_cause (grant_fault S.rows.grants granted)) (λ _ free.
     good_unless S moment (stands S.rows.grants granted) (change.Grant granted) body.Nothing ((is, stand.at, stand.who, stand.role), free) tt))
 
 record Leaves (rows : Rows) (granted : GrantRow) : Type 0 where
@@ -293,7 +293,7 @@ unfolding is_granted
 may_ungrant rows granted =
     gives_bind (λ _. Stand rows granted) (λ _. Leaves rows granted) (all_stand rows granted) _ (gives_stand rows granted) (λ _ stand.
     gives_bind (λ _. ungrant_fault rows.grants granted ≡ None) (λ _. Leaves rows granted) (unless_row (ungrant_fault rows.grants granted)) _
-    (gives_fault of_row (ungrant_fault rows.grants granted)) (λ _ free.
+    (gives_fault row_cause (ungrant_fault rows.grants granted)) (λ _ free.
     gives_go Cause (λ _. Leaves rows granted) (tells body.Nothing) (record { stand = stand; free = free })))
 
 good_is_granted : (S : State) (moment : ℕ) (granted : GrantRow) → Gives (IsGood S moment) (is_granted S.rows granted)

@@ -32,7 +32,7 @@ use Rattle.ks_machine.specs.Attempts.{Attempt, Lack, Known}
 use Rattle.ks_machine.specs.Creations.{create, create_user}
 use Rattle.ks_machine.specs.Keys.{is_failed}
 use Rattle.ks_machine.specs.Login.{by_password, is_password, login, shown}
-use Rattle.ks_machine.specs.Members.{groups_of, implication, implied, imply, is_implied, join, leave, members_of, ungrant, unimply}
+use Rattle.ks_machine.specs.Members.{list_groups_of, implication, implied, imply, is_implied, join, leave, list_members_of, ungrant, unimply}
 use Rattle.ks_machine.specs.Outcomes.{Outcome}
 use Rattle.ks_machine.specs.Passwords.{change_password, derived, derived_or}
 use Rattle.ks_machine.specs.Scopes.{domain_in, user_in}
@@ -177,7 +177,7 @@ module _ (P : Lack → Type 0) (known : Known) (S : State) (call : Call) (checks
 
   asks_answered : (moment : ℕ) (asked : Command) → call.command ≡ asked → (not (requirements asked).draws || has_drawn call.draw) ≡ true →
       Asks P (answered known S moment call asked)
-  unfolding answered requirements groups_of members_of join leave implied imply implication is_implied unimply ungrant get_trust delete_trust roles_of_trust
+  unfolding answered requirements list_groups_of list_members_of join leave implied imply implication is_implied unimply ungrant get_trust delete_trust roles_of_trust
   asks_answered moment command.Version is drawn = asks_go Cause P _
   asks_answered moment (command.Login body) is drawn = asks_login moment body is
   asks_answered moment (command.ChangePassword id original new) is drawn = asks_change_password id original new is drawn

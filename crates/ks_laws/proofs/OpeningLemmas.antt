@@ -45,7 +45,7 @@ use Rattle.ks_laws.proofs.ListLemmas.{after_put, each_of_all, found_none, is_sam
 use Rattle.ks_machine.specs.declared.settings.OpenFault.{OpenFault}
 use Rattle.ks_machine.specs.declared.settings.OpenFault.TheVariants as fault
 use Rattle.ks_machine.specs.Lawful.{ActorStands, IsOpeningInRange, IsStanding, TargetStands}
-use Rattle.ks_machine.specs.Opened.{absent_fault, disabled_above, first_alone, first_fault, first_in, full_fault, id_repeated, ids_fault, name_taken, names_fault, no_actor, no_domain, no_group, no_role, no_target, no_user, open_fault, opened_state, parent_absent, prohibited, put_all, rows_opened, too_deep}
+use Rattle.ks_machine.specs.Opened.{absent_fault, project_below_disabled, first_alone, first_fault, first_in, full_fault, id_repeated, ids_fault, name_repeated, names_fault, no_actor, no_domain, no_group, no_role, no_target, no_user, open_fault, opened_state, parent_absent, prohibited, put_all, rows_opened, project_too_deep}
 use Rattle.ks_machine.specs.Openings.{PlainOpening}
 use Rattle.ks_machine.specs.Ranges.{IsDomainInRange, IsGroupInRange, IsProjectInRange, IsRoleInRange, IsUserInRange}
 use Rattle.ks_ring.specs.Rings.{no_ring, refusal_of}
@@ -139,12 +139,12 @@ unique_ids {R} of id_of rows none a b first second alike =
 abbrev alike_user : UserRow → UserRow → Bool
 alike_user row = is_user_named row.domain row.name
 
-unique_names : (rows : List UserRow) → first_in (name_taken kind.User (λ row. row.id) alike_user) [] rows ≡ None → AreNamesUnique rows
+unique_names : (rows : List UserRow) → first_in (name_repeated kind.User (λ row. row.id) alike_user) [] rows ≡ None → AreNamesUnique rows
 unique_names rows none a b first second home name = ap (λ (r : UserRow). r.id)
-    (each_apart (name_taken kind.User (λ row. row.id) alike_user) (λ (a b : UserRow). (a.domain ≡ b.domain) × (a.name ≡ b.name)) (λ a b is. (sym is.0, sym is.1)) apart
-    [] rows a b (all_pass (name_taken kind.User (λ row. row.id) alike_user) [] rows none) first second (home, name))
+    (each_apart (name_repeated kind.User (λ row. row.id) alike_user) (λ (a b : UserRow). (a.domain ≡ b.domain) × (a.name ≡ b.name)) (λ a b is. (sym is.0, sym is.1)) apart
+    [] rows a b (all_pass (name_repeated kind.User (λ row. row.id) alike_user) [] rows none) first second (home, name))
   where
-    apart : (before : List UserRow) (row other : UserRow) → name_taken kind.User (λ row. row.id) alike_user before row ≡ None → Among before other →
+    apart : (before : List UserRow) (row other : UserRow) → name_repeated kind.User (λ row. row.id) alike_user before row ≡ None → Among before other →
         (other.domain ≡ row.domain) × (other.name ≡ row.name) → ⊥
     apart before row other free among is =
         found_none (alike_user row) before other (none_mapped (λ (other : UserRow). fault.Name kind.User other.id) (find (alike_user row) before) free) among
@@ -235,11 +235,11 @@ id_faults opening =
 
 abbrev name_faults : PlainOpening → List (Option OpenFault)
 name_faults opening =
-    first_fault (name_taken kind.Domain (λ row. row.id) (λ row. is_domain_named row.name)) opening.domains ∷
-    first_fault (name_taken kind.Project (λ row. row.id) (λ row. is_project_named row.domain row.name)) opening.projects ∷
-    first_fault (name_taken kind.User (λ row. row.id) (λ row. is_user_named row.domain row.name)) opening.users ∷
-    first_fault (name_taken kind.Group (λ row. row.id) (λ row. is_group_named row.domain row.name)) opening.groups ∷
-    first_fault (name_taken kind.Role (λ row. row.id) (λ row. is_named row.name)) opening.roles ∷ []
+    first_fault (name_repeated kind.Domain (λ row. row.id) (λ row. is_domain_named row.name)) opening.domains ∷
+    first_fault (name_repeated kind.Project (λ row. row.id) (λ row. is_project_named row.domain row.name)) opening.projects ∷
+    first_fault (name_repeated kind.User (λ row. row.id) (λ row. is_user_named row.domain row.name)) opening.users ∷
+    first_fault (name_repeated kind.Group (λ row. row.id) (λ row. is_group_named row.domain row.name)) opening.groups ∷
+    first_fault (name_repeated kind.Role (λ row. row.id) (λ row. is_named row.name)) opening.roles ∷ []
 
 abbrev absent_faults : Rows → PlainOpening → List (Option OpenFault)
 absent_faults rows opening =
@@ -255,8 +255,8 @@ open_faults opening =
     ids_fault opening ∷
     names_fault opening ∷
     absent_fault (rows_opened opening) opening ∷
-    first_alone (too_deep (rows_opened opening)) opening.projects ∷
-    first_alone (disabled_above (rows_opened opening)) opening.projects ∷
+    first_alone (project_too_deep (rows_opened opening)) opening.projects ∷
+    first_alone (project_below_disabled (rows_opened opening)) opening.projects ∷
     first_alone (prohibited (rows_opened opening)) opening.implications ∷
     full_fault (rows_opened opening) ∷
     option_map (λ why. fault.Ring why) (refusal_of opening.ring) ∷ []
@@ -301,7 +301,7 @@ people_opened opening range names absent = record {
     groups_pass = each_alone (λ row. no_domain (rows_opened opening) row.domain) [] opening.groups
         (all_pass (λ _ row. no_domain (rows_opened opening) row.domain) [] opening.groups (none_apply (absent_faults (rows_opened opening) opening) absent).1.1.0)
 
-    names_pass : first_in (name_taken kind.User (λ row. row.id) alike_user) [] opening.users ≡ None
+    names_pass : first_in (name_repeated kind.User (λ row. row.id) alike_user) [] opening.users ≡ None
     names_pass = (none_apply (name_faults opening) names).1.1.0
 
 no_trusts : AreTrustsOrderly []

@@ -41,7 +41,7 @@ use Rattle.ks_machine.specs.Outcomes.{made_id, salt}
 use Rattle.ks_machine.specs.Passwords.{change_password, derived, derived_or}
 use Rattle.ks_machine.specs.Ranges.{AreRounds, IsDescription, IsGroupInRange, IsName, IsProjectInRange}
 use Rattle.ks_machine.specs.States.{State, is_user_on}
-use Rattle.ks_machine.specs.Tables.{of_row, of_tree, people, roles, standing_domain, standing_group, standing_project, standing_role, standing_user, trees, unless_row, unless_tree}
+use Rattle.ks_machine.specs.Tables.{row_cause, tree_cause, people, roles, standing_domain, standing_group, standing_project, standing_role, standing_user, trees, unless_row, unless_tree}
 use Rattle.ks_machine.specs.Updates.{unchanged, update, update_domain, update_group, update_project, update_role, update_user}
 use Rattle.ks_machine.specs.Validity.{Valid}
 
@@ -89,7 +89,7 @@ good_create_domain : (S : State) (moment : ℕ) (id : Id) (given : Option Id) (n
 unfolding create_domain Fits add_domain_fault
 good_create_domain S moment id given name description enabled is =
     gives_bind (λ _. add_domain_fault (trees S.rows) new ≡ None) (IsGood S moment) (unless_tree (add_domain_fault (trees S.rows) new)) _
-    (gives_fault of_tree (add_domain_fault (trees S.rows) new)) (λ _ free.
+    (gives_fault tree_cause (add_domain_fault (trees S.rows) new)) (λ _ free.
     good_changes S moment (change.PutDomain new) (body.One (row.Domain new) true)
     (λ room. ((made_name given name is.0, made_description description is.1), put_new _ _ _ _ (taken free) free)) tt)
   where
@@ -110,7 +110,7 @@ good_create_project : (S : State) (moment : ℕ) (new : ProjectRow) → IsProjec
 unfolding create_project Fits add_project_fault
 good_create_project S moment new range =
     gives_bind (λ _. add_project_fault (trees S.rows) new ≡ None) (IsGood S moment) (unless_tree (add_project_fault (trees S.rows) new)) _
-    (gives_fault of_tree (add_project_fault (trees S.rows) new)) (λ _ free.
+    (gives_fault tree_cause (add_project_fault (trees S.rows) new)) (λ _ free.
     good_changes S moment (change.PutProject new) (body.One (row.Project new) true) (λ room. (range, put_new _ _ _ _ (taken free) free)) tt)
   where
     taken : add_project_fault (trees S.rows) new ≡ None → project_of new.id S.rows.projects ≡ None
@@ -127,7 +127,7 @@ good_create_user known S moment drawn new password old named =
     gives_past (IsGood S moment) (unless_row (user_name_taken (people S.rows) new)) _ (λ _.
     gives_bind HasRounds (IsGood S moment) (derived_or known S drawn None password) _ (gives_derived_or known S drawn None password old tt) (λ kept rounds.
     gives_bind (λ _. add_user_fault (people S.rows) new ≡ None) (IsGood S moment) (unless_row (add_user_fault (people S.rows) new)) _
-    (gives_fault of_row (add_user_fault (people S.rows) new)) (λ _ free.
+    (gives_fault row_cause (add_user_fault (people S.rows) new)) (λ _ free.
     good_changes S moment (change.PutUser (record new { password = kept })) (body.One (row.User (record new { password = kept })) true)
     (λ room. ((named, rounds), ap is_some stands, put_new _ _ _ _ (taken free) free)) tt))))
   where
@@ -142,7 +142,7 @@ good_create_group S moment new range =
     gives_bind (λ home. domain_of new.domain S.rows.domains ≡ Some home) (IsGood S moment) (standing_domain S.rows new.domain) _
     (gives_found (domain_of new.domain S.rows.domains) (cause.Absent kind.Domain new.domain)) (λ home stands.
     gives_bind (λ _. add_group_fault (people S.rows) new ≡ None) (IsGood S moment) (unless_row (add_group_fault (people S.rows) new)) _
-    (gives_fault of_row (add_group_fault (people S.rows) new)) (λ _ free.
+    (gives_fault row_cause (add_group_fault (people S.rows) new)) (λ _ free.
     good_changes S moment (change.PutGroup new) (body.One (row.Group new) true) (λ room. (range, ap is_some stands, put_new _ _ _ _ (taken free) free)) tt))
   where
     taken : add_group_fault (people S.rows) new ≡ None → group_of new.id S.rows.groups ≡ None
@@ -155,7 +155,7 @@ good_create_role : (S : State) (moment : ℕ) (id : Id) (given : Option Id) (nam
 unfolding create_role Fits add_fault
 good_create_role S moment id given name description is =
     gives_bind (λ _. add_fault (roles S.rows) new ≡ None) (IsGood S moment) (unless_row (add_fault (roles S.rows) new)) _
-    (gives_fault of_row (add_fault (roles S.rows) new)) (λ _ free.
+    (gives_fault row_cause (add_fault (roles S.rows) new)) (λ _ free.
     good_changes S moment (change.PutRole new) (body.One (row.Role new) true)
     (λ room. ((made_name given name is.0, made_description description is.1), put_new _ _ _ _ (taken free) free)) tt)
   where
@@ -193,7 +193,7 @@ good_update_domain S moment id given name description enabled orderly is =
     let was = orderly.rows.trees.domains_range old (found_is_among (λ (r : DomainRow). r.id) id S.rows.domains old stands) in
     gives_past (IsGood S moment) (unchanged (codes "id") given id) _ (λ _.
     gives_bind (λ _. set_domain_fault (trees S.rows) new ≡ None) (IsGood S moment) (unless_tree (set_domain_fault (trees S.rows) new)) _
-    (gives_fault of_tree (set_domain_fault (trees S.rows) new)) (λ _ free.
+    (gives_fault tree_cause (set_domain_fault (trees S.rows) new)) (λ _ free.
     good_changes S moment (change.PutDomain new) (body.One (row.Domain new) false)
     (λ room. (
       (name_or name old.name is.0 was.0, description_or description old.description is.1 was.1),
@@ -213,7 +213,7 @@ good_update_project S moment id given name domain parent description enabled ord
     gives_past (IsGood S moment) (unchanged (codes "domain_id") domain old.domain) _ (λ _.
     gives_past (IsGood S moment) (unchanged (codes "parent_id") parent old.parent) _ (λ _.
     gives_bind (λ _. set_project_fault (trees S.rows) new ≡ None) (IsGood S moment) (unless_tree (set_project_fault (trees S.rows) new)) _
-    (gives_fault of_tree (set_project_fault (trees S.rows) new)) (λ _ free.
+    (gives_fault tree_cause (set_project_fault (trees S.rows) new)) (λ _ free.
     good_changes S moment (change.PutProject new) (body.One (row.Project new) false)
     (λ room. (
       (name_or name old.name is.0 was.0, description_or description old.description is.1 was.1),
@@ -233,7 +233,7 @@ good_update_user known S moment drawn id given name domain password enabled orde
     gives_past (IsGood S moment) (unchanged (codes "id") given id) _ (λ _.
     gives_past (IsGood S moment) (unchanged (codes "domain_id") domain old.domain) _ (λ _.
     gives_bind (λ _. set_user_fault (people S.rows) named ≡ None) (IsGood S moment) (unless_row (set_user_fault (people S.rows) named)) _
-    (gives_fault of_row (set_user_fault (people S.rows) named)) (λ _ free.
+    (gives_fault row_cause (set_user_fault (people S.rows) named)) (λ _ free.
     gives_bind HasRounds (IsGood S moment) (derived_or known S drawn old.password password) _ (gives_derived_or known S drawn old.password password orderly was.1) (λ kept rounds.
     good_changes S moment (change.PutUser (record named { password = kept })) (body.One (row.User (record named { password = kept })) false)
     (λ room. (
@@ -254,7 +254,7 @@ good_update_group S moment id given name domain description orderly is =
     gives_past (IsGood S moment) (unchanged (codes "id") given id) _ (λ _.
     gives_past (IsGood S moment) (unchanged (codes "domain_id") domain old.domain) _ (λ _.
     gives_bind (λ _. set_group_fault (people S.rows) new ≡ None) (IsGood S moment) (unless_row (set_group_fault (people S.rows) new)) _
-    (gives_fault of_row (set_group_fault (people S.rows) new)) (λ _ free.
+    (gives_fault row_cause (set_group_fault (people S.rows) new)) (λ _ free.
     good_changes S moment (change.PutGroup new) (body.One (row.Group new) false)
     (λ room. (
       (name_or name old.name is.0 was.0, description_or description old.description is.1 was.1),
@@ -272,7 +272,7 @@ good_update_role S moment id given name description orderly is =
     let was = orderly.rows.roles old (found_is_among (λ (r : RoleRow). r.id) id S.rows.roles old stands) in
     gives_past (IsGood S moment) (unchanged (codes "id") given id) _ (λ _.
     gives_bind (λ _. set_fault (roles S.rows) new ≡ None) (IsGood S moment) (unless_row (set_fault (roles S.rows) new)) _
-    (gives_fault of_row (set_fault (roles S.rows) new)) (λ _ free.
+    (gives_fault row_cause (set_fault (roles S.rows) new)) (λ _ free.
     good_changes S moment (change.PutRole new) (body.One (row.Role new) false)
     (λ room. (
       (name_or name old.name is.0 was.0, description_or description old.description is.1 was.1),

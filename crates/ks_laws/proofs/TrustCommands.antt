@@ -43,7 +43,7 @@ use Rattle.ks_machine.specs.Ranges.{IsExpiry, IsTrustInRange}
 use Rattle.ks_machine.specs.States.{State, is_domain_on}
 use Rattle.ks_machine.specs.Tables.{standing_project, standing_trust, standing_user}
 use Rattle.ks_machine.specs.Told.{IsRowTellable}
-use Rattle.ks_machine.specs.TrustCommands.{count_for, create_trust, delete_trust, get_trust, is_passed_on, is_trust_listed, list_trusts, may_count, needs, new_trust, of_trust, parent_by, role_asked, roles_asked, roles_of_trust, roles_to_give, told_trust, unless_trust}
+use Rattle.ks_machine.specs.TrustCommands.{count_for, create_trust, delete_trust, get_trust, is_passed_on, is_trust_listed, list_trusts, may_count, needs, new_trust, trust_cause, parent_by, role_asked, roles_asked, roles_of_trust, roles_to_give, told_trust, unless_trust}
 use Rattle.ks_machine.specs.Validity.{Valid}
 
 -- the roles of a new trust stand, and are as many at most as were asked for
@@ -237,7 +237,7 @@ good_create_trust S moment drawn caller asked old body_in is =
     let new : TrustRow = new_trust (made_id drawn) asked parent (in_order ids) in
     gives_bind (λ _. creation_fault S.rows.trusts (roles_to_give S.rows new) moment new ≡ None) (IsGood S moment)
     (unless_trust (creation_fault S.rows.trusts (roles_to_give S.rows new) moment new)) _
-    (gives_fault of_trust (creation_fault S.rows.trusts (roles_to_give S.rows new) moment new)) (λ _ accepted.
+    (gives_fault trust_cause (creation_fault S.rows.trusts (roles_to_give S.rows new) moment new)) (λ _ accepted.
     let trustor_stands = subst (λ (k : Id). IsStanding (user_of k S.rows.users)) (same_is caller.payload.user asked.trustor own)
     (user_stands_by S.rows (user_of caller.payload.user S.rows.users) is.user) in
     let made = new_made S.rows moment (made_id drawn) asked parent ids old.rows.trusts.range body_in parent_is may some are

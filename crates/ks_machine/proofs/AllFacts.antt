@@ -38,7 +38,7 @@ use Rattle.ks_machine.specs.Creations.{create, create_domain, create_group, crea
 use Rattle.ks_machine.specs.Keys.{keys_read, load_keys, rotate_keys}
 use Rattle.ks_machine.specs.Listings.{delete, get, row_at}
 use Rattle.ks_machine.specs.Login.{by_password, is_password, login, project_on, scoped, shown, to_domain, to_project, to_system, to_trust, with_roles}
-use Rattle.ks_machine.specs.Members.{actor_stands, all_stand, grant, grants_of, groups_of, implication, implied, imply, is_granted, is_implied, is_in, join, leave, members_of, target_stands, ungrant, unimply}
+use Rattle.ks_machine.specs.Members.{actor_stands, all_stand, grant, grants_of, list_groups_of, implication, implied, imply, is_granted, is_implied, is_in, join, leave, list_members_of, target_stands, ungrant, unimply}
 use Rattle.ks_machine.specs.Outcomes.{Outcome}
 use Rattle.ks_machine.specs.Passwords.{change_password, derived, derived_or}
 use Rattle.ks_machine.specs.Room.{room_for}
@@ -333,7 +333,7 @@ unfolding as_caller_about
 whole_about S moment call late own = search (whole_bind, whole_go, whole_found, whole_caller, whole_subject, whole_allows) depth 16
 
 whole_answered : (S : State) (moment : ℕ) (call : Call) (asked : Command) → IsWhole (answered everything S moment call asked)
-unfolding answered groups_of members_of join leave implied imply implication is_implied unimply grant ungrant get_trust delete_trust roles_of_trust
+unfolding answered list_groups_of list_members_of join leave implied imply implication is_implied unimply grant ungrant get_trust delete_trust roles_of_trust
 whole_answered S moment call command.Version = whole_go Cause _
 whole_answered S moment call (command.Login body) = whole_login S moment call.draw body
 whole_answered S moment call (command.ChangePassword id original password) = whole_change_password S call.draw id original password

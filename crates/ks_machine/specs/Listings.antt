@@ -59,31 +59,31 @@ same_truth false b = not b
 abbrev pub has_truth : Fields → Text → Bool → Bool
 has_truth filters name value = option_map_or (λ text. same_truth value (not (says_no text))) (value_in filters name) true
 
-abbrev pub has_name : Fields → Text → Bool
-has_name filters name = has_text filters (codes "name") name
+abbrev pub passes_name : Fields → Text → Bool
+passes_name filters name = has_text filters (codes "name") name
 
-abbrev pub has_domain : Fields → Id → Bool
-has_domain filters domain = has_text filters (codes "domain_id") domain
+abbrev pub passes_domain : Fields → Id → Bool
+passes_domain filters domain = has_text filters (codes "domain_id") domain
 
-abbrev pub has_enabled : Fields → Bool → Bool
-has_enabled filters enabled = has_truth filters (codes "enabled") enabled
+abbrev pub passes_enabled : Fields → Bool → Bool
+passes_enabled filters enabled = has_truth filters (codes "enabled") enabled
 
 abbrev pub is_domain_listed : Fields → DomainRow → Bool
-is_domain_listed filters row = has_name filters row.name && has_enabled filters row.enabled
+is_domain_listed filters row = passes_name filters row.name && passes_enabled filters row.enabled
 
 abbrev pub is_project_listed : Fields → ProjectRow → Bool
 is_project_listed filters row =
-    has_name filters row.name
-    && (has_domain filters row.domain && (has_text filters (codes "parent_id") row.parent && has_enabled filters row.enabled))
+    passes_name filters row.name
+    && (passes_domain filters row.domain && (has_text filters (codes "parent_id") row.parent && passes_enabled filters row.enabled))
 
 abbrev pub is_user_listed : Fields → UserRow → Bool
-is_user_listed filters row = has_name filters row.name && (has_domain filters row.domain && has_enabled filters row.enabled)
+is_user_listed filters row = passes_name filters row.name && (passes_domain filters row.domain && passes_enabled filters row.enabled)
 
 abbrev pub is_group_listed : Fields → GroupRow → Bool
-is_group_listed filters row = has_name filters row.name && has_domain filters row.domain
+is_group_listed filters row = passes_name filters row.name && passes_domain filters row.domain
 
 abbrev pub is_role_listed : Fields → RoleRow → Bool
-is_role_listed filters row = has_name filters row.name
+is_role_listed filters row = passes_name filters row.name
 
 unfoldable pub rows_listed : Rows → Kind → Fields → List Row
 rows_listed rows kind.Domain filters = map (λ found. row.Domain found) (filter (is_domain_listed filters) rows.domains)

@@ -33,15 +33,15 @@ unless_standing false new told = changes new told
 
 -- memberships
 
-unfoldable pub groups_of : Rows → Id → Attempt Cause Outcome
-groups_of rows user = do
+unfoldable pub list_groups_of : Rows → Id → Attempt Cause Outcome
+list_groups_of rows user = do
   _ ← standing_user rows user
   Go (tells (body.Many kind.Group
       (map (λ found. row.Group found) (filter (λ group. is_member rows.members group.id user) rows.groups))
       (codes "/v3/users/" ++ (user ++ codes "/groups"))))
 
-unfoldable pub members_of : Rows → Id → Attempt Cause Outcome
-members_of rows group = do
+unfoldable pub list_members_of : Rows → Id → Attempt Cause Outcome
+list_members_of rows group = do
   _ ← standing_group rows group
   Go (tells (body.Many kind.User
       (map (λ found. row.User found) (filter (λ user. is_member rows.members group user.id) rows.users))

@@ -86,16 +86,16 @@ ids_fault opening = first_of (
 -- names, unique among domains and roles, and in a domain among projects, users and groups: the fault names the earlier row, which
 -- has the name
 
-abbrev pub name_taken : {R : Type 0} → Kind → (R → Id) → (R → R → Bool) → List R → R → Option OpenFault
-name_taken kind id alike before row = option_map (λ other. fault.Name kind (id other)) (find (alike row) before)
+abbrev pub name_repeated : {R : Type 0} → Kind → (R → Id) → (R → R → Bool) → List R → R → Option OpenFault
+name_repeated kind id alike before row = option_map (λ other. fault.Name kind (id other)) (find (alike row) before)
 
 unfoldable pub names_fault : PlainOpening → Option OpenFault
 names_fault opening = first_of (
-    first_fault (name_taken kind.Domain (λ row. row.id) (λ row. is_domain_named row.name)) opening.domains ∷
-    first_fault (name_taken kind.Project (λ row. row.id) (λ row. is_project_named row.domain row.name)) opening.projects ∷
-    first_fault (name_taken kind.User (λ row. row.id) (λ row. is_user_named row.domain row.name)) opening.users ∷
-    first_fault (name_taken kind.Group (λ row. row.id) (λ row. is_group_named row.domain row.name)) opening.groups ∷
-    first_fault (name_taken kind.Role (λ row. row.id) (λ row. is_named row.name)) opening.roles ∷ [])
+    first_fault (name_repeated kind.Domain (λ row. row.id) (λ row. is_domain_named row.name)) opening.domains ∷
+    first_fault (name_repeated kind.Project (λ row. row.id) (λ row. is_project_named row.domain row.name)) opening.projects ∷
+    first_fault (name_repeated kind.User (λ row. row.id) (λ row. is_user_named row.domain row.name)) opening.users ∷
+    first_fault (name_repeated kind.Group (λ row. row.id) (λ row. is_group_named row.domain row.name)) opening.groups ∷
+    first_fault (name_repeated kind.Role (λ row. row.id) (λ row. is_named row.name)) opening.roles ∷ [])
 
 -- what rows name
 
@@ -140,11 +140,11 @@ absent_fault rows opening = first_of (
 
 -- the tree, roles, room and keys: by the rules of the tables
 
-abbrev pub too_deep : Rows → ProjectRow → Option OpenFault
-too_deep rows row = fault_if (is_too_deep (trees rows) row) (fault.TooDeep row.id)
+abbrev pub project_too_deep : Rows → ProjectRow → Option OpenFault
+project_too_deep rows row = fault_if (is_too_deep (trees rows) row) (fault.TooDeep row.id)
 
-abbrev pub disabled_above : Rows → ProjectRow → Option OpenFault
-disabled_above rows row = option_map (λ ancestor. fault.DisabledAbove ancestor.id) (first_disabled (trees rows) row)
+abbrev pub project_below_disabled : Rows → ProjectRow → Option OpenFault
+project_below_disabled rows row = option_map (λ ancestor. fault.DisabledAbove ancestor.id) (first_disabled (trees rows) row)
 
 abbrev pub prohibited : Rows → ImplyRow → Option OpenFault
 prohibited rows row = fault_if (is_admin (role_of row.implied rows.roles)) (fault.Prohibited row.implied)
@@ -164,8 +164,8 @@ open_fault opening = first_of (
     ids_fault opening ∷
     names_fault opening ∷
     absent_fault (rows_opened opening) opening ∷
-    first_alone (too_deep (rows_opened opening)) opening.projects ∷
-    first_alone (disabled_above (rows_opened opening)) opening.projects ∷
+    first_alone (project_too_deep (rows_opened opening)) opening.projects ∷
+    first_alone (project_below_disabled (rows_opened opening)) opening.projects ∷
     first_alone (prohibited (rows_opened opening)) opening.implications ∷
     full_fault (rows_opened opening) ∷
     option_map (λ why. fault.Ring why) (refusal_of opening.ring) ∷ [])

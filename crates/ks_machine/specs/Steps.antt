@@ -24,7 +24,7 @@ use Rattle.ks_machine.specs.Creations.{create}
 use Rattle.ks_machine.specs.Keys.{is_failed, load_keys, rotate_keys}
 use Rattle.ks_machine.specs.Listings.{delete, events, get, list}
 use Rattle.ks_machine.specs.Login.{login, told_token}
-use Rattle.ks_machine.specs.Members.{grant, grants_of, groups_of, implication, implied, imply, is_granted, is_implied, is_in, join, leave, members_of, ungrant, unimply}
+use Rattle.ks_machine.specs.Members.{grant, grants_of, list_groups_of, implication, implied, imply, is_granted, is_implied, is_in, join, leave, list_members_of, ungrant, unimply}
 use Rattle.ks_machine.specs.Outcomes.{Outcome, changes, tells}
 use Rattle.ks_machine.specs.Passwords.{change_password}
 use Rattle.ks_machine.specs.Room.{room_for}
@@ -108,8 +108,8 @@ answered known S moment call (command.List kind filters) = as_caller known S mom
 answered known S moment call (command.Get kind id) = as_caller known S moment call (λ _. get S.rows kind id)
 answered known S moment call (command.Update id made) = as_caller known S moment call (λ _. update known S call.draw id made)
 answered known S moment call (command.Delete kind id) = as_caller known S moment call (λ _. delete S.rows kind id)
-answered known S moment call (command.GroupsOf id) = as_caller known S moment call (λ _. groups_of S.rows id)
-answered known S moment call (command.MembersOf id) = as_caller known S moment call (λ _. members_of S.rows id)
+answered known S moment call (command.GroupsOf id) = as_caller known S moment call (λ _. list_groups_of S.rows id)
+answered known S moment call (command.MembersOf id) = as_caller known S moment call (λ _. list_members_of S.rows id)
 answered known S moment call (command.Join row) = as_caller known S moment call (λ _. join S.rows row)
 answered known S moment call (command.IsIn row) = as_caller known S moment call (λ _. is_in S.rows row)
 answered known S moment call (command.Leave row) = as_caller known S moment call (λ _. leave S.rows row)

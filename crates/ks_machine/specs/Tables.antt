@@ -41,33 +41,33 @@ put_roles state rows = record rows { roles = state.roles; implications = state.i
 
 -- the causes that have a place of their own are named there
 
-abbrev pub of_row : RowFault → Cause
-of_row (row.Absent kind id) = cause.Absent kind id
-of_row row.Prohibited = cause.Prohibited
-of_row (row.NameTaken id) = cause.NameTaken id
-of_row (row.Full kind) = cause.Full kind
-of_row (row.IdTaken id) = cause.IdTaken id
-of_row row.Memory = cause.Memory
+abbrev pub row_cause : RowFault → Cause
+row_cause (row.Absent kind id) = cause.Absent kind id
+row_cause row.Prohibited = cause.Prohibited
+row_cause (row.NameTaken id) = cause.NameTaken id
+row_cause (row.Full kind) = cause.Full kind
+row_cause (row.IdTaken id) = cause.IdTaken id
+row_cause row.Memory = cause.Memory
 
-abbrev pub of_tree : TreeFault → Cause
-of_tree (tree.Absent kind id) = cause.Absent kind id
-of_tree (tree.NameTaken id) = cause.NameTaken id
-of_tree (tree.Full kind) = cause.Full kind
-of_tree (tree.IdTaken id) = cause.IdTaken id
-of_tree tree.Memory = cause.Memory
-of_tree (tree.NoParent id) = cause.Tree (tree.NoParent id)
-of_tree tree.TooDeep = cause.Tree tree.TooDeep
-of_tree (tree.HasChildren id) = cause.Tree (tree.HasChildren id)
-of_tree (tree.EnabledBelow id) = cause.Tree (tree.EnabledBelow id)
-of_tree (tree.DisabledAbove id) = cause.Tree (tree.DisabledAbove id)
-of_tree tree.DomainEnabled = cause.Tree tree.DomainEnabled
+abbrev pub tree_cause : TreeFault → Cause
+tree_cause (tree.Absent kind id) = cause.Absent kind id
+tree_cause (tree.NameTaken id) = cause.NameTaken id
+tree_cause (tree.Full kind) = cause.Full kind
+tree_cause (tree.IdTaken id) = cause.IdTaken id
+tree_cause tree.Memory = cause.Memory
+tree_cause (tree.NoParent id) = cause.Tree (tree.NoParent id)
+tree_cause tree.TooDeep = cause.Tree tree.TooDeep
+tree_cause (tree.HasChildren id) = cause.Tree (tree.HasChildren id)
+tree_cause (tree.EnabledBelow id) = cause.Tree (tree.EnabledBelow id)
+tree_cause (tree.DisabledAbove id) = cause.Tree (tree.DisabledAbove id)
+tree_cause tree.DomainEnabled = cause.Tree tree.DomainEnabled
 
 -- a refusal of a table, where it applies
 abbrev pub unless_row : Option RowFault → Attempt Cause (Unit {0})
-unless_row fault = blame of_row (unless fault)
+unless_row fault = blame row_cause (unless fault)
 
 abbrev pub unless_tree : Option TreeFault → Attempt Cause (Unit {0})
-unless_tree fault = blame of_tree (unless fault)
+unless_tree fault = blame tree_cause (unless fault)
 
 -- rows that must stand
 

@@ -32,27 +32,27 @@ use Rattle.ks_machine.specs.Tables.{standing_project, standing_trust, standing_u
 use Rattle.ks_machine.specs.Validity.{Valid}
 
 -- the causes that have a place of their own are named there
-abbrev pub of_trust : TrustFault → Cause
-of_trust (fault.Full kind) = cause.Full kind
-of_trust (fault.IdTaken id) = cause.IdTaken id
-of_trust fault.Memory = cause.Memory
-of_trust fault.NotTrustor = cause.Trust fault.NotTrustor
-of_trust fault.NotParent = cause.Trust fault.NotParent
-of_trust fault.NoRoles = cause.Trust fault.NoRoles
-of_trust fault.DepthOut = cause.Trust fault.DepthOut
-of_trust (fault.RoleNotInParent role) = cause.Trust (fault.RoleNotInParent role)
-of_trust fault.Impersonation = cause.Trust fault.Impersonation
-of_trust fault.UsesSet = cause.Trust fault.UsesSet
-of_trust fault.LaterThanParent = cause.Trust fault.LaterThanParent
-of_trust (fault.RoleLost role) = cause.Trust (fault.RoleLost role)
-of_trust fault.Expired = cause.Trust fault.Expired
-of_trust (fault.Absent id) = cause.Trust (fault.Absent id)
-of_trust fault.NotTrustee = cause.Trust fault.NotTrustee
-of_trust fault.Spent = cause.Trust fault.Spent
-of_trust (fault.UserOff id) = cause.Trust (fault.UserOff id)
+abbrev pub trust_cause : TrustFault → Cause
+trust_cause (fault.Full kind) = cause.Full kind
+trust_cause (fault.IdTaken id) = cause.IdTaken id
+trust_cause fault.Memory = cause.Memory
+trust_cause fault.NotTrustor = cause.Trust fault.NotTrustor
+trust_cause fault.NotParent = cause.Trust fault.NotParent
+trust_cause fault.NoRoles = cause.Trust fault.NoRoles
+trust_cause fault.DepthOut = cause.Trust fault.DepthOut
+trust_cause (fault.RoleNotInParent role) = cause.Trust (fault.RoleNotInParent role)
+trust_cause fault.Impersonation = cause.Trust fault.Impersonation
+trust_cause fault.UsesSet = cause.Trust fault.UsesSet
+trust_cause fault.LaterThanParent = cause.Trust fault.LaterThanParent
+trust_cause (fault.RoleLost role) = cause.Trust (fault.RoleLost role)
+trust_cause fault.Expired = cause.Trust fault.Expired
+trust_cause (fault.Absent id) = cause.Trust (fault.Absent id)
+trust_cause fault.NotTrustee = cause.Trust fault.NotTrustee
+trust_cause fault.Spent = cause.Trust fault.Spent
+trust_cause (fault.UserOff id) = cause.Trust (fault.UserOff id)
 
 abbrev pub unless_trust : Option TrustFault → Attempt Cause (Unit {0})
-unless_trust why = blame of_trust (unless why)
+unless_trust why = blame trust_cause (unless why)
 
 abbrev pub needs : Bool → TrustFault → Attempt Cause (Unit {0})
 needs holds why = need holds (cause.Trust why)

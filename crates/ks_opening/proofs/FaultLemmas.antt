@@ -4,7 +4,7 @@ use Rattle.std.specs.Result.{IsErrAnd}
 use Rattle.ks_base.specs.Refusals.{first_of}
 use Rattle.ks_machine.specs.declared.settings.OpenFault.{OpenFault}
 use Rattle.ks_machine.specs.declared.settings.OpenFault.TheVariants as fault
-use Rattle.ks_machine.specs.Opened.{absent_fault, disabled_above, first_alone, full_fault, ids_fault, names_fault, open_fault, opened_state, prohibited, rows_opened, too_deep}
+use Rattle.ks_machine.specs.Opened.{absent_fault, project_below_disabled, first_alone, full_fault, ids_fault, names_fault, open_fault, opened_state, prohibited, rows_opened, project_too_deep}
 use Rattle.ks_machine.specs.Openings.{PlainOpening}
 use Rattle.ks_ring.specs.Rings.{RingState, new_of}
 use Rattle.ks_opening.specs.declared.filled.Filled.{Filled}
@@ -28,8 +28,8 @@ fault_is : (opening : PlainOpening) →
     open_fault opening ≡ first_of (listed_fault opening ∷ full_fault (rows_opened opening) ∷ keys_fault opening.ring ∷ [])
 unfolding open_fault
 fault_is opening =
-    grouped (ids_fault opening) (names_fault opening) (absent_fault (rows_opened opening) opening) (first_alone (too_deep (rows_opened opening)) opening.projects)
-    (first_alone (disabled_above (rows_opened opening)) opening.projects) (first_alone (prohibited (rows_opened opening)) opening.implications)
+    grouped (ids_fault opening) (names_fault opening) (absent_fault (rows_opened opening) opening) (first_alone (project_too_deep (rows_opened opening)) opening.projects)
+    (first_alone (project_below_disabled (rows_opened opening)) opening.projects) (first_alone (prohibited (rows_opened opening)) opening.implications)
     (full_fault (rows_opened opening)) (keys_fault opening.ring)
 
 -- a check that is not passed

@@ -18,7 +18,7 @@ use Rattle.ks_base.specs.Tables.{has_key, id_cmp}
 use Rattle.ks_base.proofs.RowLemmas.{id_same}
 use Rattle.ks_machine.specs.declared.settings.OpenFault.{OpenFault}
 use Rattle.ks_machine.specs.declared.settings.OpenFault.TheVariants as fault
-use Rattle.ks_machine.specs.Opened.{first_in, name_taken}
+use Rattle.ks_machine.specs.Opened.{first_in, name_repeated}
 use Rattle.ks_opening.specs.steps.Indexed.{has_name_of}
 use Rattle.ks_opening.proofs.FindLemmas.{first_end, first_here, first_later, same_test}
 
@@ -73,7 +73,7 @@ find_put cmp key f o row rows k none =
 -- the ids of the first rows by their names, none of which is taken
 
 abbrev fault_of : {R : Type 0} → Kind → (R → Id) → (R → Id) → (R → Text) → List R → R → Option OpenFault
-fault_of kind id home name = name_taken kind id (has_name_of home name)
+fault_of kind id home name = name_repeated kind id (has_name_of home name)
 
 pub record IsNamed {R : Type 0} (kind : Kind) (id home : R → Id) (name : R → Text) (rows : List R) (named : BTreeMap Lent Id) (at : ℕ) : Type 0 where
   pub finds : (q : Lent) → get lent_cmp named q ≡ option_map id (find (has_key full_cmp (full_of home name) (q.0.now, q.1.now)) (take at rows))

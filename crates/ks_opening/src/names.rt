@@ -1,5 +1,5 @@
 //! Names that only one row may have.
-ghost use Rattle.ks_machine.specs.Opened.{first_fault, name_taken, names_fault};
+ghost use Rattle.ks_machine.specs.Opened.{first_fault, name_repeated, names_fault};
 ghost use Rattle.ks_policy.specs.Openings.{plain};
 ghost use Rattle.ks_opening.specs.Opened.{TellsFault};
 ghost use Rattle.ks_opening.specs.steps.Indexed.{has_name_of};
@@ -40,7 +40,7 @@ pub(crate) fn check_names(alloc: Global, opening: &Opening) -> Result<(), OpenFa
 }
 
 fn check_names_of<R: Row + Named>(alloc: Global, kind: Kind, rows: &[R]) -> Result<(), OpenFault>
-    ensures { TellsFault (first_fault (name_taken kind R.key (has_name_of R.home_of R.name_of)) rows.now) result }
+    ensures { TellsFault (first_fault (name_repeated kind R.key (has_name_of R.home_of R.name_of)) rows.now) result }
 {
     let mut named = BTreeMap::new(alloc);
     for row in rows {

@@ -3,7 +3,7 @@ ghost use Rattle.std.specs.Prelude.{◌≡◌, length, option_copied};
 ghost use Rattle.ks_base.specs.Refusals.{fault_in};
 ghost use Rattle.ks_base.specs.Tree.{above, parent_of};
 ghost use Rattle.ks_base.specs.TreeFaults.{first_disabled};
-ghost use Rattle.ks_machine.specs.Opened.{disabled_above, prohibited, too_deep};
+ghost use Rattle.ks_machine.specs.Opened.{project_below_disabled, prohibited, project_too_deep};
 ghost use Rattle.ks_machine.specs.Tables.{trees};
 ghost use Rattle.ks_policy.specs.Openings.{plain};
 ghost use Rattle.ks_opening.specs.steps.Listed.{AreRowsOf, rows_fault, rows_listed};
@@ -81,7 +81,7 @@ pub(crate) struct Depth<'a> {
 }
 
 impl Check<ProjectRow> for Depth<'_> {
-    ghost fault = { λ check row. too_deep (rows_listed check.listed.now) row };
+    ghost fault = { λ check row. project_too_deep (rows_listed check.listed.now) row };
 
     fn check(&self, row: &ProjectRow) -> Result<(), OpenFault> {
         let levels = self.listed.count_above(row);
@@ -96,7 +96,7 @@ pub(crate) struct Enabled<'a> {
 }
 
 impl Check<ProjectRow> for Enabled<'_> {
-    ghost fault = { λ check row. disabled_above (rows_listed check.listed.now) row };
+    ghost fault = { λ check row. project_below_disabled (rows_listed check.listed.now) row };
 
     fn check(&self, row: &ProjectRow) -> Result<(), OpenFault> {
         match self.listed.first_disabled(row) {

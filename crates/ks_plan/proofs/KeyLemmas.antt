@@ -19,13 +19,13 @@ use Rattle.ks_plan.specs.Plans.{outcome_of}
 use Rattle.ks_plan.specs.declared.plan.Plan.{Plan}
 use Rattle.ks_ring.specs.declared.held_key.HeldKey.{HeldKey}
 use Rattle.ks_ring.specs.Rings.{RingState, active, held_as, highest, is_staged, left_of, load_of, lowest_number, new_of, no_ring, numbered, promoted, promoted_to, rising, rotate_of}
-use Rattle.ks_plan.specs.KeysTold.{first_index, indices_of, indices_rotated, told_of}
+use Rattle.ks_plan.specs.KeysTold.{first_index, indices_of, indices_rotated, keys_told}
 
 highest_is_first : (held : List HeldKey) → highest held ≡ first_index (indices_of held)
 highest_is_first [] = refl
 highest_is_first (key ∷ held) = refl
 
-pub told_by_indices : (ring : RingState) (falling : List ℕ) → falling ≡ indices_of ring.held → told_keys ring ≡ told_of falling
+pub told_by_indices : (ring : RingState) (falling : List ℕ) → falling ≡ indices_of ring.held → told_keys ring ≡ keys_told falling
 told_by_indices ring falling is = rw (is, ← highest_is_first ring.held) refl
 
 pub rotated_indices : (ring : RingState) (new : Key) (most : ℕ) → indices_rotated ring.held most ≡ indices_of (rotate_of ring new most).held
@@ -67,7 +67,7 @@ promoted_indices held = map-append (λ (key : HeldKey). key.index) (promoted_to 
 pub rotated_by : (S : State) (drawn : Drawn) (ring : RingState) (settings : Settings) (new : Key) (indices : List ℕ) (told : BodyOut) (plan : Plan) →
     S.settings ≡ settings → S.ring ≡ ring → need (not settings.folder) cause.KeyMode ≡ Go tt →
     need (nat_lt (highest ring.held) 999999999) (cause.Keys fault.IndexEnd) ≡ Go tt → new ≡ key drawn →
-    indices ≡ indices_rotated ring.held settings.max_keys → told ≡ told_of indices → plan ≡ record { told = told; change = Some (change.Rotate new) } →
+    indices ≡ indices_rotated ring.held settings.max_keys → told ≡ keys_told indices → plan ≡ record { told = told; change = Some (change.Rotate new) } →
     rotate_keys S drawn ≡ Go (outcome_of plan)
 unfolding rotate_keys
 rotated_by S drawn ring settings new indices told plan settings_are ring_is mode below new_is indices_are told_is plan_is =
@@ -75,7 +75,7 @@ rotated_by S drawn ring settings new indices told plan settings_are ring_is mode
 
 pub loaded_by : (S : State) (read : FolderRead) (ring : RingState) (settings : Settings) (found kept : List (ℕ × Key)) (indices : List ℕ) (told : BodyOut) (plan : Plan) →
     S.settings ≡ settings → S.ring ≡ ring → need settings.folder cause.KeyMode ≡ Go tt → keys_read read ≡ Go found → kept ≡ found →
-    indices ≡ indices_of (new_of found).held → told ≡ told_of indices → plan ≡ record { told = told; change = Some (change.Load kept) } →
+    indices ≡ indices_of (new_of found).held → told ≡ keys_told indices → plan ≡ record { told = told; change = Some (change.Load kept) } →
     load_keys S read ≡ Go (outcome_of plan)
 unfolding load_keys
 loaded_by S read ring settings found kept indices told plan settings_are ring_is mode keys_are kept_are indices_are told_is plan_is =

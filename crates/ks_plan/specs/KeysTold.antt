@@ -14,8 +14,8 @@ first_index [] = 0
 first_index (index ∷ indices) = index
 
 -- the indices rising, and the one that seals, where they fall
-abbrev pub told_of : List ℕ → BodyOut
-told_of falling = body.Keys (reverse falling) (first_index falling)
+abbrev pub keys_told : List ℕ → BodyOut
+keys_told falling = body.Keys (reverse falling) (first_index falling)
 
 -- those after a rotation
 abbrev pub indices_rotated : List HeldKey → ℕ → List ℕ

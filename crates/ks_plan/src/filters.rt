@@ -1,6 +1,6 @@
 //! The filters of listings: the fields of a query, and what they ask of a row.
 ghost use Rattle.std.specs.Prelude.{◌≡◌, option_copied};
-ghost use Rattle.ks_machine.specs.Listings.{has_domain, has_enabled, has_name, has_text, has_truth, says_no};
+ghost use Rattle.ks_machine.specs.Listings.{passes_domain, passes_enabled, passes_name, has_text, has_truth, says_no};
 ghost use Rattle.ks_rule.specs.Kinds.{value_in};
 
 use ks_base::{FieldList, Id, Text};
@@ -51,19 +51,19 @@ fn has_truth(fields: &FieldList, name: &str, value: bool) -> bool
 }
 
 pub fn has_name(fields: &FieldList, name: &Text) -> bool
-    ensures { result ≡ has_name fields.now name.now }
+    ensures { result ≡ passes_name fields.now name.now }
 {
     has_text(fields, "name", name.as_slice())
 }
 
 pub fn has_domain(fields: &FieldList, domain: &Id) -> bool
-    ensures { result ≡ has_domain fields.now domain.now }
+    ensures { result ≡ passes_domain fields.now domain.now }
 {
     has_text(fields, "domain_id", domain.as_slice())
 }
 
 pub fn has_enabled(fields: &FieldList, enabled: bool) -> bool
-    ensures { result ≡ has_enabled fields.now enabled }
+    ensures { result ≡ passes_enabled fields.now enabled }
 {
     has_truth(fields, "enabled", enabled)
 }

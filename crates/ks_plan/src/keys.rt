@@ -11,7 +11,7 @@ ghost use Rattle.ks_machine.specs.Fit.{IsFolder};
 ghost use Rattle.ks_machine.specs.Keys.{is_failed, keys_read, load_keys, rotate_keys};
 ghost use Rattle.ks_machine.specs.States.{State};
 ghost use Rattle.ks_plan.specs.Plans.{Gives, Passes, Plans};
-ghost use Rattle.ks_plan.specs.KeysTold.{indices_of, indices_rotated, told_of};
+ghost use Rattle.ks_plan.specs.KeysTold.{indices_of, indices_rotated, keys_told};
 ghost use Rattle.ks_ring.specs.Rings.{active, highest, is_staged, new_of, promoted, promoted_to, refusal_of};
 
 use crate::checks::need;
@@ -26,7 +26,7 @@ use std::alloc::{AllocError, Global};
 
 /// What is told of keys with these indices, which fall.
 fn told_of(alloc: Global, falling: &[u32]) -> Result<BodyOut, Memory>
-    ensures { IfOk result (λ told. told ≡ told_of falling.now) }
+    ensures { IfOk result (λ told. told ≡ keys_told falling.now) }
 {
     let mut rising = Vec::from_slice(alloc, falling)?;
     rising.reverse();

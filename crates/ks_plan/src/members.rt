@@ -3,7 +3,7 @@ ghost use Rattle.std.specs.Prelude.{◌≡◌, filter, map, IfOk};
 ghost use Rattle.ks_auth.specs.Answers.{rows_told};
 ghost use Rattle.ks_base.specs.Tables.{id_cmp, IsAscending};
 ghost use Rattle.ks_base.specs.Rows.{has_id};
-ghost use Rattle.ks_machine.specs.Members.{groups_of, implication, implied, implies, imply, is_implied, is_in, join, leave, members_of, told_inference, unimply, unless_standing};
+ghost use Rattle.ks_machine.specs.Members.{list_groups_of, implication, implied, implies, imply, is_implied, is_in, join, leave, list_members_of, told_inference, unimply, unless_standing};
 ghost use Rattle.ks_machine.specs.Effective.{is_member};
 ghost use Rattle.ks_plan.specs.Plans.{Passes, Plans, outcome_of};
 
@@ -73,9 +73,9 @@ fn users_found(alloc: Global, tables: &Tables, group: &Id) -> Result<RowList, Me
 }
 
 /// The groups that the user is in.
-#[tactic(auto, unfolding(ks_machine::specs::Members::groups_of))]
+#[tactic(auto, unfolding(ks_machine::specs::Members::list_groups_of))]
 pub fn groups_of(alloc: Global, tables: &Tables, user: &Id) -> Result<Plan, Halt>
-    ensures { Plans result (groups_of (rows_told tables.now) user.now) }
+    ensures { Plans result (list_groups_of (rows_told tables.now) user.now) }
 {
     let _user = standing_user(tables, user)?;
     let rows = groups_found(alloc, tables, user)?;
@@ -84,9 +84,9 @@ pub fn groups_of(alloc: Global, tables: &Tables, user: &Id) -> Result<Plan, Halt
 }
 
 /// The users in the group.
-#[tactic(auto, unfolding(ks_machine::specs::Members::members_of))]
+#[tactic(auto, unfolding(ks_machine::specs::Members::list_members_of))]
 pub fn members_of(alloc: Global, tables: &Tables, group: &Id) -> Result<Plan, Halt>
-    ensures { Plans result (members_of (rows_told tables.now) group.now) }
+    ensures { Plans result (list_members_of (rows_told tables.now) group.now) }
 {
     let _group = standing_group(tables, group)?;
     let rows = users_found(alloc, tables, group)?;

@@ -19,7 +19,7 @@ use Rattle.ks_server.specs.declared.number.RequestNumber.{RequestNumber}
 use Rattle.ks_server.specs.Exchanges.{Exchange}
 use Rattle.ks_server.specs.Sessions.{IsTold, ReadShort, WroteAll, responses}
 use Rattle.ks_server.specs.Ties.{AreNumbered}
-use Rattle.ks_server.specs.Work.{Serves}
+use Rattle.ks_server.specs.Work.{ServesLink}
 use Rattle.ks_server.specs.steps.Answers.{Answers, AreOf, GivesUp, IsAnswered, IsUnwritten, RefusesBytes, WritesAnswer}
 use Rattle.ks_server.specs.steps.Progress.{Progress, StandsBehind}
 use Rattle.ks_turn.specs.Passes.{Passed}
@@ -101,7 +101,7 @@ module _ {F Link : Type 0} {old now new : Passed} {desk desk_now desk_new : Desk
   numbered = numbers_of number request a.exchanges a.are
 
   -- its response was not written whole
-  pub stopped : (held' : List ℕ) → Came held' → (why : Closed F) → result ≡ Err why → Serves old new desk desk_new dir dir_new connection link link_new why
+  pub stopped : (held' : List ℕ) → Came held' → (why : Closed F) → result ≡ Err why → ServesLink old new desk desk_new dir dir_new connection link link_new why
   stopped held' came why ended =
       exits h a.exchanges a.works why numbered
       (read_counts (why ≡ closed.ReadFault) (λ is. not_read new.seen a.exchanges why (subst (λ r. IsAnswered new.seen a.exchanges r) ended a.is) is))
@@ -122,7 +122,7 @@ module _ {F Link : Type 0} {old now new : Passed} {desk desk_now desk_new : Desk
     wrote before is = subst (λ r. WritesAnswer new.seen count before link_new.written a.exchanges r) went (a.told before (reads.written ∙ is))
 
     -- and the connection ends with it
-    pub asked : (held' : List ℕ) → Came held' → request.close ≡ true → Serves {F = F} old new desk desk_new dir dir_new connection link link_new closed.Asked
+    pub asked : (held' : List ℕ) → Came held' → request.close ≡ true → ServesLink {F = F} old new desk desk_new dir dir_new connection link link_new closed.Asked
     asked held' came closes =
         exits h a.exchanges a.works closed.Asked numbered (read_counts (HasReadFault {F = F} closed.Asked) (asked_read F)) (write_counts (HasWriteFault {F = F} closed.Asked) (λ is. absurd (asked_write F is))) names
         (λ text before behind.
@@ -133,7 +133,7 @@ module _ {F Link : Type 0} {old now new : Passed} {desk desk_now desk_new : Desk
         (asks_end behind count w.0 (held' ++ next.0) link_new.left link_new.written h.count_is (subst (λ r. IsFirst (held ++ behind.rest) r (held' ++ next.0)) (sym same) next.2)
         (ap (λ (r : Request). r.close) same ∙ closes) w.2 w.3))
 
-    pub filled : (held' : List ℕ) → Came held' → request.close ≡ false → count + 1 ≡ 1000000 → Serves {F = F} old new desk desk_new dir dir_new connection link link_new closed.Last
+    pub filled : (held' : List ℕ) → Came held' → request.close ≡ false → count + 1 ≡ 1000000 → ServesLink {F = F} old new desk desk_new dir dir_new connection link link_new closed.Last
     filled held' came going full =
         exits h a.exchanges a.works closed.Last numbered (read_counts (HasReadFault {F = F} closed.Last) (last_read F)) (write_counts (HasWriteFault {F = F} closed.Last) (λ is. absurd (last_write F is))) names
         (λ text before behind.
@@ -161,7 +161,7 @@ module _ {F Link : Type 0} {old now : Passed} {desk desk_now : DeskState Link} {
     (h : Progress old now desk desk_now dir dir_now connection count link link_now held)
     {failed : Type 0} (reads : OnlyReads failed link_now link_read) where
   -- the input ended
-  pub ended : ((left : List ℕ) → link_now.left ≡ Some left → Ends (held ++ left) link_read.left ending.End) → Serves {F = F} old now desk desk_now dir dir_now connection link link_read closed.End
+  pub ended : ((left : List ℕ) → link_now.left ≡ Some left → Ends (held ++ left) link_read.left ending.End) → ServesLink {F = F} old now desk desk_now dir dir_now connection link link_read closed.End
   ended ends_so =
       exits h [] (works_none now desk_now dir_now) closed.End tt
       (record { kept = reads.reads.kept; rose = λ is. absurd (end_read F is) })
@@ -174,7 +174,7 @@ module _ {F Link : Type 0} {old now : Passed} {desk desk_now : DeskState Link} {
 
   -- the input could not be read
   pub unreadable : ((left : List ℕ) → link_now.left ≡ Some left → Ends (held ++ left) link_read.left ending.ReadFault) → failed
-      → Serves {F = F} old now desk desk_now dir dir_now connection link link_read closed.ReadFault
+      → ServesLink {F = F} old now desk desk_now dir dir_now connection link link_read closed.ReadFault
   unreadable begun_so fault =
       exits h [] (works_none now desk_now dir_now) closed.ReadFault tt
       (record { kept = reads.reads.kept; rose = λ is. reads.reads.rose fault })
@@ -186,7 +186,7 @@ module _ {F Link : Type 0} {old now : Passed} {desk desk_now : DeskState Link} {
 
   -- there was no memory to read
   pub forgotten : {link_new : StreamState} (why : Closed F) → OnlyWrites (why ≡ closed.WriteFault) link_read link_new → IsUnwritten why
-      → ((before : List ℕ) → link_read.written ≡ Some before → GivesUp before link_new.written why) → Serves old now desk desk_now dir dir_now connection link link_new why
+      → ((before : List ℕ) → link_read.written ≡ Some before → GivesUp before link_new.written why) → ServesLink old now desk desk_now dir dir_now connection link link_new why
   forgotten {link_new} why writes others told =
       exits h [] (works_none now desk_now dir_now) why tt
       (record { kept = (let same = writes.reads in let more = reads.reads.kept in omega (arith, same, more)); rose = λ is. absurd (unread why others is) })
@@ -197,7 +197,7 @@ module _ {F Link : Type 0} {old now : Passed} {desk desk_now : DeskState Link} {
   -- bytes came that are no request
   pub refused : {link_new : StreamState} (why : Closed F) (cause : HttpCause) → OnlyWrites (why ≡ closed.WriteFault) link_read link_new → (why ≡ closed.ReadFault → ⊥)
       → ((before : List ℕ) → link_read.written ≡ Some before → RefusesBytes cause before link_new.written why)
-      → ((left : List ℕ) → link_now.left ≡ Some left → Ends (held ++ left) link_read.left (ending.Bad cause)) → Serves old now desk desk_now dir dir_now connection link link_new why
+      → ((left : List ℕ) → link_now.left ≡ Some left → Ends (held ++ left) link_read.left (ending.Bad cause)) → ServesLink old now desk desk_now dir dir_now connection link link_new why
   refused {link_new} why cause writes others told bad_so =
       exits h [] (works_none now desk_now dir_now) why tt
       (record { kept = (let same = writes.reads in let more = reads.reads.kept in omega (arith, same, more)); rose = λ is. absurd (others is) })

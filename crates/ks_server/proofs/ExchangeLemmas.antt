@@ -37,7 +37,7 @@ use Rattle.ks_server.specs.Exchanges.{calls, refused, Exchange, bare, change_in,
 use Rattle.ks_server.specs.Orders.{AreBy, IsLate}
 use Rattle.ks_server.specs.Sessions.{AreKept}
 use Rattle.ks_server.specs.Ties.{Asks, IsAsked, IsDrawOf, IsPlain, IsReadFor, IsReadFrom, Rises, Tied, failed_draws, is_failed_draw, is_fault}
-use Rattle.ks_server.specs.Work.{Moves}
+use Rattle.ks_server.specs.Work.{PassMoves}
 use Rattle.ks_server.specs.steps.Answers.{Exchanges, Refuses, Says, told_by, told_where}
 use Rattle.ks_service.specs.declared.answer.Answer.{Answer}
 use Rattle.ks_service.specs.Called.{Called, IsDecidedUnless, IsNextUnless, capped, is_memory, made_by, numbered}
@@ -115,7 +115,7 @@ module _ {F : Type 0} (p q : Passed) (call : Call) (said : Answer F) (h : Called
   left : front_after q.seen exchange_of ≡ bare q.seen
   left = front_by (is_memory said.reply) p q call at said h.decided
 
-  pub called_moves : Moves p q (exchange_of ∷ [])
+  pub called_moves : PassMoves p q (exchange_of ∷ [])
   called_moves =
       let top : (q.top ≡ p.top) ⊎ ((q.top ≡ capped call.reading) ⊎ ⊥) = elim h.top [ inl same ↦ inl same | inr is ↦ inr (inl is) ] in
       record {

@@ -5,7 +5,7 @@ use Rattle.std.specs.List.{AllByRecursion}
 use Rattle.ks_base.specs.declared.receipt.Receipt.{Receipt}
 use Rattle.ks_machine.specs.Fronts.{Front, ◌⊑◌}
 use Rattle.ks_machine.proofs.FrontLemmas.{calls_go_on, reflexive, transitive}
-use Rattle.ks_server.specs.Exchanges.{Asked, calls, refused, Exchange, bare, change_in, change_of, cut_at, front_after, left_by, made}
+use Rattle.ks_server.specs.Exchanges.{Asked, calls, refused, Exchange, bare, change_in, change_by, cut_at, front_after, left_by, made}
 use Rattle.ks_server.specs.Orders.{AreBy, Goes, GoesAlone, HasPlace, IsFrom}
 use Rattle.ks_service.specs.Called.{numbered}
 
@@ -107,19 +107,19 @@ unfolding made
 made_kept f g on [] within = refl
 made_kept f g on (x ∷ xs) within =
     ap (λ front. numbered x.receipt.changes (change_in front x.asked x.receipt.memory) ++ made g xs) (cut_kept f g on x.receipt within.0)
-    ∙ ap (λ l. numbered x.receipt.changes (change_of f x) ++ l) (made_kept f g on xs within.1)
+    ∙ ap (λ l. numbered x.receipt.changes (change_by f x) ++ l) (made_kept f g on xs within.1)
 
 pub made_both : (journal : Front) (xs ys : List Exchange) → made journal (xs ++ ys) ≡ made journal xs ++ made journal ys
 unfolding made
 made_both journal [] ys = refl
 made_both journal (x ∷ xs) ys =
-    ap (λ l. numbered x.receipt.changes (change_of journal x) ++ l) (made_both journal xs ys)
-    ∙ sym (append_assoc (numbered x.receipt.changes (change_of journal x)) (made journal xs) (made journal ys))
+    ap (λ l. numbered x.receipt.changes (change_by journal x) ++ l) (made_both journal xs ys)
+    ∙ sym (append_assoc (numbered x.receipt.changes (change_by journal x)) (made journal xs) (made journal ys))
 
 pub made_none : (journal : Front) → made journal [] ≡ []
 unfolding made
 made_none journal = refl
 
-pub made_one : (journal : Front) (x : Exchange) → made journal (x ∷ []) ≡ numbered x.receipt.changes (change_of journal x)
+pub made_one : (journal : Front) (x : Exchange) → made journal (x ∷ []) ≡ numbered x.receipt.changes (change_by journal x)
 unfolding made
-made_one journal x = append-nil (numbered x.receipt.changes (change_of journal x))
+made_one journal x = append-nil (numbered x.receipt.changes (change_by journal x))

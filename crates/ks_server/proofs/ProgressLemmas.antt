@@ -14,7 +14,7 @@ use Rattle.ks_server.specs.declared.closed.Closed.TheVariants as closed
 use Rattle.ks_server.specs.Exchanges.{Exchange, bare}
 use Rattle.ks_server.specs.Sessions.{EndsSession}
 use Rattle.ks_server.specs.Ties.{AreNumbered}
-use Rattle.ks_server.specs.Work.{Serves, Works}
+use Rattle.ks_server.specs.Work.{ServesLink, Works}
 use Rattle.ks_server.specs.steps.Progress.{Progress, StandsBehind}
 use Rattle.ks_turn.specs.Passes.{Passed}
 
@@ -65,7 +65,7 @@ module _ {Link : Type 0} {old now new : Passed} {desk desk_now desk_new : DeskSt
       → link_new.names ≡ link_now.names
       → ((text before : List ℕ) → StandsBehind new.seen text before held link_now.left link_now.written h.exchanges
       → EndsSession new.seen text before link_new.left link_new.written (h.exchanges ++ over) why)
-      → Serves old new desk desk_new dir dir_new connection link link_new why
+      → ServesLink old new desk desk_new dir dir_new connection link link_new why
   exits why numbered reads writes names told = record {
     exchanges = h.exchanges ++ over;
     works = works_both h.works works;

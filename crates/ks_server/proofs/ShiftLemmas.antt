@@ -15,7 +15,7 @@ use Rattle.ks_server.specs.declared.closed.Closed.{Closed}
 use Rattle.ks_server.specs.declared.closed.Closed.TheVariants as closed
 use Rattle.ks_server.specs.Exchanges.{Exchange, bare}
 use Rattle.ks_server.specs.Ties.{KeepsLinks, Tied}
-use Rattle.ks_server.specs.Work.{Serves, Works}
+use Rattle.ks_server.specs.Work.{ServesLink, Works}
 use Rattle.ks_server.specs.Workers.{AreVisited, EndsAtKeeper, EndsShift, HasNoKeeperFault, HaveNoKeeperFault, IsVisited, Place, Visit, accepted_of, exchanges_of, returned_of}
 use Rattle.ks_server.specs.steps.Shifts.{HaveServed, IsWorked, Working}
 use Rattle.ks_turn.specs.Passes.{Passed}
@@ -150,7 +150,7 @@ module _ {F Link : Type 0} {state : Link → StreamState} {old now next : Passed
     {link link_new : Link} (came : Hands desk accepted link)
     (accepts : Accepted desk accepted) (counted : desk.accept_faults ≤ accepted.accept_faults)
     {number : ℕ} {why : Closed F}
-    (links : KeepsLinks accepted served) (serves : Serves now next accepted served dir dir_new number (state link) (state link_new) why)
+    (links : KeepsLinks accepted served) (serves : ServesLink now next accepted served dir dir_new number (state link) (state link_new) why)
     (returned : Appends (link_new ∷ []) served.returned desk_new.returned) (gives : GivenBack served desk_new) where
   abbrev pub visit : Visit F Link
   visit = record { accepted = link; returned = link_new; exchanges = serves.exchanges; why = why }
@@ -284,7 +284,7 @@ module _ {F Link : Type 0} {state : Link → StreamState} {connections number : 
     {link link_new : Link} (came : Hands desk accepted link)
     (accepts : Accepted desk accepted) (counted : desk.accept_faults ≤ accepted.accept_faults)
     {why : Closed F}
-    (links : KeepsLinks accepted served) (serves : Serves now next accepted served dir dir_new number (state link) (state link_new) why)
+    (links : KeepsLinks accepted served) (serves : ServesLink now next accepted served dir dir_new number (state link) (state link_new) why)
     (returned : Appends (link_new ∷ []) served.returned desk_new.returned) (gives : GivenBack served desk_new) where
   abbrev one : Visit F Link
   one = visit h.served came accepts counted links serves returned gives

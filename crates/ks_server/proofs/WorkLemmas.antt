@@ -6,7 +6,7 @@ use Rattle.ks_outside.specs.Files.{DirState}
 use Rattle.ks_server.proofs.OrderLemmas.{alone_both, alone_kept, goes_both, goes_kept, made_both, made_kept, made_none, within_of}
 use Rattle.ks_server.proofs.TieLemmas.{tied_both, tied_none}
 use Rattle.ks_server.specs.Exchanges.{Exchange, bare, made}
-use Rattle.ks_server.specs.Work.{IsReadingAmong, Moves, Works}
+use Rattle.ks_server.specs.Work.{IsReadingAmong, PassMoves, Works}
 use Rattle.ks_turn.specs.Passes.{Passed}
 
 -- moves
@@ -25,7 +25,7 @@ top_both a b c xs ys one (inr among) = inr (reading_last c xs ys among)
 top_both a b c xs ys (inl same) (inl kept) = inl (kept ∙ same)
 top_both a b c xs ys (inr among) (inl kept) = inr (subst (λ m. IsReadingAmong m (xs ++ ys)) (sym kept) (reading_first b xs ys among))
 
-pub moves_none : (p : Passed) → Moves p p []
+pub moves_none : (p : Passed) → PassMoves p p []
 moves_none p = record {
   turn = refl;
   later = reflexive p.seen;
@@ -36,7 +36,7 @@ moves_none p = record {
   alone = λ all. tt;
 }
 
-pub moves_both : (p q r : Passed) (xs ys : List Exchange) → Moves p q xs → Moves q r ys → Moves p r (xs ++ ys)
+pub moves_both : (p q r : Passed) (xs ys : List Exchange) → PassMoves p q xs → PassMoves q r ys → PassMoves p r (xs ++ ys)
 moves_both p q r xs ys one other =
     let within = within_of q.seen (bare p.seen) (bare q.seen) xs one.in_order in
     let in_order = goes_kept q.seen r.seen (bare p.seen) (bare q.seen) xs other.later one.in_order in

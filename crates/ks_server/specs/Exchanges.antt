@@ -58,10 +58,10 @@ change_in front (calls call) false = made_by front call
 change_in front (calls call) true = None
 change_in front (refused why) memory = None
 
-abbrev pub change_of : Front → Exchange → Option Change
-change_of journal x = change_in (cut_at journal x.receipt) x.asked x.receipt.memory
+abbrev pub change_by : Front → Exchange → Option Change
+change_by journal x = change_in (cut_at journal x.receipt) x.asked x.receipt.memory
 
 -- the numbers of the changes that these exchanges made
 unfoldable pub made : Front → List Exchange → List ℕ
 made journal [] = []
-made journal (x ∷ xs) = numbered x.receipt.changes (change_of journal x) ++ made journal xs
+made journal (x ∷ xs) = numbered x.receipt.changes (change_by journal x) ++ made journal xs

@@ -8,13 +8,13 @@ use Rattle.ks_server.specs.declared.closed.Closed.{Closed}
 use Rattle.ks_server.specs.Exchanges.{Exchange, cut_at, front_after}
 use Rattle.ks_server.specs.Orders.{InOrder, IsLate}
 use Rattle.ks_server.specs.Sessions.{EndsSession}
-use Rattle.ks_server.specs.Work.{Moves}
+use Rattle.ks_server.specs.Work.{PassMoves}
 use Rattle.ks_server.specs.Workers.{Place, ServesAll, all_exchanges}
 use Rattle.ks_turn.specs.Passes.{Passed}
 
 -- what a pass did is in order: from what it had seen to what it has seen
 abbrev pub MovesInOrder : Type 0
-MovesInOrder = (old new : Passed) (xs : List Exchange) → Moves old new xs → InOrder old.seen new.seen xs
+MovesInOrder = (old new : Passed) (xs : List Exchange) → PassMoves old new xs → InOrder old.seen new.seen xs
 
 -- where the receipt of an exchange stands in the journal
 pub record IsPlaced (seen journal : Front) (x : Exchange) : Type 0 where

@@ -24,7 +24,7 @@ IsReadingAmong moment [] = ⊥
 IsReadingAmong moment (x ∷ xs) = IsReading moment x.asked ⊎ IsReadingAmong moment xs
 
 -- what a pass saw and made
-pub record Moves (old new : Passed) (xs : List Exchange) : Type 0 where
+pub record PassMoves (old new : Passed) (xs : List Exchange) : Type 0 where
   pub turn : new.turn ≡ old.turn
   -- it has seen at the end what the last exchange left
   pub later : old.seen ⊑ new.seen
@@ -38,11 +38,11 @@ pub record Moves (old new : Passed) (xs : List Exchange) : Type 0 where
   pub alone : old.weight ≡ 1000000 → GoesAlone new.seen (bare old.seen) xs
 
 pub record Works {Link : Type 0} (old new : Passed) (desk desk_after : DeskState Link) (dir dir_after : DirState) (xs : List Exchange) : Type 0 where
-  pub moves : Moves old new xs
+  pub moves : PassMoves old new xs
   pub tied : Tied desk desk_after dir dir_after xs
 
 -- a link was served, and its connection ended for this
-pub record Serves {F Link : Type 0} (old new : Passed) (desk desk_after : DeskState Link) (dir dir_after : DirState) (connection : ℕ) (link link_after : StreamState) (why : Closed F) : Type 0 where
+pub record ServesLink {F Link : Type 0} (old new : Passed) (desk desk_after : DeskState Link) (dir dir_after : DirState) (connection : ℕ) (link link_after : StreamState) (why : Closed F) : Type 0 where
   pub exchanges : List Exchange
   pub works : Works old new desk desk_after dir dir_after exchanges
   pub numbered : AreNumbered connection 0 exchanges

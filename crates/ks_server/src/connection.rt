@@ -1,6 +1,6 @@
 ghost use Rattle.std.specs.Prelude.{◌≡◌};
 ghost use Rattle.ks_server.specs.Ties.{KeepsLinks};
-ghost use Rattle.ks_server.specs.Work.{Serves};
+ghost use Rattle.ks_server.specs.Work.{ServesLink};
 
 use crate::closed::Closed;
 use crate::number::RequestNumber;
@@ -47,7 +47,7 @@ pub fn serve_connection<
     requires own { pass.turn ≡ turn.now }
     requires url { url.now ≡ pass.seen.opening.settings.url }
     ensures links { KeepsLinks (P.desk desk.old) (P.desk desk.new) }
-    ensures serves { Serves pass result.0 (P.desk desk.old) (P.desk desk.new) (D.dir dir.old) (D.dir dir.new) connection (L.stream link.old) (L.stream link.new) result.1 }
+    ensures serves { ServesLink pass result.0 (P.desk desk.old) (P.desk desk.new) (D.dir dir.old) (D.dir dir.new) connection (L.stream link.old) (L.stream link.new) result.1 }
 {
     let server = Server {
         alloc,

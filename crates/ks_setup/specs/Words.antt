@@ -54,8 +54,8 @@ pub record Form : Type 0 where
   pub meaning : List Row → Words
 
 -- a word that has to be there
-abbrev pub needed : List ℕ → Rule
-needed id = record (new_rule id) { required = true }
+abbrev pub required_word : List ℕ → Rule
+required_word id = record (new_rule id) { required = true }
 
 abbrev pub check_app : App
 check_app = new_app (codes "check")
@@ -64,7 +64,7 @@ abbrev pub check : Form
 check = record { app = check_app; meaning = λ rows. Check }
 
 abbrev pub talk_app : App
-talk_app = with_rule (with_rule (new_app (codes "talk")) (needed (codes "file"))) (needed (codes "folder"))
+talk_app = with_rule (with_rule (new_app (codes "talk")) (required_word (codes "file"))) (required_word (codes "folder"))
 
 -- what one connection is served with, by one desk
 abbrev pub talk_places : Option (List ℕ) → Option (List ℕ) → Places
@@ -77,7 +77,7 @@ talk = record {
 }
 
 abbrev pub setup_app : App
-setup_app = with_rule (new_app (codes "setup")) (needed (codes "folder"))
+setup_app = with_rule (new_app (codes "setup")) (required_word (codes "folder"))
 
 -- where the keys of a folder are made or rotated
 abbrev pub folder_places : Option (List ℕ) → Places
@@ -100,11 +100,11 @@ unfoldable pub number_between : ℕ → ℕ → List ℕ → Option ℕ
 number_between least most word = digits_between least most (without_leading_plus word)
 
 -- an option with a value
-abbrev pub optional : List ℕ → Rule
-optional id = record (new_rule id) { long = Some id }
+abbrev pub valued_word : List ℕ → Rule
+valued_word id = record (new_rule id) { long = Some id }
 
 abbrev pub rotate_app : App
-rotate_app = with_rule (with_rule (new_app (codes "rotate")) (needed (codes "folder"))) (optional (codes "max"))
+rotate_app = with_rule (with_rule (new_app (codes "rotate")) (required_word (codes "folder"))) (valued_word (codes "max"))
 
 -- how many keys a rotation leaves: 3 where nothing is said
 abbrev pub max_said : Option (List ℕ) → Option ℕ
@@ -113,10 +113,10 @@ max_said (Some word) = number_between FEWEST_KEYS KEYS word
 
 -- `serve` without its options
 abbrev pub places_app : App
-places_app = with_rule (with_rule (with_rule (new_app (codes "serve")) (needed (codes "file"))) (needed (codes "folder"))) (needed (codes "address"))
+places_app = with_rule (with_rule (with_rule (new_app (codes "serve")) (required_word (codes "file"))) (required_word (codes "folder"))) (required_word (codes "address"))
 
 abbrev pub serve_app : App
-serve_app = with_rule (with_rule places_app (optional (codes "workers"))) (optional (codes "connections"))
+serve_app = with_rule (with_rule places_app (valued_word (codes "workers"))) (valued_word (codes "connections"))
 
 -- what so many workers serve with; the address stays a text, of which the program makes a socket
 abbrev pub serve_places : Option (List ℕ) → Option (List ℕ) → Option (List ℕ) → ℕ → Places

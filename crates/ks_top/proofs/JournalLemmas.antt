@@ -66,7 +66,7 @@ abbrev talk_of : {Link Seat : Type 0} → World Link Seat → World Link Seat �
 talk_of old new xs why = record { came = link_of old; went = link_of new; exchanges = xs; why = why }
 
 talk_told : {Link Seat : Type 0} (view : Seat → Place Link) (stream : Link → StreamState) (places : Places) (old new : World Link Seat) (opening : PlainOpening) (desk : DeskState Link) (f : Option Fault) (state : Shown)
-    → talk.Serves old new opening desk f state → IsOfOneJournal view stream (asked.Talk places) old new f state
+    → talk.ServesOne old new opening desk f state → IsOfOneJournal view stream (asked.Talk places) old new f state
 talk_told view stream places old new opening desk f state s =
     let first = first_front opening in
     let c = talk_of old new s.exchanges s.why in

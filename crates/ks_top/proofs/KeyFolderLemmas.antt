@@ -8,8 +8,8 @@ use Rattle.ks_base.specs.declared.faults.KeysFault.{KeysFault}
 use Rattle.ks_base.specs.declared.faults.KeysFault.TheVariants.{Failed, NoKeys, BadKey, TooMany, AlreadySet, IndexEnd, Memory}
 use Rattle.ks_base.specs.declared.key.Key.{Key}
 use Rattle.ks_outside.specs.Files.{KeyFile, indices_of}
-use Rattle.ks_keyfiles.specs.Setups.{SetsUp}
-use Rattle.ks_keyfiles.specs.Rotations.{IsRotating, Rotates, excess, rotated, rotation_fault, staged_anew}
+use Rattle.ks_keyfiles.specs.Setups.{SetsUpFiles}
+use Rattle.ks_keyfiles.specs.Rotations.{IsRotating, RotatesFiles, excess, rotated, rotation_fault, staged_anew}
 use Rattle.ks_keyfiles.proofs.RemovalLemmas.{left_by}
 use Rattle.ks_top.specs.declared.fault.Fault.{Fault}
 use Rattle.ks_top.specs.declared.fault.Fault.TheVariants as fault
@@ -66,7 +66,7 @@ line_whole line indices k end so_far = ap (λ l. line ++ (indices_text l ++ code
 -- a setup
 
 pub setup_said : (random : List ℕ) (files : List KeyFile) (before : List ℕ) (now : Outside) (r : Result (Unit {0}) Fault) → HasDrawn 64 random now.random
-    → SetsUp (staged_from random) (primary_from random) files now.files (Ok tt) → Says (codes "keys 0 1\n") before now.written r → EndsSetup random files before now r
+    → SetsUpFiles (staged_from random) (primary_from random) files now.files (Ok tt) → Says (codes "keys 0 1\n") before now.written r → EndsSetup random files before now r
 setup_said random files before now (Ok done) drawn made says = (drawn, made.0, made.1, says)
 setup_said random files before now (Err fault.Write) drawn made says = (drawn, made.0, made.1, says)
 setup_said random files before now (Err fault.Memory) drawn made says = (inr drawn, inr (made.0, inr (inl made.1)), says)
@@ -80,7 +80,7 @@ setup_said random files before now (Err (fault.State reason)) drawn made says = 
 setup_said random files before now (Err fault.Desk) drawn made says = absurd says
 
 pub setup_refused : (random : List ℕ) (files : List KeyFile) (before : List ℕ) (now : Outside) (fault : KeysFault) → HasDrawn 64 random now.random
-    → SetsUp (staged_from random) (primary_from random) files now.files (Err fault) → now.written ≡ Some before → EndsSetup random files before now (Err (named fault))
+    → SetsUpFiles (staged_from random) (primary_from random) files now.files (Err fault) → now.written ≡ Some before → EndsSetup random files before now (Err (named fault))
 setup_refused random files before now Failed drawn left kept = (drawn, left, kept)
 setup_refused random files before now Memory drawn left kept = (inr drawn, left, kept)
 setup_refused random files before now AlreadySet drawn left kept = (drawn, left.0, left.1, kept)
@@ -91,15 +91,15 @@ setup_refused random files before now IndexEnd drawn left kept = absurd left
 
 -- the keys are those of the bytes
 pub keys_are : (random : List ℕ) (files : List KeyFile) (now : Option (List KeyFile)) (r : Result (Unit {0}) KeysFault) (staged primary : Key) → staged ≡ staged_from random
-    → primary ≡ primary_from random → SetsUp staged primary files now r → SetsUp (staged_from random) (primary_from random) files now r
+    → primary ≡ primary_from random → SetsUpFiles staged primary files now r → SetsUpFiles (staged_from random) (primary_from random) files now r
 keys_are random files now r staged primary first second made =
-    subst (λ (key : Key). SetsUp (staged_from random) key files now r) second (subst (λ (key : Key). SetsUp key primary files now r) first made)
+    subst (λ (key : Key). SetsUpFiles (staged_from random) key files now r) second (subst (λ (key : Key). SetsUpFiles key primary files now r) first made)
 
 -- a rotation
 
 pub key_is : (random : List ℕ) (max : ℕ) (files : List KeyFile) (now : Option (List KeyFile)) (r : Result (Vec ℕ Global) KeysFault) (new : Key) → new ≡ staged_from random
-    → Rotates new max files now r → Rotates (staged_from random) max files now r
-key_is random max files now r new is made = subst (λ (key : Key). Rotates key max files now r) is made
+    → RotatesFiles new max files now r → RotatesFiles (staged_from random) max files now r
+key_is random max files now r new is made = subst (λ (key : Key). RotatesFiles key max files now r) is made
 
 rotated_stands : (new : Key) (max : ℕ) (files : List KeyFile) (now : Option (List KeyFile)) → rotation_fault (indices_of files) ≡ None → now ≡ Some (rotated new max files)
     → IsRotating new max files now
@@ -111,7 +111,7 @@ rotated_stands new max files now none is =
     ]
 
 pub rotation_said : (max : ℕ) (random : List ℕ) (files : List KeyFile) (before : List ℕ) (now : Outside) (indices : Vec ℕ Global) (r : Result (Unit {0}) Fault) → HasDrawn 32 random now.random
-    → Rotates (staged_from random) max files now.files (Ok indices) → Says (keys_line indices.items) before now.written r → EndsRotation max random files before now r
+    → RotatesFiles (staged_from random) max files now.files (Ok indices) → Says (keys_line indices.items) before now.written r → EndsRotation max random files before now r
 rotation_said max random files before now indices (Ok done) drawn made says =
     (drawn, made.0, made.1, says ∙ ap (λ l. Some (before ++ keys_line l)) made.2)
 rotation_said max random files before now indices (Err fault.Write) drawn made says =

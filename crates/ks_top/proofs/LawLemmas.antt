@@ -24,7 +24,7 @@ use Rattle.ks_top.specs.Laws.{CommandsComplete, DeskFaultsAreCounted, EndsUnfail
 use Rattle.ks_top.specs.Runs.{ChangesKeys, Checks, Does, Runs}
 use Rattle.ks_top.specs.Serve.{desk_fault, serving}
 use Rattle.ks_top.specs.Serve as serve
-use Rattle.ks_top.specs.Talk.{Served, Talks, ending}
+use Rattle.ks_top.specs.Talk.{ServedOne, Talks, ending}
 use Rattle.ks_top.specs.World.{World}
 
 -- a fault of this value was told
@@ -113,7 +113,7 @@ ending_unfailed closed.WriteFault f is unfailed = absurd unfailed
 ending_unfailed (closed.KeeperFault never) f is unfailed = absurd unfailed
 
 talked_unfailed : {Link Seat : Type 0} (view : Seat → Place Link) (old new : World Link Seat) (f : Option Fault) (state : Shown)
-    → (opened : Opened (λ opening desk. Served old new f opening desk state) old new) → NothingFailed view old new → EndsUnfailed f
+    → (opened : Opened (λ opening desk. ServedOne old new f opening desk state) old new) → NothingFailed view old new → EndsUnfailed f
 talked_unfailed {Link} {Seat} view old new f state opened nothing =
     elim opened.done as (λ _. EndsUnfailed f) [
       | inl s ↦ ending_unfailed s.why f s.ends (talks_complete Link Seat old new opened.opening opened.desk s.journal s.exchanges s.why s.talked nothing.input nothing.output)
@@ -211,7 +211,7 @@ ending_is_none closed.ReadFault is = cc is
 ending_is_none closed.WriteFault is = cc is
 ending_is_none (closed.KeeperFault never) is = is
 
-talked_counted : {Link Seat : Type 0} (old new : World Link Seat) (state : Shown) → (opened : Opened (λ opening desk. Served old new (Some fault.Desk) opening desk state) old new) → ⊥
+talked_counted : {Link Seat : Type 0} (old new : World Link Seat) (state : Shown) → (opened : Opened (λ opening desk. ServedOne old new (Some fault.Desk) opening desk state) old new) → ⊥
 talked_counted old new state opened = elim opened.done as (λ _. ⊥) [
   | inl s ↦ ending_is_none s.why s.ends
   | inr h ↦ cc h.memory

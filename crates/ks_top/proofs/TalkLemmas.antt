@@ -15,7 +15,7 @@ use Rattle.ks_server.specs.declared.closed.Closed.TheVariants as closed
 use Rattle.ks_server.specs.Exchanges.{Exchange, made}
 use Rattle.ks_server.specs.Sessions.{EndsSession}
 use Rattle.ks_server.specs.Ties.{KeepsLinks}
-use Rattle.ks_server.specs.Work.{Moves}
+use Rattle.ks_server.specs.Work.{PassMoves}
 use Rattle.ks_server.specs.Work as work
 use Rattle.ks_state.specs.Standing.{Stands, StandsWithAllKept}
 use Rattle.ks_state.specs.Shown.{Shown}
@@ -23,7 +23,7 @@ use Rattle.ks_top.specs.declared.fault.Fault.{Fault}
 use Rattle.ks_top.specs.declared.fault.Fault.TheVariants as fault
 use Rattle.ks_top.specs.Identities.{Stopped}
 use Rattle.ks_top.specs.Opened.{IsOpening, StopsOpening}
-use Rattle.ks_top.specs.Talk.{Served, Talked, ending}
+use Rattle.ks_top.specs.Talk.{ServedOne, Talked, ending}
 use Rattle.ks_top.specs.World.{World}
 use Rattle.ks_top.specs.steps.Openings.{of_state}
 use Rattle.ks_top.proofs.ServeLemmas.{below_none}
@@ -48,7 +48,7 @@ looks_for P Q old new from looks = record { files = looks.files; faults = counts
 
 -- the changes that were made
 
-made_once : (opening : PlainOpening) (pass after : Passed) (xs : List Exchange) → Moves (first_pass pass.turn (first_front opening)) after xs → Ends (first_front opening) after
+made_once : (opening : PlainOpening) (pass after : Passed) (xs : List Exchange) → PassMoves (first_pass pass.turn (first_front opening)) after xs → Ends (first_front opening) after
     → (n : ℕ) → times n (made after.seen xs) ≡ below n (length after.seen.changes)
 made_once opening pass after xs moves ends n =
     let own : times n after.own ≡ times n (made after.seen xs) = ap (times n) moves.own in
@@ -85,12 +85,12 @@ counts_at P a b c d first second counts = subst (λ n. Counts P n d) first (subs
 
 pub talked : {Link Seat : Type 0} (old new : World Link Seat) (opening : PlainOpening) (opened : DeskState Link) (pass after : Passed) (why : Closed Infallible) (link link_after : StreamState)
     → pass ≡ first_pass pass.turn (first_front opening)
-    → (serves : work.Serves pass after opened new.desk old.place new.place 0 link link_after why)
+    → (serves : work.ServesLink pass after opened new.desk old.place new.place 0 link link_after why)
     → KeepsLinks opened new.desk → Ends (first_front opening) after
     → IsLink link old.input old.output → IsLink link_after new.input new.output
     → Talked old new opening opened after.seen serves.exchanges why
 talked old new opening opened pass after why link link_after first serves links ends is is_after =
-    let moves : Moves (first_pass pass.turn (first_front opening)) after serves.exchanges = subst (λ p. Moves p after serves.exchanges) first serves.works.moves in
+    let moves : PassMoves (first_pass pass.turn (first_front opening)) after serves.exchanges = subst (λ p. PassMoves p after serves.exchanges) first serves.works.moves in
     record {
       numbered = serves.numbered;
       in_order = moves.in_order;
@@ -105,10 +105,10 @@ talked old new opening opened pass after why link link_after first serves links 
 
 pub served : {Link Seat : Type 0} {link link_after : StreamState} (old new : World Link Seat) (opening : PlainOpening) (opened : DeskState Link) (pass after : Passed) (why : Closed Infallible) (f : Option Fault) (state : Shown)
     → pass ≡ first_pass pass.turn (first_front opening)
-    → (serves : work.Serves pass after opened new.desk old.place new.place 0 link link_after why)
+    → (serves : work.ServesLink pass after opened new.desk old.place new.place 0 link link_after why)
     → KeepsLinks opened new.desk → Ends (first_front opening) after
     → IsLink link old.input old.output → IsLink link_after new.input new.output
-    → StandsWithAllKept state after.seen → ending why f → Served old new f opening opened state
+    → StandsWithAllKept state after.seen → ending why f → ServedOne old new f opening opened state
 served {link} {link_after} old new opening opened pass after why f state first serves links ends is is_after stands ended = inl (record {
   journal = after.seen;
   exchanges = serves.exchanges;

@@ -50,7 +50,7 @@ pub record Talked {Link Seat : Type 0} (old new : World Link Seat) (opening : Pl
   pub writes : Counts (why ≡ closed.WriteFault) old.output.write_faults new.output.write_faults
 
 -- the connection was served, and the identity stands for the end of its journal
-pub record Serves {Link Seat : Type 0} (old new : World Link Seat) (opening : PlainOpening) (opened : DeskState Link) (f : Option Fault) (state : Shown) : Type 0 where
+pub record ServesOne {Link Seat : Type 0} (old new : World Link Seat) (opening : PlainOpening) (opened : DeskState Link) (f : Option Fault) (state : Shown) : Type 0 where
   pub journal : Front
   pub exchanges : List Exchange
   pub why : Closed Infallible
@@ -59,9 +59,9 @@ pub record Serves {Link Seat : Type 0} (old new : World Link Seat) (opening : Pl
   pub ends : ending why f
 
 -- it was served, unless there was no memory for that
-abbrev pub Served : {Link Seat : Type 0} → World Link Seat → World Link Seat → Option Fault → PlainOpening → DeskState Link → Shown → Type 0
-Served old new f opening opened state = Serves old new opening opened f state ⊎ HadNoRoom old new opening opened f state
+abbrev pub ServedOne : {Link Seat : Type 0} → World Link Seat → World Link Seat → Option Fault → PlainOpening → DeskState Link → Shown → Type 0
+ServedOne old new f opening opened state = ServesOne old new opening opened f state ⊎ HadNoRoom old new opening opened f state
 
 -- what a talk does
 abbrev pub Talks : {Link Seat : Type 0} → World Link Seat → World Link Seat → Option Fault → Option Shown → Type 0
-Talks old new f state = OpensThen (Served old new f) old new f state
+Talks old new f state = OpensThen (ServedOne old new f) old new f state

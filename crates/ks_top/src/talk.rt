@@ -6,7 +6,7 @@ ghost use Rattle.ks_outside.specs.Streams.{StreamState};
 ghost use Rattle.ks_policy.specs.Openings.{plain};
 ghost use Rattle.ks_machine.specs.Fronts.{first_front};
 ghost use Rattle.ks_state.specs.Standing.{StandsWithAllKept};
-ghost use Rattle.ks_top.specs.Talk.{Served, Talks, ending};
+ghost use Rattle.ks_top.specs.Talk.{ServedOne, Talks, ending};
 
 use crate::fault::Fault;
 use crate::opened::{Opened, open};
@@ -61,7 +61,7 @@ fn serve_one<N: First, R: AllocGlobal + Wait, S: Source, K: Sink, D: KeyDir, P: 
     requires front { N.front ≡ first_front (plain opened.opening.value) }
     requires stands { StandsWithAllKept opened.identity N.front }
     requires url { opened.url ≡ opened.opening.value.settings.url }
-    ensures { (before : DeskState P.Link) (file file_after : StreamState) (dir dir_after : DirState) (others : List (P × D)) → Served
+    ensures { (before : DeskState P.Link) (file file_after : StreamState) (dir dir_after : DirState) (others : List (P × D)) → ServedOne
         (record { input = S.stream input.old; file = file; output = K.stream output.old; dir = dir; desk = before; place = D.dir place.old; others = others })
         (record { input = S.stream input.new; file = file_after; output = K.stream output.new; dir = dir_after; desk = P.desk desk.new; place = D.dir place.new; others = others })
         result.0 (plain opened.opening.value) (P.desk desk.old) result.1 }

@@ -3,7 +3,7 @@ use Rattle.std.specs.Prelude.{◌≡◌, [], ◌∷◌, Option}
 use Rattle.ks_base.specs.Refusals.{first_of}
 use Rattle.ks_base.specs.Rows.{Rows}
 use Rattle.ks_machine.specs.declared.settings.OpenFault.{OpenFault}
-use Rattle.ks_machine.specs.Opened.{absent_fault, disabled_above, first_alone, ids_fault, names_fault, prohibited, rows_opened, too_deep}
+use Rattle.ks_machine.specs.Opened.{absent_fault, project_below_disabled, first_alone, ids_fault, names_fault, prohibited, rows_opened, project_too_deep}
 use Rattle.ks_machine.specs.Openings.{PlainOpening}
 use Rattle.ks_opening.specs.declared.listed.Listed.{Listed}
 
@@ -32,7 +32,7 @@ pub record AreRowsOf (listed : Listed) (opening : PlainOpening) : Type 0 where
 -- the first fault of what rows name, of the trees and of the roles, where these rows stand
 abbrev pub rows_fault : Rows → PlainOpening → Option OpenFault
 rows_fault rows opening = first_of (
-    absent_fault rows opening ∷ first_alone (too_deep rows) opening.projects ∷ first_alone (disabled_above rows) opening.projects ∷
+    absent_fault rows opening ∷ first_alone (project_too_deep rows) opening.projects ∷ first_alone (project_below_disabled rows) opening.projects ∷
     first_alone (prohibited rows) opening.implications ∷ [])
 
 -- the first fault of the rows, before it is seen how many they are

@@ -1,7 +1,7 @@
 -- How far a worker has come, and what it did.
 use Rattle.std.specs.Prelude.{◌≡◌, ◌≢◌, ℕ, ◌%◌, ◌^◌, ◌≤◌, Bool, List, ◌++◌, length, Option, Some}
 use Rattle.ks_outside.specs.Streams.{Appends, StreamState}
-use Rattle.ks_server.specs.Work.{Moves, Works}
+use Rattle.ks_server.specs.Work.{PassMoves, Works}
 use Rattle.ks_server.specs.Workers.{AreVisited, HaveNoKeeperFault, IsServed, Place, Visit, accepted_of, exchanges_of, returned_of}
 use Rattle.ks_turn.specs.Passes.{Passed}
 
@@ -24,5 +24,5 @@ pub record Working (F : Type 0) {Link : Type 0} (state : Link → StreamState) (
 -- a worker ended so
 pub record IsWorked {F Link : Type 0} (state : Link → StreamState) (connections : ℕ) (old new : Passed) (place place_new : Place Link) (failed : Bool) (keeper : Option F) : Type 0 where
   pub visits : List (Visit F Link)
-  pub moves : Moves old new (exchanges_of visits)
+  pub moves : PassMoves old new (exchanges_of visits)
   pub served : IsServed state connections old.seen new.seen place place_new (record { visits = visits; failed = failed; keeper = keeper })
