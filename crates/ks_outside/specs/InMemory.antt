@@ -1,6 +1,7 @@
 -- What the objects in memory show: they tell all that they hold.
 use Rattle.std.specs.Prelude.{◌≡◌, ◌+◌, ◌≤◌, ◌⊎◌, ◌↔◌, ℕ, List, [], Option, Some, None, Contains}
 use Rattle.ks_base.specs.declared.receipt.Receipt.{Receipt}
+use Rattle.ks_outside.specs.declared.desk_call.DeskCall.{DeskCall}
 use Rattle.ks_outside.specs.Counts.{next_count, Counts}
 use Rattle.ks_outside.specs.Streams.{StreamState}
 use Rattle.ks_outside.specs.Files.{KeyFile, DirState}
@@ -71,14 +72,15 @@ pub record Called (failed : Type 0) (old new : MemoryDirState) : Type 0 where
   -- and then changes no file
   pub fault : failed → new ≡ record old { calls = next_count old.calls; faults = next_count old.faults }
 
--- a desk in memory: what it holds, how many accepts and fills there were, and the numbers of those that
--- are to fail, counted from 1
+-- a desk in memory: what it holds, its calls, where there was memory to note them all, how many accepts and
+-- fills there were, and the numbers of those that are to fail, counted from 1
 pub record MemoryDeskState : Type 0 where
   pub coming : List MemoryLinkState
   pub returned : List MemoryLinkState
   pub readings : List ℕ
   pub random : List ℕ
   pub receipts : List Receipt
+  pub calls : Option (List DeskCall)
   pub link_room : ℕ
   pub receipt_room : ℕ
   pub accepts : ℕ
@@ -95,6 +97,7 @@ told_desk desk = record {
   readings = Some desk.readings;
   random = Some desk.random;
   receipts = Some desk.receipts;
+  calls = desk.calls;
   link_room = desk.link_room;
   receipt_room = desk.receipt_room;
   accept_faults = desk.accept_faults;

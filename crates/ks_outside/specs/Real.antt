@@ -44,6 +44,7 @@ untold_desk desk = record {
   readings = None;
   random = None;
   receipts = None;
+  calls = None;
   link_room = 1;
   receipt_room = 1;
   accept_faults = desk.accept_faults;

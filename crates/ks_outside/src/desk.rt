@@ -1,7 +1,8 @@
-ghost use Rattle.std.specs.Prelude.{◌≡◌, ◌+◌, ◌<◌, ◌≤◌, ◌∷◌, [], ℕ, List, Some, IsErr, IfOk, IfSome, OnOk};
+ghost use Rattle.std.specs.Prelude.{◌≡◌, ◌+◌, ◌<◌, ◌≤◌, ◌∷◌, [], ℕ, List, Some, length, IsErr, IfOk, IfSome, OnOk};
 ghost use Rattle.ks_outside.specs.Counts.{Counts};
 ghost use Rattle.ks_outside.specs.Streams.{Appends};
-ghost use Rattle.ks_outside.specs.Desks.{DeskState, Accepts, Fills, next_reading, later_readings};
+ghost use Rattle.ks_outside.specs.Desks.{DeskState, Accepts, Fills, Makes, next_reading, later_readings};
+ghost use Rattle.ks_outside.specs.declared.desk_call.DeskCall.TheVariants as call;
 
 use crate::{Failed, Sink, Source};
 use ks_base::{Memory, Receipt};
@@ -37,24 +38,28 @@ pub trait Desk {
     fn reading(&mut self) -> u64
         ensures told { (readings : List ℕ) → (desk self.old).readings ≡ Some readings →
             (result ≡ next_reading readings) × ((desk self.new).readings ≡ Some (later_readings readings)) }
-        ensures kept { desk self.new ≡ record (desk self.old) { readings = (desk self.new).readings } };
+        ensures kept { desk self.new ≡ record (desk self.old) { readings = (desk self.new).readings; calls = (desk self.new).calls } }
+        ensures calls { Makes (call.Reading ∷ []) (desk self.old).calls (desk self.new).calls };
 
     /// Fills a whole piece with random bytes. After an error the piece may hold anything.
     fn fill(&mut self, into: &mut [u8]) -> Result<(), Failed>
         ensures told { (bytes : List ℕ) → (desk self.old).random ≡ Some bytes → Fills bytes (desk self.new).random into.new result }
-        ensures kept { desk self.new ≡ record (desk self.old) { random = (desk self.new).random; fill_faults = (desk self.new).fill_faults } }
+        ensures kept { desk self.new ≡ record (desk self.old) { random = (desk self.new).random; fill_faults = (desk self.new).fill_faults; calls = (desk self.new).calls } }
+        ensures calls { Makes (call.Fill (length into.old) ∷ []) (desk self.old).calls (desk self.new).calls }
         ensures faults { Counts (IsErr result) (desk self.old).fill_faults (desk self.new).fill_faults };
 
     /// Makes room for one receipt.
     fn ready(&mut self) -> Result<(), Memory>
         ensures ok { OnOk result (0 < (desk self.new).receipt_room) }
         ensures room { (desk self.old).receipt_room ≤ (desk self.new).receipt_room }
-        ensures kept { desk self.new ≡ record (desk self.old) { receipt_room = (desk self.new).receipt_room } };
+        ensures kept { desk self.new ≡ record (desk self.old) { receipt_room = (desk self.new).receipt_room; calls = (desk self.new).calls } }
+        ensures calls { Makes (call.Ready ∷ []) (desk self.old).calls (desk self.new).calls };
 
     /// Notes a receipt, for which there is room, so that this takes no memory.
     fn note(&mut self, receipt: Receipt)
         requires { 0 < (desk self.old).receipt_room }
         ensures told { Appends (receipt ∷ []) (desk self.old).receipts (desk self.new).receipts }
         ensures room { (desk self.old).receipt_room ≤ (desk self.new).receipt_room + 1 }
-        ensures kept { desk self.new ≡ record (desk self.old) { receipts = (desk self.new).receipts; receipt_room = (desk self.new).receipt_room } };
+        ensures kept { desk self.new ≡ record (desk self.old) { receipts = (desk self.new).receipts; receipt_room = (desk self.new).receipt_room; calls = (desk self.new).calls } }
+        ensures calls { Makes (call.Note ∷ []) (desk self.old).calls (desk self.new).calls };
 }

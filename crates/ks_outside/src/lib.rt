@@ -4,6 +4,8 @@
 
 mod calls;
 mod desk;
+mod desk_call;
+mod desk_log;
 mod dir_fault;
 mod failed;
 mod files;
@@ -17,15 +19,14 @@ mod memory_source;
 mod pair;
 mod place;
 mod readings;
-mod real_desk;
 mod real_sink;
 mod real_source;
 mod sink;
 mod source;
 mod stream;
-mod tcp_link;
 
 pub use desk::Desk;
+pub use desk_call::DeskCall;
 pub use dir_fault::DirFault;
 pub use failed::Failed;
 pub use folder::Folder;
@@ -37,10 +38,8 @@ pub use memory_sink::MemorySink;
 pub use memory_source::MemorySource;
 pub use pair::Pair;
 pub use place::{Gate, Open, Place};
-pub use real_desk::RealDesk;
 pub use real_sink::RealSink;
 pub use real_source::RealSource;
 pub use sink::{Sink, write_all};
 pub use source::Source;
 pub use stream::Stream;
-pub use tcp_link::TcpLink;

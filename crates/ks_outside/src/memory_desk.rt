@@ -1,18 +1,22 @@
 ghost use Rattle.std.specs.Prelude.{◌≡◌, ◌+◌, ◌-◌, ◌<◌, ◌≤◌, ◌++◌, ◌∷◌, ◌↔◌, ◌⊎◌, [], ℕ, List, Some, length, take, drop, Contains, IsErr, IfOk, IfSome, OnOk, OnErr};
+ghost use Rattle.std.specs.Option.{option_map};
 ghost use Rattle.ks_outside.specs.Counts.{Counts, next_count};
 ghost use Rattle.ks_outside.specs.Streams.{Appends};
-ghost use Rattle.ks_outside.specs.Desks.{Accepts, Fills, next_reading, later_readings};
+ghost use Rattle.ks_outside.specs.Desks.{Accepts, Fills, Makes, next_reading, later_readings};
+ghost use Rattle.ks_outside.specs.declared.desk_call.DeskCall.TheVariants as call;
 ghost use Rattle.ks_outside.specs.InMemory.{MemoryLinkState, MemoryDeskState, told_desk};
 
 use crate::calls::Calls;
+use crate::desk_log::DeskLog;
 use crate::readings::Readings;
-use crate::{Desk, Failed, MemoryLink};
+use crate::{Desk, DeskCall, Failed, MemoryLink};
 use ks_base::{Memory, Receipt};
 use std::alloc::Global;
 use std::marker::Model;
 use std::vec::IntoIter;
 
-/// A desk in memory, which tells all that it holds. Chosen accepts and fills fail.
+/// A desk in memory, which tells all that it holds, and its calls as long as there is memory to note them.
+/// Chosen accepts and fills fail.
 pub struct MemoryDesk {
     coming: IntoIter<MemoryLink>,
     returned: Vec<MemoryLink>,
@@ -20,6 +24,7 @@ pub struct MemoryDesk {
     random: Vec<u8>,
     drawn: usize,
     receipts: Vec<Receipt>,
+    log: DeskLog,
     accepts: Calls,
     fills: Calls,
 }
@@ -33,6 +38,7 @@ impl Drop for MemoryDesk {
             random: _,
             drawn: _,
             receipts: _,
+            log: _,
             accepts: _,
             fills: _,
         } = self;
@@ -52,6 +58,7 @@ impl Model for MemoryDesk {
       readings = d.readings;
       random = drop d.drawn d.random.items;
       receipts = d.receipts.items;
+      calls = d.log;
       link_room = vec_capacity d.returned - (vec_len d.returned + into_iter_len d.coming);
       receipt_room = vec_capacity d.receipts - vec_len d.receipts;
       accepts = d.accepts.made;
@@ -83,6 +90,7 @@ impl MemoryDesk {
           readings = readings.now;
           random = random.now;
           receipts = [];
+          calls = Some [];
           link_room = 0;
           receipt_room = 0;
           accepts = 0;
@@ -101,6 +109,7 @@ impl MemoryDesk {
             random: Vec::from_slice(alloc, random)?,
             drawn: 0,
             receipts: Vec::new(alloc),
+            log: DeskLog::new(alloc),
             accepts: Calls::new(alloc, fail_accepts)?,
             fills: Calls::new(alloc, fail_fills)?,
         })
@@ -118,6 +127,14 @@ impl MemoryDesk {
         ensures { result.now ≡ self.now.receipts }
     {
         self.receipts.as_slice()
+    }
+
+    /// Its calls for a receipt, of the clock and for random bytes, in order. There is none to tell once there was no
+    /// memory to note one.
+    pub fn calls(&self) -> Option<&[DeskCall]>
+        ensures { option_map (λ calls. calls.now) result ≡ self.now.calls }
+    {
+        self.log.told()
     }
 }
 
@@ -163,10 +180,12 @@ impl Desk for MemoryDesk {
     fn reading(&mut self) -> u64
         ensures told { (readings : List ℕ) → Some self.old.readings ≡ Some readings →
             (result ≡ next_reading readings) × (Some self.new.readings ≡ Some (later_readings readings)) }
-        ensures kept { told_desk self.new ≡ record (told_desk self.old) { readings = Some self.new.readings } }
+        ensures kept { told_desk self.new ≡ record (told_desk self.old) { readings = Some self.new.readings; calls = self.new.calls } }
+        ensures calls { Makes (call.Reading ∷ []) self.old.calls self.new.calls }
 
-        ensures exact { self.new ≡ record self.old { readings = later_readings self.old.readings } }
+        ensures exact { self.new ≡ record self.old { readings = later_readings self.old.readings; calls = self.new.calls } }
     {
+        self.log.add(DeskCall::Reading);
         self.readings.next()
     }
 
@@ -174,14 +193,16 @@ impl Desk for MemoryDesk {
     /// and leaves the piece as it is.
     fn fill(&mut self, into: &mut [u8]) -> Result<(), Failed>
         ensures told { (bytes : List ℕ) → Some self.old.random ≡ Some bytes → Fills bytes (Some self.new.random) into.new result }
-        ensures kept { told_desk self.new ≡ record (told_desk self.old) { random = Some self.new.random; fill_faults = self.new.fill_faults } }
+        ensures kept { told_desk self.new ≡ record (told_desk self.old) { random = Some self.new.random; fill_faults = self.new.fill_faults; calls = self.new.calls } }
+        ensures calls { Makes (call.Fill (length into.old) ∷ []) self.old.calls self.new.calls }
         ensures faults { Counts (IsErr result) self.old.fill_faults self.new.fill_faults }
 
         ensures fails { IsErr result ↔ (Contains self.old.failing_fills (self.old.fills + 1) ⊎ (length self.old.random < length into.old)) }
-        ensures ok { OnOk result (self.new ≡ record self.old { random = drop (length into.old) self.old.random; fills = next_count self.old.fills }) }
-        ensures err { OnErr result (self.new ≡ record self.old { fills = next_count self.old.fills; fill_faults = next_count self.old.fill_faults }) }
+        ensures ok { OnOk result (self.new ≡ record self.old { random = drop (length into.old) self.old.random; calls = self.new.calls; fills = next_count self.old.fills }) }
+        ensures err { OnErr result (self.new ≡ record self.old { calls = self.new.calls; fills = next_count self.old.fills; fill_faults = next_count self.old.fill_faults }) }
         ensures untouched { OnErr result (into.new ≡ into.old) }
     {
+        self.log.add(DeskCall::Fill(into.len()));
         self.fills.begin()?;
         let left = self.random.as_slice().split_at(self.drawn).1;
         if left.len() < into.len() {
@@ -195,10 +216,12 @@ impl Desk for MemoryDesk {
     fn ready(&mut self) -> Result<(), Memory>
         ensures ok { OnOk result (0 < self.new.receipt_room) }
         ensures room { self.old.receipt_room ≤ self.new.receipt_room }
-        ensures kept { told_desk self.new ≡ record (told_desk self.old) { receipt_room = self.new.receipt_room } }
+        ensures kept { told_desk self.new ≡ record (told_desk self.old) { receipt_room = self.new.receipt_room; calls = self.new.calls } }
+        ensures calls { Makes (call.Ready ∷ []) self.old.calls self.new.calls }
 
-        ensures exact { self.new ≡ record self.old { receipt_room = self.new.receipt_room } }
+        ensures exact { self.new ≡ record self.old { receipt_room = self.new.receipt_room; calls = self.new.calls } }
     {
+        self.log.add(DeskCall::Ready);
         self.receipts.reserve(1)?;
         Ok(())
     }
@@ -207,10 +230,12 @@ impl Desk for MemoryDesk {
         requires { 0 < self.old.receipt_room }
         ensures told { Appends (receipt ∷ []) (Some self.old.receipts) (Some self.new.receipts) }
         ensures room { self.old.receipt_room ≤ self.new.receipt_room + 1 }
-        ensures kept { told_desk self.new ≡ record (told_desk self.old) { receipts = Some self.new.receipts; receipt_room = self.new.receipt_room } }
+        ensures kept { told_desk self.new ≡ record (told_desk self.old) { receipts = Some self.new.receipts; receipt_room = self.new.receipt_room; calls = self.new.calls } }
+        ensures calls { Makes (call.Note ∷ []) self.old.calls self.new.calls }
 
-        ensures exact { self.new ≡ record self.old { receipts = self.old.receipts ++ receipt ∷ []; receipt_room = self.new.receipt_room } }
+        ensures exact { self.new ≡ record self.old { receipts = self.old.receipts ++ receipt ∷ []; receipt_room = self.new.receipt_room; calls = self.new.calls } }
     {
+        self.log.add(DeskCall::Note);
         let Ok(()) = self.receipts.push(receipt) else {
             unreachable!();
         };

@@ -61,7 +61,7 @@ impl<W: Write> Sink for RealSink<W> {
     }
 }
 
-pub fn write_uninterrupted<W: Write>(writer: &mut W, piece: &[u8]) -> Result<usize, Failed>
+fn write_uninterrupted<W: Write>(writer: &mut W, piece: &[u8]) -> Result<usize, Failed>
     ensures within { IfOk result (λ n. n ≤ length piece.now) }
     ensures passed { WriteAppends (W.contents writer.old) (W.contents writer.new) result piece.now }
 {

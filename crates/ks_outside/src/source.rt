@@ -12,4 +12,12 @@ pub trait Source: Stream {
         ensures within { IfOk result (λ n. n ≤ length into.old) }
         ensures told { (bytes : List ℕ) → (Self.stream self.old).left ≡ Some bytes → Reads bytes (Self.stream self.new).left into.new result }
         ensures reads { OnlyReads (IsErr result) (Self.stream self.old) (Self.stream self.new) };
+
+    /// Whether nothing more of it is at hand, and it may be put aside until more comes. It is asked between two
+    /// requests. A source that is not put aside answers no.
+    fn rests(&mut self) -> bool
+        ensures same { Self.stream self.new ≡ Self.stream self.old }
+    {
+        false
+    }
 }
