@@ -4,7 +4,7 @@
     tests/serve.py [KS]
 
 It listens on free ports of 127.0.0.1, with keys that `ks setup` makes in a folder that goes afterwards. It takes about 35 seconds, of
-which 30 are the longest wait of the server. The program is bin/ks of this repository, the environment's KS, or the word. The exit
+which 30 are a wait of the server. The program is bin/ks of this repository, the environment's KS, or the word. The exit
 status is 1 where it does otherwise.
 """
 
@@ -17,7 +17,7 @@ import tempfile
 import time
 
 sys.dont_write_bytecode = True
-from served import HOST, TOP, Connection, Server, exchange, login, main_of, program_of, project_scope, request, require, run
+from served import HOST, TOP, Connection, Failure, Server, exchange, login, main_of, program_of, project_scope, request, require, run
 
 O1 = os.path.join(TOP, "examples", "o1.json")
 
@@ -114,23 +114,33 @@ def two_at_once(port):
 
 
 def waits(port):
-    """An idle connection is closed after 5 seconds, and one that stops within a request after 30."""
-    with Connection(port) as stalled:
-        stalled.send(b"GET /v3 HT")
+    """A connection that stops within a head is closed after 10 seconds, and one that stops within a body after 30; others go on."""
+    with Connection(port) as head, Connection(port) as body, Connection(port) as kept:
         began = time.monotonic()
-        with Connection(port) as fresh:
-            idle = fresh.seconds_until_closed()
-        require(4 <= idle <= 8, f"a connection without a request is closed after {idle:.1f} seconds")
-        with Connection(port) as asked:
-            status_of("the version", asked.ask("GET", "/v3"), 200)
-            idle = asked.seconds_until_closed()
-        require(4 <= idle <= 8, f"a connection behind a request is closed after {idle:.1f} seconds")
-        stalled.seconds_until_closed()
+        head.send(b"GET /v3 HT")
+        body.send(b"POST /v3/auth/tokens HTTP/1.1\r\nContent-Length: 100\r\n\r\n{")
+        status_of("the version", kept.ask("GET", "/v3"), 200)
+        head.seconds_until_closed()
         seconds = time.monotonic() - began
-    require(28 <= seconds <= 36, f"a connection within a request is closed after {seconds:.1f} seconds")
-    with Connection(port) as next_one, Connection(port) as another:
-        status_of("a connection behind those that were closed", next_one.ask("GET", "/v3"), 200)
-        status_of("and another one at once", another.ask("GET", "/v3"), 200)
+        require(9 <= seconds <= 16, f"a connection within a head is closed after {seconds:.1f} seconds")
+        status_of("the version on a kept connection", kept.ask("GET", "/v3"), 200)
+        body.seconds_until_closed()
+        seconds = time.monotonic() - began
+        require(28 <= seconds <= 36, f"a connection within a body is closed after {seconds:.1f} seconds")
+        status_of("the version on a connection that was kept for long", kept.ask("GET", "/v3"), 200)
+
+
+def until_it_ends(server):
+    """Asks on further connections until each worker had as many as it is to have. One that rests counts anew."""
+    for _ in range(20):
+        if server.process.poll() is not None:
+            return
+        try:
+            with Connection(server.port, 5) as connection:
+                status_of("one of the last connections", connection.ask("GET", "/v3"), 200)
+        except (Failure, OSError):
+            require(server.status() == 0, "a connection is not answered, and the server goes on")
+        time.sleep(0.1)
 
 
 def cut(port):
@@ -180,7 +190,7 @@ def keys_of_a_folder(program, work, folder):
     file = os.path.join(work, "folder.json")
     with open(file, "w", encoding="utf-8") as opening:
         json.dump(rows, opening)
-    with Server(program, file, folder, 2, connections=1) as server:
+    with Server(program, file, folder, 2, connections=3) as server:
         with Connection(server.port) as connection:
             before = log_in(connection, "ann")
             rotated = run(program, "rotate", folder)
@@ -190,8 +200,7 @@ def keys_of_a_folder(program, work, folder):
             after = log_in(connection, "ann")
             for token in (before, after):
                 status_of("a token over a rotation", connection.ask("GET", "/v3/auth/tokens", auth=after, subject=token), 200)
-        with Connection(server.port) as connection:
-            status_of("the last connection", connection.ask("GET", "/v3"), 200)
+        until_it_ends(server)
         status = server.status()
         require(status == 0, f"behind the last connection: status {status}, and {server.lines}")
         require(server.lines == [server.listening], f"it said {server.lines}")

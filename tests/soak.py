@@ -34,7 +34,7 @@ CLIENTS, PROCESSES, WORKERS = 64, 8, 32
 ROUNDS = 200
 PROJECT, ADMIN, MEMBER = "a" * 32, "b" * 32, "c" * 32
 
-# How many seconds a connection may be idle; the server closes it after 5.
+# How many seconds a connection may be idle; the server closes it after 60.
 IDLE = 3
 
 # How many seconds a request that was sent whole, and then cut off, may still be answered.

@@ -2,10 +2,14 @@
 ghost use Rattle.std.specs.Prelude.{◌<◌, IfOk, length};
 
 use ks_base::Memory;
-use ks_outside::{Folder, RealDesk};
+use ks_outside::Folder;
+use ks_pool::{Pool, RealDesk};
 use ks_setup::{Places, Words};
+use mio::net::TcpListener;
 use std::io;
-use std::net::{Net, TcpListener, TcpStream};
+use std::io::ErrorKind;
+use std::net::{Net, ToSocketAddrs};
+use std::rt::Clock;
 
 /// What the command serves connections with, if it listens at an address.
 pub fn serving(command: &Words) -> Option<&Places> {
@@ -19,45 +23,58 @@ pub fn serving(command: &Words) -> Option<&Places> {
     }
 }
 
+/// A listener at the first address of these that can be listened at, with the longest queue that the system allows.
+fn bind<R: Net>(rt: &R, address: &str) -> io::Result<TcpListener> {
+    let mut failed: io::Error = ErrorKind::AddrNotAvailable.into();
+    for address in address.to_socket_addrs(rt)? {
+        match TcpListener::bind(rt, address) {
+            Ok(listener) => return Ok(listener),
+            Err(error) => failed = error,
+        }
+    }
+    Err(failed)
+}
+
 /// Listens at an address, and says so in one line, with the port that it then is. Connections wait until the opening
 /// file is read.
-pub fn listen<R: Net<Listener = TcpListener, Stream = TcpStream> + Eprint>(
+pub fn listen<R: Net + Clock + AllocGlobal + Eprint>(
     rt: &R,
     address: &str,
     workers: u32,
-) -> io::Result<TcpListener> {
-    let listener = TcpListener::bind(rt, address)?;
+) -> io::Result<Pool> {
+    let listener = bind(rt, address)?;
     let bound = listener.local_addr()?;
+    let pool = Pool::new(rt, listener)?;
     let ending = if workers == 1 { "" } else { "s" };
     let _ = eprintln!(rt; "ks: listening on {bound} with {workers} worker{ending}");
-    Ok(listener)
+    Ok(pool)
 }
 
-/// A desk at a listener, with the folder of this path.
+/// A desk at a pool, with the folder of this path.
 fn desk<'a, R: AllocGlobal>(
     rt: &'a R,
     folder: &str,
-    listener: Option<&'a TcpListener>,
+    pool: Option<&'a Pool>,
 ) -> Result<(RealDesk<'a, R>, Folder<'a, R>), Memory> {
     Ok((
-        RealDesk::new(rt, listener),
+        RealDesk::new(rt, pool),
         Folder::new(rt.alloc(), rt, folder)?,
     ))
 }
 
-/// So many desks that share a listener, one at least, each with the folder of this path.
+/// So many desks that share a pool, one at least, each with the folder of this path.
 pub fn desks<'a, R: AllocGlobal>(
     rt: &'a R,
     folder: &str,
-    listener: Option<&'a TcpListener>,
+    pool: Option<&'a Pool>,
     workers: u32,
 ) -> Result<Vec<(RealDesk<'a, R>, Folder<'a, R>)>, Memory>
     ensures { IfOk result (λ desks. 0 < length desks.items) }
 {
     let mut desks = Vec::new(rt.alloc());
     'others: for _ in 1..workers {
-        desks.push(desk(rt, folder, listener)?)?;
+        desks.push(desk(rt, folder, pool)?)?;
     }
-    desks.push(desk(rt, folder, listener)?)?;
+    desks.push(desk(rt, folder, pool)?)?;
     Ok(desks)
 }

@@ -8,9 +8,11 @@ ghost use Rattle.std.specs.Prelude.{◌<◌, IfOk, length};
 mod listening;
 mod named;
 mod opening_file;
+mod threads;
 
 use ks_base::{Memory, Text};
-use ks_outside::{Folder, RealDesk, RealSink, RealSource};
+use ks_outside::{Folder, RealSink, RealSource};
+use ks_pool::{Pool, RealDesk};
 use ks_setup::read_words;
 use ks_top::{Ended, Fault, run};
 use listening::{desks, listen, serving};
@@ -19,9 +21,9 @@ use opening_file::OpeningFile;
 use std::env;
 use std::fs::File;
 use std::io::ErrorKind;
-use std::net::TcpListener;
 use std::process::ExitCode;
 use std::rt::Env;
+use threads::can_run;
 
 /// The words behind the program's name.
 fn words<R: Env + AllocGlobal>(rt: &R) -> Result<Vec<Text>, Fault> {
@@ -47,17 +49,23 @@ fn words<R: Env + AllocGlobal>(rt: &R) -> Result<Vec<Text>, Fault> {
     Ok(words)
 }
 
-/// The folder of this path, and so many desks with it at the listener, one at least.
+/// The folder of this path, and so many desks with it at the pool, one at least.
 fn places<'a, R: AllocGlobal>(
     rt: &'a R,
     folder: &str,
-    listener: Option<&'a TcpListener>,
+    pool: Option<&'a Pool>,
     workers: u32,
 ) -> Result<(Folder<'a, R>, Vec<(RealDesk<'a, R>, Folder<'a, R>)>), Memory>
     ensures { IfOk result (λ places. 0 < length places.1.items) }
 {
     let dir = Folder::new(rt.alloc(), rt, folder)?;
-    Ok((dir, desks(rt, folder, listener, workers)?))
+    Ok((dir, desks(rt, folder, pool, workers)?))
+}
+
+/// Says that so many workers can't run beside each other.
+fn out_of_threads<R: Eprint>(rt: &R, workers: u32) -> ExitCode {
+    let _ = eprintln!(rt; "ks: the system has no threads for {workers} workers");
+    ExitCode::from(Fault::Memory.status())
 }
 
 /// Says that there was no memory to begin.
@@ -80,16 +88,24 @@ fn main(rt: HostRuntime) -> ExitCode {
     let file = path_of(command.file());
     let folder = path_of(command.folder());
     let address = path_of(command.address());
+    let workers = match serving(&command) {
+        Some(places) => places.workers,
+        None => 1,
+    };
+    if !can_run(&rt, workers) {
+        return out_of_threads(&rt, workers);
+    }
     let mut source = OpeningFile::new(File::open(&rt, file).ok());
-    let (workers, listening) = match serving(&command) {
-        Some(places) => (places.workers, Some(listen(&rt, address, places.workers))),
-        None => (1, None),
+    let listening = match serving(&command) {
+        Some(_) => Some(listen(&rt, address, workers)),
+        None => None,
     };
-    let listener = match &listening {
-        Some(Ok(listener)) => Some(listener),
-        Some(Err(_)) | None => None,
+    let (pool, unbound) = match listening {
+        Some(Ok(pool)) => (Some(pool), None),
+        Some(Err(error)) => (None, Some(error)),
+        None => (None, None),
     };
-    let Ok((mut dir, desks)) = places(&rt, folder, listener, workers) else {
+    let Ok((mut dir, desks)) = places(&rt, folder, pool.as_ref(), workers) else {
         return out_of_memory(&rt);
     };
     let mut input = RealSource::new(rt.stdin());
@@ -115,10 +131,7 @@ fn main(rt: HostRuntime) -> ExitCode {
             folder,
             address,
             has_failed: source.has_failed(),
-            unbound: match listening {
-                Some(Err(error)) => Some(error),
-                Some(Ok(_)) | None => None,
-            },
+            unbound,
             is_open: state.is_some(),
         };
         // Where there is no memory for the place, the status stays, and the fault is told without it.

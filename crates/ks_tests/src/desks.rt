@@ -2,7 +2,7 @@
 
 use crate::links::echo;
 use ks_base::{Drawn, Memory, Receipt};
-use ks_outside::{Desk, Failed, MemoryDesk, MemoryLink, MemorySink, MemorySource};
+use ks_outside::{Desk, DeskCall, Failed, MemoryDesk, MemoryLink, MemorySink, MemorySource};
 use std::alloc::Global;
 use std::test::Fail;
 
@@ -81,6 +81,14 @@ const MOMENTS: &[Result<Option<u64>, Failed>] = &[
 /// What it then notes of its draws.
 const DRAWS: &[Drawn] = &[Drawn::Bytes([1; 64]), Drawn::Failed, Drawn::Bytes([2; 64])];
 
+/// What a desk tells of its calls once it has served a link.
+const CALLS: &[DeskCall] = &[
+    DeskCall::Fill(64),
+    DeskCall::Reading,
+    DeskCall::Ready,
+    DeskCall::Note,
+];
+
 #[test]
 fn a_desk_in_memory_tells_what_it_gave_and_took(rt: HostRuntime) -> Result<(), Fail> {
     let mut desk = three_links(rt.alloc())?;
@@ -90,5 +98,13 @@ fn a_desk_in_memory_tells_what_it_gave_and_took(rt: HostRuntime) -> Result<(), F
     assert!(rt; are_noted(DRAWS, desk.receipts()));
     assert!(rt; desk.given_back().len() == 3);
     assert!(rt; desk.given_back()[1].written() == b"def".as_slice());
+    Ok(())
+}
+
+#[test]
+fn a_desk_in_memory_tells_its_calls_in_order(rt: HostRuntime) -> Result<(), Fail> {
+    let mut desk = three_links(rt.alloc())?;
+    assert!(rt; serve(&mut desk) == Ok(Some(5)));
+    assert!(rt; desk.calls().is_some_and(|calls| calls == CALLS));
     Ok(())
 }

@@ -1,0 +1,254 @@
+ghost use Rattle.std.specs.Prelude.{◌≤◌, IfOk, IfSome, length};
+
+use crate::deadline::{Awaited, Deadline};
+use crate::framing::looks_long;
+use crate::limits::{CLOSING_BYTES, PIECE, WAITING_BYTES};
+use crate::queue::Queue;
+use crate::socket::{read_now, write_now};
+use ks_base::Memory;
+use ks_base::limits::HEAD_BYTES;
+use ks_outside::Failed;
+use mio::net::TcpStream;
+use std::alloc::Global;
+use std::net::Shutdown;
+use std::time::Instant;
+
+/// What is at hand of a connection.
+#[derive(Clone, Copy, PartialEq, Eq)]
+pub enum AtHand {
+    /// What looks like a whole request, or like all that is to come of one.
+    Request,
+    /// Less than that.
+    Part,
+    /// Nothing, and nothing more comes.
+    End,
+}
+
+/// A connection with what came from its client and was not read yet, and with what was written and its client did not
+/// take yet.
+#[derive(Drop)]
+pub struct Kept {
+    pub stream: TcpStream,
+    /// Its place in the pool.
+    pub key: usize,
+    inbox: Queue,
+    /// How long the request in front of the inbox looks, less what was read of it, once that is known.
+    long: Option<usize>,
+    outbox: Queue,
+    /// The client sends no more.
+    has_ended: bool,
+    /// Nothing is to be written behind the outbox.
+    is_last: bool,
+    /// How many bytes were passed over behind the last response.
+    passed_over: usize,
+    /// Since when it rests. It stays the same until a request of it is answered.
+    pub rested: Instant,
+    pub until: Deadline,
+}
+
+impl Kept {
+    /// A connection of which nothing came yet.
+    pub fn new(alloc: Global, stream: TcpStream, key: usize, now: Instant) -> Kept {
+        Kept {
+            stream,
+            key,
+            inbox: Queue::new(alloc),
+            long: None,
+            outbox: Queue::new(alloc),
+            has_ended: false,
+            is_last: false,
+            passed_over: 0,
+            rested: now,
+            until: Deadline::new(Awaited::Request, now),
+        }
+    }
+
+    /// Whether a whole request lies in the inbox.
+    pub fn is_whole(&self) -> bool {
+        match self.long {
+            Some(long) => long <= self.inbox.len(),
+            None => false,
+        }
+    }
+
+    /// Whether a response waits for the client.
+    pub fn has_waiting(&self) -> bool {
+        !self.outbox.is_empty()
+    }
+
+    /// What it waits for, where nothing can be done.
+    fn awaited(&self) -> Awaited {
+        if self.until.is_of(Awaited::End) {
+            return Awaited::End;
+        }
+        if self.has_waiting() {
+            return Awaited::Taking;
+        }
+        if self.inbox.is_empty() {
+            return Awaited::Request;
+        }
+        if self.long.is_none() {
+            return Awaited::Head;
+        }
+        Awaited::Body
+    }
+
+    /// It goes on to wait.
+    pub fn wait_on(&mut self, now: Instant) {
+        self.until = self.until.then(self.awaited(), now);
+    }
+
+    /// It rests behind an answer. What the client did not take then has its deadline already.
+    pub fn rest(&mut self, now: Instant) {
+        self.rested = now;
+        let awaited = self.awaited();
+        if !self.until.is_of(Awaited::Taking) || awaited != Awaited::Taking {
+            self.until = Deadline::new(awaited, now);
+        }
+    }
+
+    /// Nothing more is written to it, but for what waits for the client.
+    pub fn end(&mut self) {
+        self.is_last = true;
+    }
+
+    /// Does what can be done without waiting, and says what is then at hand: writes what waits for the client; behind
+    /// the last response passes over what still comes; and else reads ahead.
+    pub fn go_on(&mut self, now: Instant) -> Result<AtHand, Failed> {
+        self.hand_out()?;
+        if self.has_waiting() {
+            return Ok(AtHand::Part);
+        }
+        if !self.is_last {
+            return self.read_ahead();
+        }
+        if !self.until.is_of(Awaited::End) {
+            self.shut(now)?;
+        }
+        self.pass_over()
+    }
+
+    /// Takes bytes that came into the inbox, and looks at the head where they may end it.
+    fn take_in(&mut self, came: &[u8]) -> Result<(), Memory> {
+        self.inbox.push(came)?;
+        if came.contains(&b'\n') || self.inbox.len() >= HEAD_BYTES {
+            self.look();
+        }
+        Ok(())
+    }
+
+    /// Looks how long the request in front of the inbox is, where that is not known.
+    fn look(&mut self) {
+        if self.long.is_none() && !self.inbox.is_empty() {
+            self.long = looks_long(self.inbox.as_slice());
+        }
+    }
+
+    /// Reads ahead into the inbox until a whole request lies there, or nothing more is there.
+    pub fn read_ahead(&mut self) -> Result<AtHand, Failed> {
+        self.look();
+        let mut piece = [0; PIECE];
+        'pieces: for _ in 0..u64::MAX {
+            if self.is_whole() {
+                return Ok(AtHand::Request);
+            }
+            if self.has_ended {
+                return Ok(self.at_end());
+            }
+            match read_now(&mut self.stream, piece.as_mut_slice())? {
+                Some(0) => self.has_ended = true,
+                Some(count) => {
+                    let came = piece.as_slice().split_at(count).0;
+                    if self.take_in(came).is_err() {
+                        return Err(Failed);
+                    }
+                }
+                None => return Ok(AtHand::Part),
+            }
+        }
+        Err(Failed)
+    }
+
+    /// What is at hand where nothing more comes: a part of a request is answered as well.
+    fn at_end(&self) -> AtHand {
+        if self.inbox.is_empty() {
+            return AtHand::End;
+        }
+        AtHand::Request
+    }
+
+    /// Gives bytes of the request in front of the inbox, and none of a further one. There are none only where the inbox
+    /// is empty.
+    pub fn give(&mut self, into: &mut [u8]) -> usize
+        ensures within { result ≤ length into.old }
+    {
+        let most = match self.long {
+            Some(long) => long.min(into.len()),
+            None => into.len(),
+        };
+        let waiting = self.inbox.as_slice();
+        let count = most.min(waiting.len());
+        into[..count].copy_from_slice(waiting.split_at(count).0);
+        self.inbox.advance(count);
+        self.long = match self.long {
+            Some(long) if count < long => Some(long - count),
+            Some(_) | None => None,
+        };
+        count
+    }
+
+    /// Has as much of a response wait for the client as there is room for, which may be nothing.
+    pub fn put_aside(&mut self, piece: &[u8]) -> usize
+        ensures within { result ≤ length piece.now }
+    {
+        let room = WAITING_BYTES.saturating_sub(self.outbox.len());
+        let count = room.min(piece.len());
+        match self.outbox.push(piece.split_at(count).0) {
+            Ok(()) => count,
+            Err(_) => 0,
+        }
+    }
+
+    /// Writes what waits for the client, as much as it takes.
+    pub fn hand_out(&mut self) -> Result<(), Failed> {
+        'pieces: for _ in 0..u64::MAX {
+            if self.outbox.is_empty() {
+                return Ok(());
+            }
+            match write_now(&mut self.stream, self.outbox.as_slice())? {
+                Some(0) => return Err(Failed),
+                Some(count) => self.outbox.advance(count),
+                None => return Ok(()),
+            }
+        }
+        Err(Failed)
+    }
+
+    /// Ends what is written (RFC 9112, section 9.6). A connection that is let go with bytes unread is reset, and the
+    /// client might lose the response to a request that was refused before all of it came.
+    fn shut(&mut self, now: Instant) -> Result<(), Failed> {
+        match self.stream.shutdown(Shutdown::Write) {
+            Ok(()) => {
+                self.until = Deadline::new(Awaited::End, now);
+                Ok(())
+            }
+            Err(_) => Err(Failed),
+        }
+    }
+
+    /// Passes over what still comes.
+    fn pass_over(&mut self) -> Result<AtHand, Failed> {
+        let mut piece = [0; PIECE];
+        'pieces: for _ in 0..u64::MAX {
+            if self.passed_over >= CLOSING_BYTES {
+                return Ok(AtHand::End);
+            }
+            match read_now(&mut self.stream, piece.as_mut_slice())? {
+                Some(0) => return Ok(AtHand::End),
+                Some(count) => self.passed_over = self.passed_over.saturating_add(count),
+                None => return Ok(AtHand::Part),
+            }
+        }
+        Err(Failed)
+    }
+}

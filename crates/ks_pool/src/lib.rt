@@ -1,0 +1,21 @@
+//! The edge to the network: thousands of connections over a few workers. What connections give and take is in no
+//! contract, since nothing tells it.
+#![tactic(auto)]
+
+mod deadline;
+mod framing;
+mod kept;
+mod limits;
+mod poller;
+mod pool;
+mod queue;
+mod real_desk;
+mod slots;
+mod socket;
+mod tcp_link;
+mod trouble;
+mod waiting;
+
+pub use pool::Pool;
+pub use real_desk::RealDesk;
+pub use tcp_link::TcpLink;

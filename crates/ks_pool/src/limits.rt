@@ -1,0 +1,37 @@
+//! How much of its clients' connections the pool keeps, and how long.
+
+/// How many descriptors of the process are left to files, to the standard streams and to the pool itself.
+pub const SPARE_DESCRIPTORS: u64 = 64;
+
+/// How many connections are kept at most, whatever the process may have.
+pub const CONNECTIONS: usize = 10_000;
+
+/// How many connections are accepted in a row before others are served.
+pub const ACCEPTS: u32 = 256;
+
+/// How many bytes are read at once.
+pub const PIECE: usize = 4_096;
+
+/// How many bytes of its responses wait for a client, beside those that the system holds.
+pub const WAITING_BYTES: usize = 1_048_576;
+
+/// How many requests that lie ready behind each other are answered before others are.
+pub const REQUESTS_AT_ONCE: u32 = 16;
+
+/// How many seconds a client has for its next request, that is for the first byte of it.
+pub const IDLE_SECONDS: u64 = 60;
+
+/// How many seconds it has for the whole head, counted from the first byte.
+pub const HEAD_SECONDS: u64 = 10;
+
+/// How many seconds it has for the whole request, counted from the first byte.
+pub const REQUEST_SECONDS: u64 = 30;
+
+/// How many seconds it has to take a whole response, counted from where it stopped taking.
+pub const RESPONSE_SECONDS: u64 = 30;
+
+/// How many seconds it has, once nothing more is written, to close its side or to send what it had begun.
+pub const CLOSING_SECONDS: u64 = 2;
+
+/// How many bytes that it still sends are passed over then.
+pub const CLOSING_BYTES: usize = 1_048_576;

@@ -1,0 +1,216 @@
+use crate::kept::{AtHand, Kept};
+use crate::limits::{ACCEPTS, CONNECTIONS, SPARE_DESCRIPTORS};
+use crate::poller::{LISTENER, Poller, Report};
+use crate::slots::Slots;
+use crate::trouble::Refusal;
+use ks_outside::Failed;
+use libc::RLIMIT_NOFILE;
+use libc::types::rlimit;
+use mio::net::{TcpListener, TcpStream};
+use mio::unix::SourceFd;
+use mio::{Events, Interest, Poll, Registry};
+use std::io;
+use std::net::Net;
+use std::os::fd::AsRawFd;
+use std::rt::Clock;
+use std::sync::{Mutex, Wait};
+use std::time::Instant;
+
+/// The connections of one listener, which all its desks share. A connection rests here while nothing can be done for it,
+/// and a worker is lent it once a request of it looks whole, or once no more of it comes. So thousands of connections
+/// need a worker only while it answers them.
+///
+/// It keeps as many connections as the process may have descriptors, less 64, and at most 10,000. A further one takes the
+/// place of the one that has rested longest. A connection is let go that sends no byte of its next request for 60
+/// seconds, no whole head within 10 seconds or no whole request within 30 seconds of the first byte, or that does not
+/// take a whole response within 30 seconds. Behind the last response it may send for 2 seconds, and 1 MiB, which are
+/// passed over.
+#[derive(Drop)]
+pub struct Pool {
+    listener: TcpListener,
+    registry: Registry,
+    poller: Mutex<Poller>,
+    slots: Mutex<Slots>,
+}
+
+/// How many connections are kept at most.
+fn most_connections() -> usize {
+    let mut limit = rlimit {
+        rlim_cur: 0,
+        rlim_max: 0,
+    };
+    if libc::getrlimit(RLIMIT_NOFILE, &mut limit) != 0 {
+        return CONNECTIONS;
+    }
+    let kept = limit.rlim_cur.saturating_sub(SPARE_DESCRIPTORS).max(1);
+    usize::try_from(kept)
+        .unwrap_or(CONNECTIONS)
+        .min(CONNECTIONS)
+}
+
+impl Pool {
+    /// A pool of the connections that come to this listener.
+    pub fn new<R: Net + Clock + AllocGlobal>(rt: &R, listener: TcpListener) -> io::Result<Pool> {
+        let alloc = rt.alloc();
+        let poll = Poll::new(rt)?;
+        let registry = poll.registry().try_clone()?;
+        let descriptor = listener.as_raw_fd();
+        registry.register(&mut SourceFd(&descriptor), LISTENER, Interest::READABLE)?;
+        let events = Events::with_capacity(alloc, 1)?;
+        let now = Instant::now(rt)?;
+        Ok(Pool {
+            listener,
+            registry,
+            poller: Mutex::new(Poller { poll, events }),
+            slots: Mutex::new(Slots::new(alloc, most_connections(), now)),
+        })
+    }
+
+    /// Waits for the next connection of which a request looks whole. Workers wait in turn: one for a report, and the
+    /// others for that one.
+    pub fn next<R: Clock + Wait + Eprint>(&self, rt: &R) -> Result<Kept, Failed> {
+        'reports: for _ in rt.forever() {
+            let report = self.poller.lock(rt).wait()?;
+            let Ok(now) = Instant::now(rt) else {
+                return Err(Failed);
+            };
+            self.sweep(rt, now)?;
+            match report {
+                // No signal is heard yet.
+                Report::Nothing | Report::Signals => {}
+                Report::Listener => self.accept_all(rt, now)?,
+                Report::Connection(key) => {
+                    if let Some(kept) = self.next_of(rt, key, now) {
+                        return Ok(kept);
+                    }
+                }
+            }
+        }
+        unreachable!()
+    }
+
+    /// The connection of this place, if a request of it is at hand.
+    fn next_of<R: Wait>(&self, rt: &R, key: usize, now: Instant) -> Option<Kept> {
+        let kept = self.slots.lock(rt).lend(key)?;
+        self.sort(rt, kept, now)
+    }
+
+    /// A connection again, if a request of it is at hand. Else it rests, or is let go.
+    fn sort<R: Wait>(&self, rt: &R, mut kept: Kept, now: Instant) -> Option<Kept> {
+        match kept.go_on(now) {
+            Ok(AtHand::Request) => return Some(kept),
+            Ok(AtHand::Part) => {
+                kept.wait_on(now);
+                self.slots.lock(rt).put(&self.registry, kept);
+            }
+            Ok(AtHand::End) | Err(Failed) => self.let_go(rt, kept),
+        }
+        None
+    }
+
+    /// Takes back a connection of which the next request is to come.
+    pub fn rest<R: Clock + Wait>(&self, rt: &R, mut kept: Kept) {
+        match Instant::now(rt) {
+            Ok(now) => {
+                kept.rest(now);
+                self.slots.lock(rt).put(&self.registry, kept);
+            }
+            Err(_) => self.let_go(rt, kept),
+        }
+    }
+
+    /// Takes back a connection of which no more is answered. It is let go once its client has taken what waits for it,
+    /// and has closed its side.
+    pub fn close<R: Clock + Wait>(&self, rt: &R, mut kept: Kept) {
+        kept.end();
+        match Instant::now(rt) {
+            Ok(now) => drop(self.sort(rt, kept, now)),
+            Err(_) => self.let_go(rt, kept),
+        }
+    }
+
+    /// Lets a connection go.
+    pub fn let_go<R: Wait>(&self, rt: &R, kept: Kept) {
+        let key = kept.key;
+        drop(kept);
+        self.slots.lock(rt).forget(key);
+    }
+
+    /// Accepts the connections that wait, a number of them at most before others are served.
+    fn accept_all<R: Wait + Eprint>(&self, rt: &R, now: Instant) -> Result<(), Failed> {
+        let mut has_made_room = false;
+        'connections: for _ in 0..ACCEPTS {
+            match self.listener.accept() {
+                Ok((stream, _)) => {
+                    has_made_room = false;
+                    self.admit(rt, stream, now);
+                }
+                Err(error) => match Refusal::of(&error) {
+                    Refusal::OneConnection => {}
+                    Refusal::Nobody => return Ok(()),
+                    Refusal::Listener => return Err(Failed),
+                    Refusal::Passing => {
+                        if has_made_room || !self.make_room(rt, &error, now) {
+                            return Ok(());
+                        }
+                        has_made_room = true;
+                    }
+                },
+            }
+        }
+        self.ask_for_more()
+    }
+
+    /// Has the listener reported again, if connections wait there.
+    fn ask_for_more(&self) -> Result<(), Failed> {
+        let descriptor = self.listener.as_raw_fd();
+        let mut source = SourceFd(&descriptor);
+        match self
+            .registry
+            .reregister(&mut source, LISTENER, Interest::READABLE)
+        {
+            Ok(()) => Ok(()),
+            Err(_) => Err(Failed),
+        }
+    }
+
+    /// Takes in a connection, which then sends each piece at once. One that does not take this setting is let go.
+    fn admit<R: Wait>(&self, rt: &R, stream: TcpStream, now: Instant) {
+        if stream.set_nodelay(true).is_err() {
+            return;
+        }
+        let mut slots = self.slots.lock(rt);
+        slots.trouble.accept();
+        slots.admit(&self.registry, stream, now);
+    }
+
+    /// Lets the connection go that has rested longest, where none can be accepted, and says whether one went.
+    fn make_room<R: Wait + Eprint>(&self, rt: &R, error: &io::Error, now: Instant) -> bool {
+        let mut slots = self.slots.lock(rt);
+        if slots.trouble.meet(now) {
+            let _ = eprintln!(rt; "ks: no connection can be accepted for now: {error}");
+        }
+        slots.make_room(now)
+    }
+
+    /// Once a second lets the connections go whose time is over, and has the listener reported again, of which accepts may
+    /// have failed.
+    fn sweep<R: Wait + Eprint>(&self, rt: &R, now: Instant) -> Result<(), Failed> {
+        if self.sweep_slots(rt, now) {
+            return self.ask_for_more();
+        }
+        Ok(())
+    }
+
+    fn sweep_slots<R: Wait + Eprint>(&self, rt: &R, now: Instant) -> bool {
+        let mut slots = self.slots.lock(rt);
+        if !slots.begin_sweep(now) {
+            return false;
+        }
+        slots.sweep(now);
+        if slots.trouble.ends(now) {
+            let _ = eprintln!(rt; "ks: connections are accepted again");
+        }
+        true
+    }
+}

@@ -1,0 +1,138 @@
+ghost use Rattle.std.specs.Prelude.{◌≡◌, Some, is_ok, IsErr, IfOk, if◌then◌else◌};
+ghost use Rattle.ks_outside.specs.Counts.{Counts, next_count};
+ghost use Rattle.ks_outside.specs.Real.{untold_desk};
+
+use crate::kept::Kept;
+use crate::{Pool, TcpLink};
+use ks_base::{Memory, Receipt};
+use ks_outside::{Desk, Failed};
+use std::marker::Model;
+use std::random::RandomSource;
+use std::rt::Clock;
+use std::sync::Wait;
+use std::time::{SystemTime, UNIX_EPOCH};
+
+/// A desk over a pool of TCP connections, the clock and the random source. It tells nothing, and counts its faults; the
+/// counts stand still at 2^64 - 1. It keeps no receipt. All desks of a program share one pool, which hands out links
+/// without end. Without a pool, as where the program listens at no address or its address could not be opened, it hands
+/// out none, and each `accept` fails.
+#[derive(Drop)]
+pub struct RealDesk<'a, R> {
+    rt: &'a R,
+    pool: Option<&'a Pool>,
+    last: u64,
+    accept_faults: u64,
+    fill_faults: u64,
+}
+
+impl<'a, R> Model for RealDesk<'a, R> {
+    ghost use Rattle.ks_outside.specs.Real.{RealDeskState};
+
+    ghost Value = { RealDeskState };
+
+    ghost view = { λ d. record { last = d.last; accept_faults = d.accept_faults; fill_faults = d.fill_faults } };
+}
+
+impl<'a, R> RealDesk<'a, R> {
+    /// A desk that has not failed yet, and whose last reading is 0.
+    pub fn new(rt: &'a R, pool: Option<&'a Pool>) -> RealDesk<'a, R>
+        ensures { result ≡ record { last = 0; accept_faults = 0; fill_faults = 0 } }
+    {
+        RealDesk {
+            rt,
+            pool,
+            last: 0,
+            accept_faults: 0,
+            fill_faults: 0,
+        }
+    }
+}
+
+impl<'a, R: Clock + RandomSource + Wait + Eprint> Desk for RealDesk<'a, R> {
+    type Link = TcpLink<'a, R>;
+
+    ghost desk = { untold_desk };
+
+    /// Waits for a link of which a request looks whole, or of which no more comes. Where connections can't be accepted
+    /// for now, that is said on the standard error, and again when it is over. That the listener can't accept at all, a
+    /// clock that can't be read and a want of a pool are faults.
+    fn accept(&mut self) -> Result<Option<TcpLink<'a, R>>, Failed>
+        ensures faults { Counts (IsErr result) self.old.accept_faults self.new.accept_faults }
+        // There is always a link or a fault, and the count rises at a fault alone.
+        ensures some { IfOk result (λ link. link ≡ Some (record { reads = 0; writes = 0 })) }
+        ensures exact { self.new ≡ record self.old { accept_faults = (if is_ok result then self.old.accept_faults else next_count self.old.accept_faults) } }
+    {
+        match next_of(self.pool, self.rt) {
+            Ok(kept) => Ok(Some(TcpLink::new(self.rt, kept))),
+            Err(Failed) => {
+                self.accept_faults = self.accept_faults.saturating_add(1);
+                Err(Failed)
+            }
+        }
+    }
+
+    /// Gives the connection back to the pool. There it waits for its next request, where it may rest, and is else closed
+    /// in stages: what its client has not taken still goes to it, and what that still sends is passed over for a while,
+    /// so that it does not lose the last response.
+    fn give_back(&mut self, link: TcpLink<'a, R>)
+        ensures exact { self.new ≡ self.old }
+    {
+        if let Some(pool) = self.pool {
+            link.give_back(pool);
+        }
+    }
+
+    /// The clock, or the last reading again, at first 0, where it can't be read or stands before 1970.
+    fn reading(&mut self) -> u64
+        ensures last { self.new ≡ record self.old { last = result } }
+    {
+        if let Some(seconds) = seconds_since_1970(self.rt) {
+            self.last = seconds;
+        }
+        self.last
+    }
+
+    /// Fills from the random source of the system, whose every error is a fault.
+    fn fill(&mut self, into: &mut [u8]) -> Result<(), Failed>
+        ensures faults { Counts (IsErr result) self.old.fill_faults self.new.fill_faults }
+        // The count rises at a fault alone.
+        ensures exact { self.new ≡ record self.old { fill_faults = (if is_ok result then self.old.fill_faults else next_count self.old.fill_faults) } }
+    {
+        match self.rt.fill_bytes(into) {
+            Ok(()) => Ok(()),
+            Err(_) => {
+                self.fill_faults = self.fill_faults.saturating_add(1);
+                Err(Failed)
+            }
+        }
+    }
+
+    /// There is always room, since no receipt is kept.
+    fn ready(&mut self) -> Result<(), Memory>
+        ensures exact { self.new ≡ self.old }
+    {
+        Ok(())
+    }
+
+    /// Drops the receipt.
+    fn note(&mut self, receipt: Receipt)
+        ensures exact { self.new ≡ self.old }
+    {
+        drop(receipt);
+    }
+}
+
+/// The next connection of a pool, if there is one.
+fn next_of<R: Clock + Wait + Eprint>(pool: Option<&Pool>, rt: &R) -> Result<Kept, Failed> {
+    match pool {
+        Some(pool) => pool.next(rt),
+        None => Err(Failed),
+    }
+}
+
+/// The clock in whole seconds, where it can be read and does not stand before 1970.
+fn seconds_since_1970<R: Clock>(rt: &R) -> Option<u64> {
+    let now = SystemTime::now(rt).ok()?;
+    let since = now.duration_since(UNIX_EPOCH).ok()?;
+    Some(since.as_secs())
+}

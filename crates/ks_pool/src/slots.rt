@@ -1,0 +1,163 @@
+use crate::kept::Kept;
+use crate::trouble::Trouble;
+use mio::net::TcpStream;
+use mio::{Interest, Registry, Token};
+use slab::Slab;
+use std::alloc::Global;
+use std::mem;
+use std::time::Instant;
+
+/// The place of a connection.
+#[derive(Drop)]
+enum Slot {
+    /// It rests here.
+    Resting(Kept),
+    /// A worker has it, and whether something was reported of it since.
+    Lent(bool),
+}
+
+/// The places of all connections, by the numbers under which they are registered.
+#[derive(Drop)]
+pub struct Slots {
+    alloc: Global,
+    slots: Slab<Slot>,
+    /// How many connections there are at most.
+    most: usize,
+    swept: Instant,
+    pub trouble: Trouble,
+}
+
+/// A connection is reported when more comes of it, and when more may go to it: once at each change, and when it is
+/// registered.
+fn both_ways() -> Interest {
+    Interest::READABLE | Interest::WRITABLE
+}
+
+impl Slots {
+    /// No connections yet.
+    pub fn new(alloc: Global, most: usize, now: Instant) -> Slots {
+        Slots {
+            alloc,
+            slots: Slab::new(alloc),
+            most,
+            swept: now,
+            trouble: Trouble::new(),
+        }
+    }
+
+    /// Takes a place for a new connection. One for which there is no memory, or which can't be registered, is let go.
+    pub fn admit(&mut self, registry: &Registry, mut stream: TcpStream, now: Instant) {
+        if self.slots.len() >= self.most {
+            self.let_oldest_go();
+        }
+        let key = self.slots.vacant_key();
+        if registry
+            .register(&mut stream, Token(key), both_ways())
+            .is_ok()
+        {
+            let kept = Kept::new(self.alloc, stream, key, now);
+            drop(self.slots.insert(Slot::Resting(kept)));
+        }
+    }
+
+    /// Lends the connection of this place, if one rests there, and else notes that something was reported of it.
+    pub fn lend(&mut self, key: usize) -> Option<Kept> {
+        let slot = self.slots.get_mut(key)?;
+        match mem::replace(slot, Slot::Lent(false)) {
+            Slot::Resting(kept) => Some(kept),
+            Slot::Lent(_) => {
+                *slot = Slot::Lent(true);
+                None
+            }
+        }
+    }
+
+    /// Takes a connection back. It is reported again where something was reported of it meanwhile, or where a further
+    /// request lies ready.
+    pub fn put(&mut self, registry: &Registry, mut kept: Kept) {
+        let key = kept.key;
+        if self.was_reported(key) || kept.is_whole() {
+            let token = Token(key);
+            if registry
+                .reregister(&mut kept.stream, token, both_ways())
+                .is_err()
+            {
+                self.forget(key);
+                return;
+            }
+        }
+        if let Some(slot) = self.slots.get_mut(key) {
+            *slot = Slot::Resting(kept);
+        }
+    }
+
+    fn was_reported(&self, key: usize) -> bool {
+        match self.slots.get(key) {
+            Some(Slot::Lent(was_reported)) => *was_reported,
+            Some(Slot::Resting(_)) | None => false,
+        }
+    }
+
+    /// Frees a place, and lets the connection go that rests there.
+    pub fn forget(&mut self, key: usize) {
+        drop(self.slots.try_remove(key));
+    }
+
+    /// Whether a second has gone since the last sweep, and another begins.
+    pub fn begin_sweep(&mut self, now: Instant) -> bool {
+        if now.duration_since(self.swept).as_secs() == 0 {
+            return false;
+        }
+        self.swept = now;
+        true
+    }
+
+    /// Lets the connections go whose time is over.
+    pub fn sweep(&mut self, now: Instant) {
+        for key in 0..self.slots.capacity() {
+            if self.is_over(key, now) {
+                self.forget(key);
+            }
+        }
+    }
+
+    fn is_over(&self, key: usize, now: Instant) -> bool {
+        match self.slots.get(key) {
+            Some(Slot::Resting(kept)) => kept.until.has_passed(now),
+            Some(Slot::Lent(_)) | None => false,
+        }
+    }
+
+    /// The place of the connection that has rested longest, and since when.
+    fn oldest(&self) -> Option<(usize, Instant)> {
+        let mut oldest: Option<(usize, Instant)> = None;
+        for (key, slot) in self.slots.iter() {
+            if let Slot::Resting(kept) = slot {
+                oldest = match oldest {
+                    Some((_, rested)) if rested <= kept.rested => oldest,
+                    Some(_) | None => Some((key, kept.rested)),
+                };
+            }
+        }
+        oldest
+    }
+
+    /// Lets the connection go that has rested longest, if one rests.
+    fn let_oldest_go(&mut self) {
+        if let Some((key, _)) = self.oldest() {
+            self.forget(key);
+        }
+    }
+
+    /// Lets the connection go that has rested longest, if that was for a second, and says whether it did. A client that has
+    /// just come may have asked already.
+    pub fn make_room(&mut self, now: Instant) -> bool {
+        match self.oldest() {
+            Some((key, rested)) if now.duration_since(rested).as_secs() > 0 => {
+                self.forget(key);
+                true
+            }
+            Some(_) | None => false,
+        }
+    }
+}

@@ -1,0 +1,84 @@
+//! Calls to a connection that wait for its client.
+ghost use Rattle.std.specs.Prelude.{◌<◌, ◌≤◌, IfOk, IfSome, length};
+
+use crate::deadline::Awaited;
+use crate::kept::Kept;
+use crate::socket::{read_now, write_now};
+use ks_outside::Failed;
+use libc::net::{POLLIN, POLLOUT, poll};
+use libc::types::pollfd;
+use std::os::fd::AsRawFd;
+use std::rt::Clock;
+use std::time::Instant;
+
+impl Kept {
+    /// Waits until it may be ready for this, or its deadline has passed.
+    fn wait<R: Clock>(&mut self, clock: &R, awaited: Awaited, events: i16) -> Result<(), Failed> {
+        let Ok(now) = Instant::now(clock) else {
+            return Err(Failed);
+        };
+        self.until = self.until.then(awaited, now);
+        let left = self.until.millis_left(now);
+        if left == 0 {
+            return Err(Failed);
+        }
+        let mut waited = [pollfd {
+            fd: self.stream.as_raw_fd(),
+            events,
+            revents: 0,
+        }];
+        // Whatever it says, the next call to the connection finds out.
+        let _ready = poll(waited.as_mut_slice(), left);
+        Ok(())
+    }
+
+    /// Reads what came ahead, and else what comes in time.
+    pub fn read<R: Clock>(&mut self, clock: &R, into: &mut [u8]) -> Result<usize, Failed>
+        ensures within { IfOk result (λ n. n ≤ length into.old) }
+    {
+        let given = self.give(into);
+        if given > 0 {
+            return Ok(given);
+        }
+        'waits: for _ in 0..u64::MAX {
+            if let Some(count) = read_now(&mut self.stream, into)? {
+                return Ok(count);
+            }
+            self.wait(clock, Awaited::Body, POLLIN)?;
+        }
+        Err(Failed)
+    }
+
+    /// Writes what the client takes, and has what it does not take wait for it, where there is room in time.
+    pub fn write<R: Clock>(&mut self, clock: &R, piece: &[u8]) -> Result<usize, Failed>
+        ensures within { IfOk result (λ n. n ≤ length piece.now) }
+    {
+        'waits: for _ in 0..u64::MAX {
+            if let Some(count) = self.write_some(clock, piece)? {
+                return Ok(count);
+            }
+            self.wait(clock, Awaited::Taking, POLLOUT)?;
+        }
+        Err(Failed)
+    }
+
+    /// Writes what the client takes now, or has it wait, where there is room. What waits goes first.
+    fn write_some<R: Clock>(&mut self, clock: &R, piece: &[u8]) -> Result<Option<usize>, Failed>
+        ensures within { IfOk result (λ went. IfSome went (λ n. n ≤ length piece.now)) }
+    {
+        self.hand_out()?;
+        if !self.has_waiting() {
+            let taken = write_now(&mut self.stream, piece)?;
+            if taken.is_some() {
+                return Ok(taken);
+            }
+        }
+        // From now on the client has its time to take the response.
+        let Ok(now) = Instant::now(clock) else {
+            return Err(Failed);
+        };
+        self.until = self.until.then(Awaited::Taking, now);
+        let aside = self.put_aside(piece);
+        Ok((aside > 0).then_some(aside))
+    }
+}
