@@ -19,9 +19,8 @@ use Rattle.ks_http.specs.declared.look.Look.TheVariants.{Whole, Refused, More}
 use Rattle.ks_http.specs.declared.opening.Opening.{Opening}
 use Rattle.ks_http.specs.Heads.{opening_of}
 use Rattle.ks_http.specs.steps.Says.{Refuses}
-use Rattle.ks_http.specs.Next.{BeginsWith, IsRefused, headless, by_head, in_body, Ends}
-use Rattle.ks_http.proofs.WaitLemmas.{begun}
-use Rattle.ks_http.specs.steps.Buffers.{Fills, Filled, Finds, Looks, Glances, IsHeadAt, IsUndecided, FindsHead, Stands, FillsTo, OpensAt, Taken, TakesBody}
+use Rattle.ks_http.specs.Next.{BeginsWith, IsRefused, headless, by_head, in_body, Ends, IsUnfinished, ReadsNeeded}
+use Rattle.ks_http.specs.steps.Buffers.{Fills, Filled, Finds, Looks, Glances, IsHeadAt, IsUndecided, FindsHead, Stands, FillsTo, OpensAt, Taken, TakesBody, ReadsPiece, IsShorter}
 
 window_seam : (held rest : List ℕ) → take 16384 held ++ (drop 16384 held ++ rest) ≡ held ++ rest
 window_seam held rest = sym (append_assoc (take 16384 held) (drop 16384 held) rest) ∙ ap (λ l. l ++ rest) (take-append-drop 16384 held)
@@ -58,6 +57,42 @@ pub glances : (held : List ℕ) (before : ℕ) (headers : List HeaderSpan) (look
 glances held before headers (Whole spans) f = f
 glances held before headers (Refused cause) f = f
 glances held before headers More f = (λ u. f.0, f.1)
+
+-- a piece was read behind what wanted more
+pub took : (wants : List ℕ → Type 0) (whole held before : List ℕ) (left after : Option (List ℕ)) → Stands whole held left
+    → ((rest : List ℕ) → left ≡ Some rest → ReadsPiece rest after) → wants held → ReadsNeeded wants whole before after
+took wants whole held before left after s piece_of wanting =
+    let piece = piece_of s.rest s.left_is in
+    inr (record {
+      front = held;
+      piece = piece.piece;
+      rest = piece.rest;
+      bytes_are = sym s.whole_is ∙ ap (λ l. held ++ l) piece.left_is;
+      wanting = wanting;
+      short = piece.short;
+      left_is = piece.after_is;
+    })
+
+-- what a head and its body took
+pub took_both : (whole held before : List ℕ) (left after : Option (List ℕ)) (o : Opening) (f : OpensAt whole held left (Ok o)) → ReadsNeeded IsUnfinished whole before left
+    → ReadsNeeded (IsShorter o.length) (held ++ f.0) f.0 after → ReadsNeeded IsUnfinished whole before after
+took_both whole held before left after o f head (inl none) = subst (λ l. ReadsNeeded IsUnfinished whole before l) (f.1 ∙ sym none) head
+took_both whole held before left after o f head (inr body) =
+    let begins = f.2.begins in
+    let printed = print_request f.2.head in
+    inr (record {
+      front = printed ++ body.front;
+      piece = body.piece;
+      rest = body.rest;
+      bytes_are = begins.reads.1 ∙ (ap (λ l. printed ++ l) body.bytes_are ∙ sym (append_assoc printed body.front (body.piece ++ body.rest)));
+      wanting = inr (in_body o body.front (record {
+        head = f.2.head;
+        begins = record { reads = (begins.reads.0, refl); short = begins.short; few = begins.few };
+        says = f.2.says;
+      }) body.wanting);
+      short = body.short;
+      left_is = body.left_is;
+    })
 
 -- no byte came: what is in hand is all
 pub all_in_hand : (whole held new : List ℕ) (left after : Option (List ℕ)) (count : ℕ) (s : Stands whole held left) → Filled held s.rest new after count

@@ -2,6 +2,7 @@
 use Rattle.std.specs.Prelude.{◌≡◌, ◌≢◌, ◌≤◌, ◌<◌, ◌⊎◌, ◌+◌, ℕ, true, false, List, [], ◌∷◌, ◌++◌, length, take, drop, Option, Some, None, Result, Ok, Err, ⊤}
 use Rattle.httparse.specs.Grammar.{RequestHead, ReadsRequest, print_request}
 use Rattle.ks_base.specs.declared.limits.TheConstants.{CONNECTION_REQUESTS, HEAD_BYTES, HEAD_FIELDS}
+use Rattle.ks_http.specs.declared.buffer.TheConstants.{PIECE_BYTES}
 use Rattle.ks_http.specs.declared.cause.HttpCause.{HttpCause}
 use Rattle.ks_http.specs.declared.cause.HttpCause.TheVariants.{Malformed}
 use Rattle.ks_http.specs.declared.ending.Ending.{Ending}
@@ -59,13 +60,17 @@ pub data IsCut (bytes : List ℕ) : Type 0 where
   in_head : HasNoHead bytes → settled_cause bytes ≡ None → bytes ≢ [] → IsCut bytes
   in_body : (opening : Opening) (after : List ℕ) → Opens bytes (Ok opening) after → length after < opening.length → IsCut bytes
 
+-- nothing, or the beginning of a request: only from more bytes can an answer come
+abbrev pub IsUnfinished : List ℕ → Type 0
+IsUnfinished bytes = (bytes ≡ []) ⊎ IsCut bytes
+
 -- a read failed: what was read of these bytes is nothing or the beginning of a request, and `left` is what follows it
 pub record IsBegun (bytes : List ℕ) (left : Option (List ℕ)) : Type 0 where
   pub read : List ℕ
   pub rest : List ℕ
   pub left_is : left ≡ Some rest
   pub bytes_is : bytes ≡ read ++ rest
-  pub begun : (read ≡ []) ⊎ IsCut read
+  pub begun : IsUnfinished read
 
 -- why no request comes from these bytes, of which `left` is still unread
 abbrev pub Ends : List ℕ → Option (List ℕ) → Ending → Type 0
@@ -78,6 +83,21 @@ Ends bytes left ending.Memory = ⊤
 abbrev pub Comes : List ℕ → List ℕ → Option (List ℕ) → Result Request Ending → Type 0
 Comes bytes held left (Ok request) = (rest : List ℕ) × (left ≡ Some rest) × IsFirst bytes request (held ++ rest)
 Comes bytes held left (Err ending) = Ends bytes left ending
+
+-- these bytes were read but for `left`, and before the last piece of them what had come wanted more
+pub record ReadsWhile (wants : List ℕ → Type 0) (bytes : List ℕ) (left : Option (List ℕ)) : Type 0 where
+  pub front : List ℕ
+  pub piece : List ℕ
+  pub rest : List ℕ
+  pub bytes_are : bytes ≡ front ++ (piece ++ rest)
+  pub wanting : wants front
+  pub short : length piece ≤ PIECE_BYTES
+  pub left_is : left ≡ Some rest
+
+-- of these bytes, of which `before` was unread, a reader read no more than it had to: nothing, or at most a piece behind what wanted
+-- more
+abbrev pub ReadsNeeded : (List ℕ → Type 0) → List ℕ → List ℕ → Option (List ℕ) → Type 0
+ReadsNeeded wants bytes before left = (left ≡ Some before) ⊎ ReadsWhile wants bytes left
 
 -- an answer is a request or an ending
 abbrev pub answer_of : Next → Result Request Ending

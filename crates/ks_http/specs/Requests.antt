@@ -10,3 +10,8 @@ AreFirst count bytes [] rest = bytes ≡ rest
 AreFirst count bytes (request ∷ requests) rest =
     (behind : List ℕ) × IsFirst bytes request behind × (request.close ≡ false) × (count + 1 < CONNECTION_REQUESTS)
     × AreFirst (count + 1) behind requests rest
+
+-- these requests come first, and then `rest`
+abbrev pub AreFollowed : List ℕ → List Request → List ℕ → Type 0
+AreFollowed bytes [] rest = bytes ≡ rest
+AreFollowed bytes (request ∷ requests) rest = (behind : List ℕ) × IsFirst bytes request behind × AreFollowed behind requests rest

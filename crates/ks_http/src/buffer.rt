@@ -15,7 +15,7 @@ use std::alloc::Global;
 use std::marker::Model;
 
 /// How many bytes are read at once.
-const PIECE: usize = 4_096;
+pub const PIECE_BYTES: usize = 4_096;
 
 /// The bytes that were read and belong to no request yet.
 #[derive(Drop)]
@@ -32,23 +32,30 @@ impl Model for Buffer {
 }
 
 impl Buffer {
-    ghost use Rattle.std.specs.Prelude.{◌≡◌, ◌≢◌, ◌+◌, ◌<◌, ◌≤◌, ◌++◌, ℕ, List, [], Some, length, take, drop, IfOk, OnOk, OnErr, IsErrOf, All, ◌==◌, false};
+    ghost use Rattle.std.specs.Prelude.{◌≡◌, ◌≢◌, ◌+◌, ◌<◌, ◌≤◌, ◌++◌, ℕ, List, [], Some, length, take, drop, IfOk, OnOk, OnErr, IsErrOf, IsTrue, ◌↔◌, All, ◌==◌, false};
     ghost use Rattle.httparse.specs.Grammar.{RequestHead};
     ghost use Rattle.httparse.specs.Spans.{IsRequestWithin, IsRequestAt};
     ghost use Rattle.ks_base.specs.declared.limits.TheConstants.{HEAD_BYTES};
     ghost use Rattle.ks_outside.specs.Streams.{OnlyReads};
-    ghost use Rattle.ks_http.specs.steps.Buffers.{Fills, FillsTo, IsUndecided, Looks, Glances, FindsWithin, FindsHead, OpensAt, TakesBody};
+    ghost use Rattle.ks_http.specs.steps.Buffers.{Fills, FillsTo, IsShorter, IsUndecided, Looks, Glances, FindsWithin, FindsHead, OpensAt, ReadsPiece, TakesBody};
     ghost use Rattle.ks_http.specs.Heads.{opening_of};
     ghost use Rattle.ks_http.specs.steps.Says.{Says};
-    ghost use Rattle.ks_http.specs.Next.{Ends, Comes};
+    ghost use Rattle.ks_http.specs.Next.{Ends, Comes, IsUnfinished, ReadsNeeded};
 
     /// Before the first byte.
     pub fn new(alloc: Global) -> Result<Buffer, Memory>
         ensures { IfOk result (λ made. made ≡ []) }
     {
         Ok(Buffer {
-            bytes: Backlog::with_capacity(alloc, PIECE)?,
+            bytes: Backlog::with_capacity(alloc, PIECE_BYTES)?,
         })
+    }
+
+    /// Whether no byte is in hand.
+    pub fn is_empty(&self) -> bool
+        ensures { IsTrue result ↔ (self.now ≡ []) }
+    {
+        self.bytes.is_empty()
     }
 
     /// The bytes that a head may stand in.
@@ -63,11 +70,12 @@ impl Buffer {
     /// Reads a piece behind the bytes in hand, and says how many bytes came.
     fn fill<S: Source>(&mut self, source: &mut S) -> Result<usize, Ending>
         ensures told { (left : List ℕ) → (S.stream source.old).left ≡ Some left → Fills self.old left self.new (S.stream source.new).left result }
+        ensures piece { (left : List ℕ) → (S.stream source.old).left ≡ Some left → ReadsPiece left (S.stream source.new).left }
         ensures longer { IfOk result (λ count. length self.new ≡ length self.old + count) }
         ensures kept { IfOk result (λ _. take (length self.old) self.new ≡ self.old) }
         ensures reads { OnlyReads (IsErrOf result Ending.ReadFault) (S.stream source.old) (S.stream source.new) }
     {
-        let mut piece = [0; PIECE];
+        let mut piece = [0; PIECE_BYTES];
         let Ok(count) = source.read(piece.as_mut_slice()) else {
             return Err(Ending::ReadFault);
         };
@@ -140,6 +148,7 @@ impl Buffer {
         headers: &mut [HeaderSpan; HEAD_FIELDS],
     ) -> Result<RequestSpans, Ending>
         ensures told { (left : List ℕ) → (S.stream source.old).left ≡ Some left → FindsHead (self.old ++ left) self.new (S.stream source.new).left headers.new result }
+        ensures needed { (left : List ℕ) → (S.stream source.old).left ≡ Some left → ReadsNeeded IsUnfinished (self.old ++ left) left (S.stream source.new).left }
         ensures within { IfOk result (λ head. IsRequestWithin (take HEAD_BYTES self.new) headers.new head) }
         ensures reads { OnlyReads (IsErrOf result Ending.ReadFault) (S.stream source.old) (S.stream source.new) }
     {
@@ -161,6 +170,7 @@ impl Buffer {
     /// Reads until there are so many bytes in hand.
     fn fill_to<S: Source>(&mut self, source: &mut S, size: usize) -> Result<(), Ending>
         ensures told { (left : List ℕ) → (S.stream source.old).left ≡ Some left → FillsTo (self.old ++ left) size self.new (S.stream source.new).left result }
+        ensures needed { (left : List ℕ) → (S.stream source.old).left ≡ Some left → ReadsNeeded (IsShorter size) (self.old ++ left) left (S.stream source.new).left }
         ensures enough { OnOk result (size ≤ length self.new) }
         ensures reads { OnlyReads (IsErrOf result Ending.ReadFault) (S.stream source.old) (S.stream source.new) }
     {
@@ -173,7 +183,7 @@ impl Buffer {
         Ok(())
     }
 
-    /// Takes the body of so many bytes.
+    /// ReadsNeeded the body of so many bytes.
     fn body<S: Source>(
         &mut self,
         alloc: Global,
@@ -181,6 +191,7 @@ impl Buffer {
         size: usize,
     ) -> Result<Bytes, Ending>
         ensures told { (left : List ℕ) → (S.stream source.old).left ≡ Some left → TakesBody (self.old ++ left) size self.new (S.stream source.new).left result }
+        ensures needed { (left : List ℕ) → (S.stream source.old).left ≡ Some left → ReadsNeeded (IsShorter size) (self.old ++ left) left (S.stream source.new).left }
         ensures reads { OnlyReads (IsErrOf result Ending.ReadFault) (S.stream source.old) (S.stream source.new) }
     {
         self.fill_to(source, size)?;
@@ -210,9 +221,10 @@ impl Buffer {
         Opening::read(alloc, method, target, head.version, &fields)
     }
 
-    /// Takes the head of the first request.
+    /// ReadsNeeded the head of the first request.
     fn opening<S: Source>(&mut self, alloc: Global, source: &mut S) -> Result<Opening, Ending>
         ensures told { (left : List ℕ) → (S.stream source.old).left ≡ Some left → OpensAt (self.old ++ left) self.new (S.stream source.new).left result }
+        ensures needed { (left : List ℕ) → (S.stream source.old).left ≡ Some left → ReadsNeeded IsUnfinished (self.old ++ left) left (S.stream source.new).left }
         ensures reads { OnlyReads (IsErrOf result Ending.ReadFault) (S.stream source.old) (S.stream source.new) }
     {
         let mut headers = [EMPTY_HEADER_SPAN; HEAD_FIELDS];
@@ -222,9 +234,10 @@ impl Buffer {
         Ok(opening)
     }
 
-    /// Takes the first request of the bytes in hand and of those that the source has left.
+    /// ReadsNeeded the first request of the bytes in hand and of those that the source has left.
     pub fn request<S: Source>(&mut self, alloc: Global, source: &mut S) -> Result<Request, Ending>
         ensures told { (left : List ℕ) → (S.stream source.old).left ≡ Some left → Comes (self.old ++ left) self.new (S.stream source.new).left result }
+        ensures needed { (left : List ℕ) → (S.stream source.old).left ≡ Some left → ReadsNeeded IsUnfinished (self.old ++ left) left (S.stream source.new).left }
         ensures reads { OnlyReads (IsErrOf result Ending.ReadFault) (S.stream source.old) (S.stream source.new) }
     {
         let opening = self.opening(alloc, source)?;

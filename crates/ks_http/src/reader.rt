@@ -24,9 +24,9 @@ impl Model for Reader {
 }
 
 impl Reader {
-    ghost use Rattle.std.specs.Prelude.{◌≡◌, ◌++◌, ℕ, List, [], Some, None, IfOk};
+    ghost use Rattle.std.specs.Prelude.{◌≡◌, ◌++◌, ◌↔◌, ℕ, List, [], Some, None, IfOk, IsTrue};
     ghost use Rattle.ks_outside.specs.Streams.{OnlyReads};
-    ghost use Rattle.ks_http.specs.Next.{Comes, answer_of, ending_of, next_of};
+    ghost use Rattle.ks_http.specs.Next.{Comes, IsUnfinished, ReadsNeeded, answer_of, ending_of, next_of};
 
     /// Before the first byte.
     pub fn new(alloc: Global) -> Result<Reader, Memory>
@@ -38,10 +38,20 @@ impl Reader {
         })
     }
 
+    /// Whether no byte of a further request was read.
+    pub fn holds_none(&self) -> bool
+        ensures { IsTrue result ↔ (self.now.held ≡ []) }
+    {
+        self.buffer.is_empty()
+    }
+
     /// Reads the next request, in as many pieces as it comes in. After an answer that is no request the
     /// reader reads no more, and answers the same for ever. Any call may find no memory.
     pub fn next_request<S: Source>(&mut self, alloc: Global, source: &mut S) -> Next
         ensures told { (left : List ℕ) → (S.stream source.old).left ≡ Some left → self.old.over ≡ None → Comes (self.old.held ++ left) self.new.held (S.stream source.new).left (answer_of result) }
+
+        // At most a piece is read behind nothing or the beginning of a request.
+        ensures needed { (left : List ℕ) → (S.stream source.old).left ≡ Some left → ReadsNeeded IsUnfinished (self.old.held ++ left) left (S.stream source.new).left }
         ensures reads { OnlyReads ((self.old.over ≡ None) × (result ≡ Next.ReadFault)) (S.stream source.old) (S.stream source.new) }
         ensures ending { self.old.over ≡ None → self.new.over ≡ ending_of result }
 

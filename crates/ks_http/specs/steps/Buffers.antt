@@ -5,6 +5,7 @@ use Rattle.httparse.specs.Spans.{IsRequestAt, IsRequestWithin}
 use Rattle.httparse.specs.declared.spans.HeaderSpan.{HeaderSpan}
 use Rattle.httparse.specs.declared.spans.RequestSpans.{RequestSpans}
 use Rattle.ks_base.specs.declared.limits.TheConstants.{HEAD_BYTES}
+use Rattle.ks_http.specs.declared.buffer.TheConstants.{PIECE_BYTES}
 use Rattle.ks_http.specs.declared.cause.HttpCause.TheVariants.{Malformed}
 use Rattle.ks_http.specs.declared.ending.Ending.{Ending}
 use Rattle.ks_http.specs.declared.ending.Ending.TheVariants.{End, Bad, ReadFault, Memory}
@@ -27,6 +28,18 @@ Fills held left new after (Err End) = ⊥
 Fills held left new after (Err (Bad cause)) = ⊥
 Fills held left new after (Err ReadFault) = (new ≡ held) × (after ≡ Some left)
 Fills held left new after (Err Memory) = ⊤
+
+-- one piece was read, or nothing
+pub record ReadsPiece (left : List ℕ) (after : Option (List ℕ)) : Type 0 where
+  pub piece : List ℕ
+  pub rest : List ℕ
+  pub left_is : left ≡ piece ++ rest
+  pub short : length piece ≤ PIECE_BYTES
+  pub after_is : after ≡ Some rest
+
+-- a body of so many bytes wants more
+abbrev pub IsShorter : ℕ → List ℕ → Type 0
+IsShorter size bytes = length bytes < size
 
 -- the spans are those of a head at the front of the bytes
 pub record IsHeadAt (bytes : List ℕ) (headers : List HeaderSpan) (spans : RequestSpans) : Type 0 where

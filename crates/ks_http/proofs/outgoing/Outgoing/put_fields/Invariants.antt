@@ -1,4 +1,4 @@
-use Rattle.std.proofs.Common.{◌≡◌, ◌≤◌, take, Ok}
+use Rattle.std.proofs.Common.{take, Ok}
 use Rattle.ks_outside.specs.Streams.{OnlyWrites}
 use Rattle.ks_outside.specs.declared.failed.Failed.{Failed}
 use Rattle.ks_http.specs.Responses.{field_lines}
