@@ -1,6 +1,6 @@
 -- What stands in a list.
 use Rattle.std.proofs.Common.{◌≡◌, Bool, true, false, ◌||◌, ◌⊎◌, inl, inr, List, [], ◌∷◌, ◌++◌, map, refl, ap, subst, ◌∙◌, sym}
-use Rattle.std.specs.List.{AllByRecursion, list_any}
+use Rattle.std.specs.List.{AllByRecursion, flat_map, list_any}
 use Rattle.std.proofs.lemmas.Bool.{or_right}
 use Rattle.std.proofs.lemmas.Bool.Decides.{Decides-or, Decides-like}
 use Rattle.std.proofs.lemmas.Slice.Eq.{bytes_eq-Decides}
@@ -64,6 +64,22 @@ pub among_mapped : {X Y : Type 0} (f : X → Y) (xs : List X) (y : Y) → Among 
 among_mapped f [] y among = absurd among
 among_mapped f (next ∷ xs) y (inl is) = (next, inl refl, is)
 among_mapped f (next ∷ xs) y (inr among) = let found = among_mapped f xs y among in (found.0, inr found.1, found.2)
+
+-- lists of each, joined end to end
+
+pub among_joined : {X Y : Type 0} (f : X → List Y) (xs : List X) (y : Y) → Among (flat_map f xs) y → (x : X) × Among xs x × Among (f x) y
+among_joined f [] y among = absurd among
+among_joined {X} {Y} f (next ∷ xs) y among = by (among_parts (f next) (flat_map f xs) y among) (among_joined f xs y)
+  where
+    by : Among (f next) y ⊎ Among (flat_map f xs) y → (Among (flat_map f xs) y → (x : X) × Among xs x × Among (f x) y) →
+        (x : X) × Among (next ∷ xs) x × Among (f x) y
+    by (inl here) behind = (next, inl refl, here)
+    by (inr later) behind = let found = behind later in (found.0, inr found.1, found.2)
+
+pub joined_among : {X Y : Type 0} (f : X → List Y) (xs : List X) (x : X) (y : Y) → Among xs x → Among (f x) y → Among (flat_map f xs) y
+joined_among f [] x y among here = absurd among
+joined_among f (next ∷ xs) x y (inl is) here = among_left (f next) (flat_map f xs) y (subst (λ z. Among (f z) y) (sym is) here)
+joined_among f (next ∷ xs) x y (inr later) here = among_right (f next) (flat_map f xs) y (joined_among f xs x y later here)
 
 -- a test that one of them passes
 

@@ -16,7 +16,7 @@ use Rattle.ks_base.specs.Rows.{Id, has_id, same}
 use Rattle.ks_base.specs.Places.{IsFoundAt, IsGapAt, IsPlace}
 
 -- a row behind one that is below it all
-above_at : {K X : Type 0} (cmp : K → K → Ordering) (key : X → K) (low : K) (rows : List X) (i : ℕ) (d : X) →
+pub above_at : {K X : Type 0} (cmp : K → K → Ordering) (key : X → K) (low : K) (rows : List X) (i : ℕ) (d : X) →
     AreAbove cmp key low rows → i < length rows → cmp low (key (get_or rows i d)) ≡ Less
 above_at cmp key low [] i d above lt = absurd (omega arith)
 above_at cmp key low (row ∷ rows) zero d above lt = above.0

@@ -8,6 +8,7 @@ pub mod Refusals
 pub mod Results
 pub mod Limits
 pub mod Rows
+pub mod Indexes
 pub mod Tree
 pub mod Roles
 pub mod Trees
@@ -19,3 +20,5 @@ pub mod RoleFaults
 pub mod Grants
 pub mod Revocation
 pub mod Trusts
+pub mod Runs
+pub mod Links

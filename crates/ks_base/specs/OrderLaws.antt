@@ -1,21 +1,24 @@
--- The orders are total, and what they hold equal is the same.
-use Rattle.std.proofs.Common.{◌≡◌, ℕ, ◌<◌, Bool, true, false, List, [], ◌∷◌, refl, ap, subst}
+-- The orders are total, what they hold equal is the same, and which rows stand side by side in them.
+use Rattle.std.proofs.Common.{◌≡◌, ◌⊎◌, inl, inr, ℕ, ◌<◌, Bool, true, false, List, [], ◌∷◌, refl, sym, ap, ◌∙◌, subst}
 use Rattle.std.specs.declared.cmp.Ordering.{Ordering}
 use Rattle.std.specs.declared.cmp.Ordering.TheVariants.{Less, Equal, Greater}
-use Rattle.std.specs.Ordering.{MatchOrdering, nat_cmp, bool_cmp, ordering_then}
+use Rattle.std.specs.Ordering.{MatchOrdering, nat_cmp, bool_cmp, ordering_reverse, ordering_then}
 use Rattle.std.specs.Cmp.{IsTotalOrder, bool_cmp_total}
-use Rattle.std.proofs.lemmas.Cmp.{ranked, nat_cmp_total, nat_list_cmp_total, then_total, on_total}
+use Rattle.std.proofs.lemmas.Cmp.{ranked, nat_cmp_total, nat_list_cmp_total, then_total, on_total, tied_back}
 use Rattle.ks_base.specs.declared.grants.Actor.{Actor}
 use Rattle.ks_base.specs.declared.grants.Actor.TheVariants as actors
 use Rattle.ks_base.specs.declared.grants.Target.{Target}
 use Rattle.ks_base.specs.declared.grants.Target.TheVariants as targets
 use Rattle.ks_base.specs.declared.grants.GrantRow.{GrantRow}
+use Rattle.ks_base.specs.declared.grants.GrantSite.{GrantSite}
 use Rattle.ks_base.specs.declared.grants.ImplyRow.{ImplyRow}
+use Rattle.ks_base.specs.declared.users.ByUser.{ByUser}
 use Rattle.ks_base.specs.declared.users.MemberRow.{MemberRow}
 use Rattle.ks_base.specs.Tables.{id_cmp}
-use Rattle.ks_base.specs.Orders.{actor_rank, actor_id, actor_cmp, target_rank, target_bytes, target_cmp, grant_cmp, member_cmp, imply_cmp}
+use Rattle.ks_base.specs.Orders.{actor_rank, actor_id, actor_cmp, target_rank, target_bytes, target_cmp, site_of, site_cmp, grant_cmp, member_cmp, by_user_cmp, imply_cmp}
+use Rattle.ks_base.specs.Runs.{IsRun}
 
-then_equal : (o p : Ordering) → ordering_then o p ≡ Equal → (o ≡ Equal) × (p ≡ Equal)
+pub then_equal : (o p : Ordering) → ordering_then o p ≡ Equal → (o ≡ Equal) × (p ≡ Equal)
 then_equal Less p e = cc
 then_equal Equal p e = (refl, e)
 then_equal Greater p e = cc
@@ -67,12 +70,28 @@ grant_exact a b e =
     let role = id_exact a.role b.role last.1 in
     λ i. record { actor = actor i; target = target i; inherited = inherited i; role = role i }
 
+pub site_exact : (a b : GrantSite) → site_cmp a b ≡ Equal → a ≡ b
+site_exact a b e =
+    let last = then_equal (ordering_then (actor_cmp a.actor b.actor) (target_cmp a.target b.target)) (bool_cmp a.inherited b.inherited) e in
+    let first = then_equal (actor_cmp a.actor b.actor) (target_cmp a.target b.target) last.0 in
+    let actor = actor_exact a.actor b.actor first.0 in
+    let target = target_exact a.target b.target first.1 in
+    let inherited = bool_exact a.inherited b.inherited last.1 in
+    λ i. record { actor = actor i; target = target i; inherited = inherited i }
+
 pub member_exact : (a b : MemberRow) → member_cmp a b ≡ Equal → a ≡ b
 member_exact a b e =
     let both = then_equal (id_cmp a.group b.group) (id_cmp a.user b.user) e in
     let group = id_exact a.group b.group both.0 in
     let user = id_exact a.user b.user both.1 in
     λ i. record { group = group i; user = user i }
+
+pub by_user_exact : (a b : ByUser) → by_user_cmp a b ≡ Equal → a ≡ b
+by_user_exact a b e =
+    let both = then_equal (id_cmp a.row.user b.row.user) (id_cmp a.row.group b.row.group) e in
+    let user = id_exact a.row.user b.row.user both.0 in
+    let group = id_exact a.row.group b.row.group both.1 in
+    λ i. record { row = record { group = group i; user = user i } }
 
 pub imply_exact : (a b : ImplyRow) → imply_cmp a b ≡ Equal → a ≡ b
 imply_exact a b e =
@@ -95,5 +114,77 @@ grant_total =
 pub member_total : IsTotalOrder member_cmp
 member_total = then_total (on_total (λ row. row.group) nat_list_cmp_total) (on_total (λ row. row.user) nat_list_cmp_total)
 
+pub by_user_total : IsTotalOrder by_user_cmp
+by_user_total = then_total (on_total (λ side. side.row.user) nat_list_cmp_total) (on_total (λ side. side.row.group) nat_list_cmp_total)
+
 pub imply_total : IsTotalOrder imply_cmp
 imply_total = then_total (on_total (λ row. row.prior) nat_list_cmp_total) (on_total (λ row. row.implied) nat_list_cmp_total)
+
+-- an order goes first by its first part
+first_part : (o p : Ordering) → ordering_then o p ≡ Less → (o ≡ Less) ⊎ (o ≡ Equal)
+first_part Less p e = inl refl
+first_part Equal p e = inr refl
+first_part Greater p e = cc
+
+part_of : (o p : Ordering) → (ordering_then o p ≡ Less) ⊎ (ordering_then o p ≡ Equal) → (o ≡ Less) ⊎ (o ≡ Equal)
+part_of o p (inl less) = first_part o p less
+part_of Less p (inr equal) = inl refl
+part_of Equal p (inr equal) = inr refl
+part_of Greater p (inr equal) = cc
+
+first_of_three : (o p q : Ordering) → ordering_then (ordering_then o p) q ≡ Less → (o ≡ Less) ⊎ (o ≡ Equal)
+first_of_three o p q e = part_of o p (first_part (ordering_then o p) q e)
+
+first_of_four : (o p q r : Ordering) → ordering_then (ordering_then (ordering_then o p) q) r ≡ Less → (o ≡ Less) ⊎ (o ≡ Equal)
+first_of_four o p q r e = part_of o p (part_of (ordering_then o p) q (first_part (ordering_then (ordering_then o p) q) r e))
+
+-- the rows with one key make a run of each order that goes first by this key
+pub keyed_run : {K X : Type 0} (first : K → K → Ordering) (key : X → K) (cmp : X → X → Ordering) → IsTotalOrder first →
+    ((a b : X) → cmp a b ≡ Less → (first (key a) (key b) ≡ Less) ⊎ (first (key a) (key b) ≡ Equal)) → (k : K) → IsRun cmp (λ row. first (key row) k)
+keyed_run {K} first key cmp o leads k = record {
+  before = λ a b less below. before (key a) (key b) (leads a b less) below;
+  behind = λ a b less above. behind (key a) (key b) (leads a b less) above;
+}
+  where
+    before : (x y : K) → (first x y ≡ Less) ⊎ (first x y ≡ Equal) → first y k ≡ Less → first x k ≡ Less
+    before x y (inl less) below = o.trans x y k less below
+    before x y (inr same) below = o.congr x y k same ∙ below
+
+    behind : (x y : K) → (first x y ≡ Less) ⊎ (first x y ≡ Equal) → first x k ≡ Greater → first y k ≡ Greater
+    behind x y (inl less) above = o.antisymm y k ∙ ap ordering_reverse (o.trans k x y (o.antisymm k x ∙ ap ordering_reverse above) less)
+    behind x y (inr same) above = sym (o.congr x y k same) ∙ above
+
+actor_first : (a b : GrantRow) → grant_cmp a b ≡ Less → (actor_cmp a.actor b.actor ≡ Less) ⊎ (actor_cmp a.actor b.actor ≡ Equal)
+actor_first a b less = first_of_four (actor_cmp a.actor b.actor) (target_cmp a.target b.target) (bool_cmp a.inherited b.inherited) (id_cmp a.role b.role) less
+
+site_first : (a b : GrantRow) → grant_cmp a b ≡ Less → (site_cmp (site_of a) (site_of b) ≡ Less) ⊎ (site_cmp (site_of a) (site_of b) ≡ Equal)
+site_first a b less = first_part (site_cmp (site_of a) (site_of b)) (id_cmp a.role b.role) less
+
+pub site_total : IsTotalOrder site_cmp
+site_total =
+    then_total (then_total (on_total (λ site. site.actor) actor_total) (on_total (λ site. site.target) target_total)) (on_total (λ site. site.inherited) bool_cmp_total)
+
+-- so the grants of an actor stand side by side, and those of an actor at a target
+pub actor_run : (actor : Actor) → IsRun grant_cmp (λ row. actor_cmp row.actor actor)
+actor_run = keyed_run actor_cmp (λ (row : GrantRow). row.actor) grant_cmp actor_total actor_first
+
+pub site_run : (site : GrantSite) → IsRun grant_cmp (λ row. site_cmp (site_of row) site)
+site_run = keyed_run site_cmp site_of grant_cmp site_total site_first
+
+-- and the memberships in a group, and those of a user
+pub group_run : (group : List ℕ) → IsRun member_cmp (λ row. id_cmp row.group group)
+group_run =
+    keyed_run id_cmp (λ (row : MemberRow). row.group) member_cmp nat_list_cmp_total (λ a b less. first_part (id_cmp a.group b.group) (id_cmp a.user b.user) less)
+
+pub user_run : (user : List ℕ) → IsRun by_user_cmp (λ side. id_cmp side.row.user user)
+user_run =
+    keyed_run id_cmp (λ (side : ByUser). side.row.user) by_user_cmp nat_list_cmp_total
+    (λ a b less. first_part (id_cmp a.row.user b.row.user) (id_cmp a.row.group b.row.group) less)
+
+-- which stand in the order of their groups
+pub user_within : (user : List ℕ) (a b : ByUser) → id_cmp a.row.user user ≡ Equal → id_cmp b.row.user user ≡ Equal → by_user_cmp a b ≡ Less →
+    member_cmp a.row b.row ≡ Less
+user_within user a b is also less =
+    let tied : id_cmp a.row.user b.row.user ≡ Equal = nat_list_cmp_total.congr a.row.user user b.row.user is ∙ tied_back nat_list_cmp_total b.row.user user also in
+    let lower : id_cmp a.row.group b.row.group ≡ Less = ap (λ o. ordering_then o (id_cmp a.row.group b.row.group)) (sym tied) ∙ less in
+    ap (λ o. ordering_then o (id_cmp a.row.user b.row.user)) lower

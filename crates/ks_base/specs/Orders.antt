@@ -8,7 +8,9 @@ use Rattle.ks_base.specs.declared.grants.Actor.TheVariants as actors
 use Rattle.ks_base.specs.declared.grants.Target.{Target}
 use Rattle.ks_base.specs.declared.grants.Target.TheVariants as targets
 use Rattle.ks_base.specs.declared.grants.GrantRow.{GrantRow}
+use Rattle.ks_base.specs.declared.grants.GrantSite.{GrantSite}
 use Rattle.ks_base.specs.declared.grants.ImplyRow.{ImplyRow}
+use Rattle.ks_base.specs.declared.users.ByUser.{ByUser}
 use Rattle.ks_base.specs.declared.users.MemberRow.{MemberRow}
 use Rattle.ks_base.specs.Tables.{id_cmp}
 
@@ -43,6 +45,13 @@ target_bytes at = option_map_or (λ id. id) (target_id at) []
 abbrev pub target_cmp : Target → Target → Ordering
 target_cmp = then_cmp (on target_rank nat_cmp) (on target_bytes id_cmp)
 
+-- all of a grant but its role
+abbrev pub site_of : GrantRow → GrantSite
+site_of row = record { actor = row.actor; target = row.target; inherited = row.inherited }
+
+abbrev pub site_cmp : GrantSite → GrantSite → Ordering
+site_cmp = then_cmp (then_cmp (on (λ site. site.actor) actor_cmp) (on (λ site. site.target) target_cmp)) (on (λ site. site.inherited) bool_cmp)
+
 -- by actor, target, whether it is inherited (no before yes) and role
 abbrev pub grant_cmp : GrantRow → GrantRow → Ordering
 grant_cmp = then_cmp (then_cmp (then_cmp (on (λ row. row.actor) actor_cmp) (on (λ row. row.target) target_cmp)) (on (λ row. row.inherited) bool_cmp)) (on (λ row. row.role) id_cmp)
@@ -50,6 +59,10 @@ grant_cmp = then_cmp (then_cmp (then_cmp (on (λ row. row.actor) actor_cmp) (on 
 -- by group, then by user
 abbrev pub member_cmp : MemberRow → MemberRow → Ordering
 member_cmp = then_cmp (on (λ row. row.group) id_cmp) (on (λ row. row.user) id_cmp)
+
+-- by user, then by group
+abbrev pub by_user_cmp : ByUser → ByUser → Ordering
+by_user_cmp = then_cmp (on (λ side. side.row.user) id_cmp) (on (λ side. side.row.group) id_cmp)
 
 -- by the role that implies, then by the one that is implied
 abbrev pub imply_cmp : ImplyRow → ImplyRow → Ordering

@@ -3,7 +3,7 @@ ghost use Rattle.std.specs.Option.{option_copied};
 ghost use Rattle.ks_base.specs.Grants.{is_at_target, is_of_actor};
 ghost use Rattle.ks_base.specs.Orders.{actor_rank, actor_id, actor_cmp, target_rank, target_id, target_cmp};
 
-use crate::{Id, Memory, Ordered, TryCopy};
+use crate::{Id, Memory, Near, Ordered, TryCopy};
 use std::cmp::Ordering;
 
 /// Whom a role is granted to.
@@ -29,6 +29,14 @@ pub struct GrantRow {
     pub target: Target,
     pub inherited: bool,
     pub role: Id,
+}
+
+/// Where grants stand side by side that differ in their role alone.
+#[derive(Clone, Copy)]
+pub struct GrantSite {
+    pub actor: Actor,
+    pub target: Target,
+    pub inherited: bool,
 }
 
 /// That who has the role `prior` has `implied` too.
@@ -143,6 +151,35 @@ impl Ordered for GrantRow {
             .then(self.target.compare(&other.target))
             .then(self.inherited.cmp(&other.inherited))
             .then(self.role.cmp(&other.role))
+    }
+}
+
+impl Near<GrantRow> for Actor {
+    ghost use Rattle.ks_base.specs.Orders.{actor_cmp};
+    ghost use Rattle.ks_base.specs.OrderLaws.{actor_run};
+
+    ghost side = { λ actor row. actor_cmp row.actor actor };
+
+    ghost run = { actor_run };
+
+    fn side(&self, row: &GrantRow) -> Ordering {
+        row.actor.compare(self)
+    }
+}
+
+impl Near<GrantRow> for GrantSite {
+    ghost use Rattle.ks_base.specs.Orders.{site_of, site_cmp};
+    ghost use Rattle.ks_base.specs.OrderLaws.{site_run};
+
+    ghost side = { λ site row. site_cmp (site_of row) site };
+
+    ghost run = { site_run };
+
+    fn side(&self, row: &GrantRow) -> Ordering {
+        row.actor
+            .compare(&self.actor)
+            .then(row.target.compare(&self.target))
+            .then(row.inherited.cmp(&self.inherited))
     }
 }
 

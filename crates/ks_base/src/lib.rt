@@ -8,15 +8,18 @@ mod faults;
 mod grants;
 mod id;
 mod ids;
+mod index;
 mod key;
 mod kinds;
 mod laws;
 pub mod limits;
+mod links;
 mod list;
 mod lists;
 mod memory;
 mod method;
 mod named;
+mod near;
 mod receipt;
 mod refusal;
 mod row_set;
@@ -30,7 +33,7 @@ mod users;
 pub use bytes::Bytes;
 pub use events::{EventRow, Holder, Revoke};
 pub use faults::{KeysFault, LoadFault, RowFault, TreeFault, TrustFault};
-pub use grants::{Actor, GrantRow, ImplyRow, Target};
+pub use grants::{Actor, GrantRow, GrantSite, ImplyRow, Target};
 pub use id::{Id, IdFault};
 pub use ids::has_id;
 pub use key::Key;
@@ -40,6 +43,7 @@ pub use laws::{
     inherited_misses_its_domain, named_is_implied, new_trust_leads_as_its_parent,
     on_domain_is_direct, trust_goes_with_those_above, trust_leads_to_its_first_trustor,
 };
+pub use links::{Far, Links, Side};
 pub use list::{ListOf, TryCopy};
 pub use lists::{
     DomainList, EventList, FieldList, GrantList, GroupList, IdList, ImplyList, IndexList, KeyList,
@@ -48,6 +52,7 @@ pub use lists::{
 pub use memory::Memory;
 pub use method::Method;
 pub use named::{Homed, InDomain, Named, NamedIn, OtherNamedIn, OtherWithName, Outside, WithName};
+pub use near::{Near, run_of};
 pub use receipt::{Drawn, Receipt};
 pub use refusal::refuse_if;
 pub use row_set::{Ordered, RowSet};
@@ -56,4 +61,4 @@ pub use shapes::{Filter, ShapeFault, ShapeRefusal};
 pub use table::{Row, Table, Test};
 pub use text::Text;
 pub use trusts::TrustRow;
-pub use users::{MemberRow, PasswordRow, UserRow};
+pub use users::{ByUser, InGroup, MemberRow, OfUser, PasswordRow, UserRow};

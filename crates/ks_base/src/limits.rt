@@ -20,6 +20,9 @@ pub const GRANTS: usize = 262_144;
 pub const TRUSTS: usize = 65_536;
 /// Revocations that may be live.
 pub const EVENTS: usize = 262_144;
+/// Revocations that may be live with those that users write for themselves, by ending a token, changing their own password or
+/// deleting a trust: the rest is kept for those who must end what is not theirs.
+pub const SELF_REVOCATIONS: usize = 131_072;
 /// Keys that may be held.
 pub const KEYS: usize = 32;
 /// The fewest keys that a rotation may be told to leave: the primary one, and the staged.
@@ -60,6 +63,8 @@ pub const RULE_BYTES: usize = 4_096;
 pub const RULE_DEPTH: u8 = 64;
 /// Bytes of an opening file: 16 MiB.
 pub const OPENING_BYTES: usize = 16_777_216;
+/// Bytes of the public URL of an opening file.
+pub const URL_BYTES: usize = 1_024;
 
 /// Bytes of a request's first line and fields, with the empty line behind them.
 pub const HEAD_BYTES: usize = 16_384;

@@ -4,13 +4,19 @@ ghost use Rattle.ks_base.specs.Rows.{same};
 
 use crate::{Id, Row, Test, Text};
 
-/// A row with a name.
+/// A row with a name, which is told apart from the same name elsewhere by the row's home.
 pub trait Named: Row {
     ghost naming: { Self → List ℕ };
+
+    ghost within: { Self → List ℕ };
 
     /// The row's name.
     fn name(&self) -> &Text
         ensures { result.now ≡ naming self.now };
+
+    /// The bytes of its domain's id; none, where the row lies in no domain.
+    fn home(&self) -> &[u8]
+        ensures { result.now ≡ within self.now };
 }
 
 /// A row of a domain.

@@ -1,4 +1,4 @@
-ghost use Rattle.std.specs.Prelude.{◌≡◌, IfOk};
+ghost use Rattle.std.specs.Prelude.{◌≡◌, [], IfOk};
 
 use crate::{Homed, Id, Memory, Named, Row, Text, TryCopy};
 
@@ -153,8 +153,14 @@ impl Row for DomainRow {
 impl Named for DomainRow {
     ghost naming = { λ row. row.name };
 
+    ghost within = { λ _. [] };
+
     fn name(&self) -> &Text {
         &self.name
+    }
+
+    fn home(&self) -> &[u8] {
+        &[]
     }
 }
 
@@ -175,8 +181,14 @@ impl Row for ProjectRow {
 impl Named for ProjectRow {
     ghost naming = { λ row. row.name };
 
+    ghost within = { λ row. row.domain };
+
     fn name(&self) -> &Text {
         &self.name
+    }
+
+    fn home(&self) -> &[u8] {
+        self.domain.as_slice()
     }
 }
 
@@ -205,8 +217,14 @@ impl Row for GroupRow {
 impl Named for GroupRow {
     ghost naming = { λ row. row.name };
 
+    ghost within = { λ row. row.domain };
+
     fn name(&self) -> &Text {
         &self.name
+    }
+
+    fn home(&self) -> &[u8] {
+        self.domain.as_slice()
     }
 }
 
@@ -235,8 +253,14 @@ impl Row for RoleRow {
 impl Named for RoleRow {
     ghost naming = { λ row. row.name };
 
+    ghost within = { λ _. [] };
+
     fn name(&self) -> &Text {
         &self.name
+    }
+
+    fn home(&self) -> &[u8] {
+        &[]
     }
 }
 

@@ -2,8 +2,9 @@ ghost use Rattle.std.specs.Prelude.{◌≡◌, Bool, List, [], find, filter, is_
 ghost use Rattle.std.specs.List.Sorted.{IsSearchInRange};
 ghost use Rattle.ks_base.specs.Tables.{id_cmp, IsAscending, find_row, put_row, drop_row};
 ghost use Rattle.ks_base.specs.Places.{IsPlace};
+ghost use Rattle.ks_base.specs.Indexes.{AreNamesOf, is_named, is_other_named};
 
-use crate::{Id, IdList, Memory};
+use crate::{Id, IdList, Memory, Named, Text, index};
 use std::alloc::{AllocError, Global};
 use std::marker::Model;
 
@@ -25,21 +26,24 @@ pub trait Test<R> {
         ensures { result ≡ test self.now row.now };
 }
 
-/// Rows in the order of their ids, one for each id.
+/// Rows in the order of their ids, one for each id, which are found by their ids and by their names.
 #[derive(Drop)]
-pub struct Table<R: Row> {
+pub struct Table<R: Named> {
     rows: Vec<R>,
+    /// The places of the rows, in the order of their homes, names and ids.
+    names: Vec<usize>,
 }
 
-impl<R: Row> Model for Table<R> {
+impl<R: Named> Model for Table<R> {
     ghost use Rattle.std.specs.Prelude.{List};
     ghost use Rattle.ks_base.specs.Tables.{id_cmp, IsAscending};
+    ghost use Rattle.ks_base.specs.Indexes.{AreNamesOf};
 
     ghost Value = { List R };
 
     ghost view = { λ table. table.rows.items };
 
-    ghost invariant = { λ table. IsAscending id_cmp R.key table.rows.items };
+    ghost invariant = { λ table. IsAscending id_cmp R.key table.rows.items × AreNamesOf R.within R.naming R.key table.rows.items table.names.items };
 }
 
 /// The place of the row with this id, or the one where it belongs.
@@ -72,13 +76,14 @@ fn ids_passing<R: Row, T: Test<R>>(
         .collect(alloc)
 }
 
-impl<R: Row> Table<R> {
+impl<R: Named> Table<R> {
     /// The empty table, which takes no memory yet.
     pub fn new(alloc: Global) -> Table<R>
         ensures { result ≡ [] }
     {
         Table {
             rows: Vec::new(alloc),
+            names: Vec::new(alloc),
         }
     }
 
@@ -109,11 +114,11 @@ impl<R: Row> Table<R> {
     {
         match place(self.rows.as_slice(), row.id()) {
             Ok(at) => {
-                self.rows[at] = row;
+                index::replace(&mut self.rows, &mut self.names, at, row);
                 Ok(())
             }
             Err(at) => {
-                self.rows.insert(at, row)?;
+                index::insert(&mut self.rows, &mut self.names, at, row)?;
                 Ok(())
             }
         }
@@ -124,9 +129,7 @@ impl<R: Row> Table<R> {
         ensures { self.new ≡ drop_row id_cmp R.key id.now self.old }
     {
         match place(self.rows.as_slice(), id) {
-            Ok(at) => {
-                let _row = self.rows.remove(at);
-            }
+            Ok(at) => index::remove(&mut self.rows, &mut self.names, at),
             Err(_) => {}
         }
     }
@@ -135,7 +138,27 @@ impl<R: Row> Table<R> {
     pub fn keep<T: Test<R>>(&mut self, test: &T)
         ensures { self.new ≡ filter (T.test test.now) self.old }
     {
+        index::keep(self.rows.as_slice(), &mut self.names, test);
         self.rows.retain(|row| test.test(row));
+    }
+
+    /// The first row of this home and name, in the order of ids. Names are compared by bytes.
+    pub fn named(&self, home: &[u8], name: &Text) -> Option<&R>
+        ensures { option_copied result ≡ find (is_named R.within R.naming home.now name.now) self.now }
+    {
+        index::named(
+            self.rows.as_slice(),
+            self.names.as_slice(),
+            home,
+            name.as_slice(),
+        )
+    }
+
+    /// The first other row with the home and the name of this one, in the order of ids.
+    pub fn other_named(&self, row: &R) -> Option<&R>
+        ensures { option_copied result ≡ find (is_other_named R.within R.naming R.key row.now) self.now }
+    {
+        index::other_named(self.rows.as_slice(), self.names.as_slice(), row)
     }
 
     /// The first row that passes the test, in the order of ids.

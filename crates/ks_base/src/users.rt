@@ -1,6 +1,6 @@
 ghost use Rattle.std.specs.Prelude.{◌≡◌, IfOk};
 
-use crate::{Homed, Id, Memory, Named, Ordered, Row, Text, TryCopy};
+use crate::{Far, Homed, Id, Memory, Named, Near, Ordered, Row, Side, Text, TryCopy};
 use std::cmp::Ordering;
 
 /// What is kept of a password: PBKDF2-HMAC-SHA-256 of it (RFC 8018, section 5.2).
@@ -28,6 +28,24 @@ pub struct UserRow {
 #[derive(Clone, Copy)]
 pub struct MemberRow {
     pub group: Id,
+    pub user: Id,
+}
+
+/// A membership as it is seen from its user.
+#[derive(Clone, Copy)]
+pub struct ByUser {
+    pub row: MemberRow,
+}
+
+/// The memberships in a group.
+#[derive(Clone, Copy)]
+pub struct InGroup {
+    pub group: Id,
+}
+
+/// The memberships of a user.
+#[derive(Clone, Copy)]
+pub struct OfUser {
     pub user: Id,
 }
 
@@ -63,8 +81,14 @@ impl Row for UserRow {
 impl Named for UserRow {
     ghost naming = { λ row. row.name };
 
+    ghost within = { λ row. row.domain };
+
     fn name(&self) -> &Text {
         &self.name
+    }
+
+    fn home(&self) -> &[u8] {
+        self.domain.as_slice()
     }
 }
 
@@ -97,6 +121,76 @@ impl Ordered for MemberRow {
             .cmp(&other.group)
             .then(self.user.cmp(&other.user))
     }
+}
+
+impl Ordered for ByUser {
+    ghost use Rattle.ks_base.specs.Orders.{by_user_cmp};
+    ghost use Rattle.ks_base.specs.OrderLaws.{by_user_total, by_user_exact};
+
+    ghost cmp = { by_user_cmp };
+
+    ghost total = { by_user_total };
+
+    ghost exact = { by_user_exact };
+
+    fn compare(&self, other: &ByUser) -> Ordering {
+        self.row
+            .user
+            .cmp(&other.row.user)
+            .then(self.row.group.cmp(&other.row.group))
+    }
+}
+
+impl Side<MemberRow> for ByUser {
+    ghost use Rattle.std.specs.Prelude.{refl};
+
+    ghost seen = { λ row. record { row = row } };
+
+    ghost row_of = { λ side. side.row };
+
+    ghost returns = { λ row. refl };
+
+    ghost again = { λ side. refl };
+
+    fn of(row: &MemberRow) -> ByUser {
+        ByUser { row: *row }
+    }
+
+    fn row(&self) -> &MemberRow {
+        &self.row
+    }
+}
+
+impl Near<MemberRow> for InGroup {
+    ghost use Rattle.ks_base.specs.Tables.{id_cmp};
+    ghost use Rattle.ks_base.specs.OrderLaws.{group_run};
+
+    ghost side = { λ wanted row. id_cmp row.group wanted.group };
+
+    ghost run = { λ wanted. group_run wanted.group };
+
+    fn side(&self, row: &MemberRow) -> Ordering {
+        row.group.cmp(&self.group)
+    }
+}
+
+impl Near<ByUser> for OfUser {
+    ghost use Rattle.ks_base.specs.Tables.{id_cmp};
+    ghost use Rattle.ks_base.specs.OrderLaws.{user_run};
+
+    ghost side = { λ wanted side. id_cmp side.row.user wanted.user };
+
+    ghost run = { λ wanted. user_run wanted.user };
+
+    fn side(&self, side: &ByUser) -> Ordering {
+        side.row.user.cmp(&self.user)
+    }
+}
+
+impl Far<MemberRow, ByUser> for OfUser {
+    ghost use Rattle.ks_base.specs.OrderLaws.{user_within};
+
+    ghost within = { λ wanted. user_within wanted.user };
 }
 
 impl TryCopy for MemberRow {

@@ -1,0 +1,59 @@
+-- An index of rows by another order than that of the table: the places of all rows, in the order of their keys.
+use Rattle.std.specs.Prelude.{◌≢◌, ℕ, ◌+◌, ◌-◌, ◌<◌, Bool, not, ◌&&◌, List, length, cond, nat_lt, get_or}
+use Rattle.std.specs.List.{AllByRecursion}
+use Rattle.std.specs.declared.cmp.Ordering.{Ordering}
+use Rattle.std.specs.Ordering.{then_cmp, on}
+use Rattle.ks_base.specs.Tables.{id_cmp, Among, IsAscending}
+use Rattle.ks_base.specs.Rows.{same}
+
+-- the places of rows, each once, by ascending keys of the rows there
+pub record IsIndex {K X : Type 0} (cmp : K → K → Ordering) (key : X → K) (rows : List X) (places : List ℕ) : Type 0 where
+  pub within : AllByRecursion (λ place. place < length rows) places
+  pub all : (place : ℕ) → place < length rows → Among places place
+  pub up : (other : X) → IsAscending cmp (λ place. key (get_or rows place other)) places
+
+-- the same, without one place
+pub record IsIndexBut {K X : Type 0} (cmp : K → K → Ordering) (key : X → K) (rows : List X) (places : List ℕ) (at : ℕ) : Type 0 where
+  pub within : AllByRecursion (λ place. place < length rows) places
+  pub others : (place : ℕ) → Among places place → place ≢ at
+  pub all : (place : ℕ) → place < length rows → place ≢ at → Among places place
+  pub up : (other : X) → IsAscending cmp (λ place. key (get_or rows place other)) places
+
+-- where a row stands after one came in before it, and after one went from before it
+unfoldable pub raised : ℕ → ℕ → ℕ
+raised at place = cond (nat_lt place at) place (place + 1)
+
+unfoldable pub lowered : ℕ → ℕ → ℕ
+lowered at place = cond (nat_lt at place) (place - 1) place
+
+-- a home and a name
+abbrev pub Name : Type 0
+Name = List ℕ × List ℕ
+
+abbrev pub name_cmp : Name → Name → Ordering
+name_cmp = then_cmp (on (λ name. name.0) id_cmp) (on (λ name. name.1) id_cmp)
+
+-- rows go by home, name and id
+abbrev pub full_cmp : Name × List ℕ → Name × List ℕ → Ordering
+full_cmp = then_cmp (on (λ full. full.0) name_cmp) (on (λ full. full.1) id_cmp)
+
+abbrev pub full_name : {R : Type 0} → (R → List ℕ) → (R → List ℕ) → (R → List ℕ) → R → Name × List ℕ
+full_name home naming key row = ((home row, naming row), key row)
+
+abbrev pub is_named : {R : Type 0} → (R → List ℕ) → (R → List ℕ) → List ℕ → List ℕ → R → Bool
+is_named home naming wanted name row = same (home row) wanted && same (naming row) name
+
+-- the index of rows by home, name and id
+abbrev pub AreNamesOf : {R : Type 0} → (R → List ℕ) → (R → List ℕ) → (R → List ℕ) → List R → List ℕ → Type 0
+AreNamesOf home naming key rows places = IsIndex full_cmp (full_name home naming key) rows places
+
+abbrev pub AreNamesBut : {R : Type 0} → (R → List ℕ) → (R → List ℕ) → (R → List ℕ) → List R → List ℕ → ℕ → Type 0
+AreNamesBut home naming key rows places at = IsIndexBut full_cmp (full_name home naming key) rows places at
+
+-- the row that the index has at a slot; the other, where there is none
+abbrev pub row_in : {R : Type 0} → List R → List ℕ → ℕ → R → R
+row_in rows places slot other = get_or rows (get_or places slot 0) other
+
+-- another row has the home and the name of this one
+abbrev pub is_other_named : {R : Type 0} → (R → List ℕ) → (R → List ℕ) → (R → List ℕ) → R → R → Bool
+is_other_named home naming key row other = not (same (key other) (key row)) && is_named home naming (home row) (naming row) other
