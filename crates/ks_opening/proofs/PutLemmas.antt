@@ -7,12 +7,12 @@ use Rattle.std.specs.List.{AllByRecursion, find}
 use Rattle.std.specs.List.Sorted.{IsPermutation}
 use Rattle.std.specs.Ordering.{is_eq, ordering_reverse}
 use Rattle.std.proofs.lemmas.Cmp.{alike_right, tied_back, tied_itself}
-use Rattle.std.proofs.lemmas.List.Elements.{All-from_recursion, recursion_from_All}
-use Rattle.std.proofs.lemmas.List.Sorted.{All-permutation, IsPermutation-sym}
+use Rattle.std.proofs.lemmas.List.Sorted.{IsPermutation-sym}
 use Rattle.ks_base.specs.Tables.{Among, AreAbove, IsAscending, find_row, has_key, put_row}
 use Rattle.ks_base.proofs.RowLemmas.{find_put, find_put_other, found_among, eq_is, find_above}
 use Rattle.ks_base.proofs.TableLemmas.{ascending_put}
 use Rattle.ks_base.proofs.AmongLemmas.{all_among}
+use Rattle.ks_base.proofs.LinkLemmas.{among_moved}
 use Rattle.ks_machine.specs.Opened.{put_all}
 use Rattle.ks_opening.specs.steps.Indexed.{AreApart}
 use Rattle.ks_opening.proofs.FindLemmas.{same_test}
@@ -106,20 +106,7 @@ same_rows cmp key o (row ∷ rows) [] up upper same =
 same_rows cmp key o (row ∷ rows) (next ∷ others) up upper same =
     same_rows_by cmp key o row next rows others (cmp (key row) (key next)) refl up upper same (λ later. same_rows cmp key o rows others up.1 upper.1 later)
 
--- a list in another order has the same rows
-
-among_more : {X : Type 0} (next : X) (rows : List X) (below : List X) → AllByRecursion (Among rows) below → AllByRecursion (Among (next ∷ rows)) below
-among_more next rows [] all = tt
-among_more next rows (row ∷ below) all = (inr all.0, among_more next rows below all.1)
-
-among_itself : {X : Type 0} (rows : List X) → AllByRecursion (Among rows) rows
-among_itself [] = tt
-among_itself (row ∷ rows) = (inl refl, among_more row rows rows (among_itself rows))
-
-among_moved : {X : Type 0} (rows moved : List X) (row : X) → IsPermutation rows moved → Among moved row → Among rows row
-among_moved rows moved row is among =
-    all_among (Among rows) moved row
-    (recursion_from_All (Among rows) moved (All-permutation (Among rows) rows moved is (All-from_recursion (Among rows) rows (among_itself rows)))) among
+-- a list in another order
 
 -- the key of a row tells it among these
 abbrev pub TellRows : {K X : Type 0} → (K → K → Ordering) → (X → K) → List X → Type 0

@@ -7,8 +7,8 @@ ghost use Rattle.ks_opening.specs.steps.Tables.{grants_with, people_with, roles_
 
 use ks_assign::Grants;
 use ks_base::{
-    DomainList, GrantList, GroupList, ImplyList, ListOf, MemberList, Memory, Ordered, ProjectList,
-    RoleList, Row, RowSet, Table, UserList,
+    DomainList, GrantList, GroupList, ImplyList, ListOf, MemberList, Memory, Named, Ordered,
+    ProjectList, RoleList, RowSet, Table, UserList,
 };
 use ks_people::People;
 use ks_roles::Roles;
@@ -16,7 +16,7 @@ use ks_tree::Tree;
 use std::alloc::Global;
 
 /// The table of rows of which no two have one id. They go in by rising ids, so that each comes behind those that stand.
-fn table_of<R: Row>(alloc: Global, rows: ListOf<R>) -> Result<Table<R>, Memory>
+fn table_of<R: Named>(alloc: Global, rows: ListOf<R>) -> Result<Table<R>, Memory>
     requires { AreApart id_cmp R.key rows }
     ensures { IfOk result (λ table. table ≡ put_all (put_row id_cmp R.key) rows) }
 {
@@ -67,7 +67,7 @@ fn people_of(
     let users = table_of(alloc, users)?;
     let groups = table_of(alloc, groups)?;
     let members = set_of(alloc, members)?;
-    Ok(People::from_tables(alloc, users, groups, members))
+    People::from_tables(alloc, users, groups, members)
 }
 
 /// These roles, and their implications.

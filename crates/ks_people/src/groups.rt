@@ -1,16 +1,16 @@
 //! Groups: look-ups, checks and changes.
-ghost use Rattle.std.specs.Prelude.{◌≡◌, ◌≢◌, option_copied, Err};
+ghost use Rattle.std.specs.Prelude.{◌≡◌, ◌≢◌, find, option_copied, Err};
 ghost use Rattle.ks_base.specs.declared.limits.TheConstants.{GROUPS};
 ghost use Rattle.ks_base.specs.Refusals.{fault_in, Changes, Decides};
 ghost use Rattle.ks_base.specs.Rows.{group_of};
 ghost use Rattle.ks_base.specs.Tables.{id_cmp, IsAscending};
-ghost use Rattle.ks_base.specs.People.{with_group, without_group};
+ghost use Rattle.ks_base.specs.People.{is_group_named, with_group, without_group};
 ghost use Rattle.ks_base.specs.PeopleFaults.{group_absent, group_name_taken, other_group_named, add_group_fault, set_group_fault, drop_group_fault};
 
 use crate::People;
 use crate::select::OfOtherGroups;
 use ks_base::limits::GROUPS;
-use ks_base::{GroupRow, Id, Kind, NamedIn, OtherNamedIn, RowFault, refuse_if};
+use ks_base::{GroupRow, Id, Kind, RowFault, Text, refuse_if};
 
 impl People {
     /// The group with this id.
@@ -19,6 +19,13 @@ impl People {
         ensures ascending { IsAscending id_cmp (λ row. row.id) self.now.groups }
     {
         self.groups.get(id)
+    }
+
+    /// The group of this domain with this name, compared by bytes.
+    fn group_named(&self, domain: &Id, name: &Text) -> Option<&GroupRow>
+        ensures { option_copied result ≡ find (is_group_named domain.now name.now) self.now.groups }
+    {
+        self.groups.named(domain.as_slice(), name)
     }
 
     /// Adds a group. Refused are a name that a group of the domain has (`NameTaken`), the 16,385th group (`Full`)
@@ -72,7 +79,7 @@ impl People {
         ensures { fault_in result ≡ set_group_fault self.now row.now }
     {
         self.group_stands(&row.id)?;
-        match self.groups.first(&OtherNamedIn { row }) {
+        match self.groups.other_named(row) {
             Some(holder) => Err(RowFault::NameTaken(holder.id)),
             None => Ok(()),
         }
@@ -99,11 +106,7 @@ impl People {
     fn group_name_is_free(&self, row: &GroupRow) -> Result<(), RowFault>
         ensures { fault_in result ≡ group_name_taken self.now row.now }
     {
-        let named = NamedIn {
-            domain: &row.domain,
-            name: &row.name,
-        };
-        match self.groups.first(&named) {
+        match self.group_named(&row.domain, &row.name) {
             Some(holder) => Err(RowFault::NameTaken(holder.id)),
             None => Ok(()),
         }

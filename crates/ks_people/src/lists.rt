@@ -1,32 +1,24 @@
 //! The lists of ids that are shown.
-ghost use Rattle.std.specs.Prelude.{◌≡◌, map, filter, IfOk};
+ghost use Rattle.std.specs.Prelude.{◌≡◌, map, IfOk};
 ghost use Rattle.ks_base.specs.Tables.{id_cmp, IsAscending};
-ghost use Rattle.ks_base.specs.People.{is_of_user, is_of_group, users_of, group_ids, groups_of, members_of};
+ghost use Rattle.ks_base.specs.People.{users_of, group_ids, groups_of, members_of};
 
 use crate::People;
-use ks_base::{Id, IdList, InDomain, MemberRow, Memory};
+use ks_base::{ByUser, Id, IdList, InDomain, InGroup, MemberRow, Memory, OfUser};
 use std::alloc::{AllocError, Global};
 
-/// The groups of the user's memberships.
-fn groups_with(alloc: Global, members: &[MemberRow], user: &Id) -> Result<Vec<Id>, AllocError>
-    ensures { IfOk result (λ groups. groups.items ≡ map (λ row. row.group) (filter (is_of_user user.now) members.now)) }
+/// The groups of these memberships.
+fn groups_in(alloc: Global, memberships: &[ByUser]) -> Result<Vec<Id>, AllocError>
+    ensures { IfOk result (λ groups. groups.items ≡ map (λ side. side.row.group) memberships.now) }
 {
-    members
-        .iter()
-        .filter(|row| row.user == *user)
-        .map(|row| row.group)
-        .collect(alloc)
+    memberships.iter().map(|side| side.row.group).collect(alloc)
 }
 
-/// The users of the group's memberships.
-fn users_within(alloc: Global, members: &[MemberRow], group: &Id) -> Result<Vec<Id>, AllocError>
-    ensures { IfOk result (λ users. users.items ≡ map (λ row. row.user) (filter (is_of_group group.now) members.now)) }
+/// The users of these memberships.
+fn users_in(alloc: Global, memberships: &[MemberRow]) -> Result<Vec<Id>, AllocError>
+    ensures { IfOk result (λ users. users.items ≡ map (λ row. row.user) memberships.now) }
 {
-    members
-        .iter()
-        .filter(|row| row.group == *group)
-        .map(|row| row.user)
-        .collect(alloc)
+    memberships.iter().map(|row| row.user).collect(alloc)
 }
 
 impl People {
@@ -45,22 +37,22 @@ impl People {
     }
 
     /// The ids of the groups that the user is in, in their order.
-    #[tactic(auto, using(crate::proofs::MemberLemmas::groups_ascend))]
     pub fn groups_of(&self, user: &Id) -> Result<IdList, Memory>
         ensures ids { IfOk result (λ ids. ids ≡ groups_of user.now self.now) }
         ensures ascending { IfOk result (λ ids. IsAscending id_cmp (λ id. id) ids) }
     {
-        let groups = groups_with(self.alloc, self.members.rows(), user)?;
+        let _ascending = self.members.rows();
+        let groups = groups_in(self.alloc, self.members.at(&OfUser { user: *user }))?;
         Ok(IdList::from_vec(groups))
     }
 
     /// The ids of the users in the group, in their order.
-    #[tactic(auto, using(crate::proofs::MemberLemmas::users_ascend))]
     pub fn members_of(&self, group: &Id) -> Result<IdList, Memory>
         ensures ids { IfOk result (λ ids. ids ≡ members_of group.now self.now) }
         ensures ascending { IfOk result (λ ids. IsAscending id_cmp (λ id. id) ids) }
     {
-        let users = users_within(self.alloc, self.members.rows(), group)?;
+        let _ascending = self.members.rows();
+        let users = users_in(self.alloc, self.members.of(&InGroup { group: *group }))?;
         Ok(IdList::from_vec(users))
     }
 }

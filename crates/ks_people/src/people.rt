@@ -1,6 +1,6 @@
-ghost use Rattle.std.specs.Prelude.{◌≡◌, [], filter};
+ghost use Rattle.std.specs.Prelude.{◌≡◌, [], filter, IfOk};
 
-use ks_base::{GroupRow, MemberRow, RowSet, Table, Test, UserRow};
+use ks_base::{ByUser, GroupRow, Links, MemberRow, Memory, RowSet, Table, Test, UserRow};
 use std::alloc::Global;
 use std::marker::Model;
 
@@ -9,7 +9,7 @@ pub struct People {
     pub(crate) alloc: Global,
     pub(crate) users: Table<UserRow>,
     pub(crate) groups: Table<GroupRow>,
-    pub(crate) members: RowSet<MemberRow>,
+    pub(crate) members: Links<MemberRow, ByUser>,
 }
 
 impl Drop for People {
@@ -40,25 +40,25 @@ impl People {
             alloc,
             users: Table::new(alloc),
             groups: Table::new(alloc),
-            members: RowSet::new(alloc),
+            members: Links::new(alloc),
         }
     }
 
-    /// The state of these users, groups and memberships.
+    /// The state of these users, groups and memberships, which are put into their order by user too.
     pub fn from_tables(
         alloc: Global,
         users: Table<UserRow>,
         groups: Table<GroupRow>,
         members: RowSet<MemberRow>,
-    ) -> People
-        ensures { result ≡ record { users = users; groups = groups; members = members } }
+    ) -> Result<People, Memory>
+        ensures { IfOk result (λ people. people ≡ record { users = users; groups = groups; members = members }) }
     {
-        People {
+        Ok(People {
             alloc,
             users,
             groups,
-            members,
-        }
+            members: Links::from_rows(alloc, members)?,
+        })
     }
 
     /// All users, in the order of their ids.

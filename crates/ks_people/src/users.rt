@@ -10,7 +10,7 @@ ghost use Rattle.ks_base.specs.PeopleFaults.{user_absent, user_name_taken, other
 use crate::People;
 use crate::select::OfOtherUsers;
 use ks_base::limits::USERS;
-use ks_base::{Id, Kind, NamedIn, OtherNamedIn, RowFault, Text, UserRow, refuse_if};
+use ks_base::{Id, Kind, RowFault, Text, UserRow, refuse_if};
 
 impl People {
     /// The user with this id.
@@ -25,7 +25,7 @@ impl People {
     pub fn user_named(&self, domain: &Id, name: &Text) -> Option<&UserRow>
         ensures { option_copied result ≡ find (is_user_named domain.now name.now) self.now.users }
     {
-        self.users.first(&NamedIn { domain, name })
+        self.users.named(domain.as_slice(), name)
     }
 
     /// Adds a user. Refused are a name that a user of the domain has (`NameTaken`), the 65,537th user (`Full`)
@@ -79,7 +79,7 @@ impl People {
         ensures { fault_in result ≡ set_user_fault self.now row.now }
     {
         self.user_stands(&row.id)?;
-        match self.users.first(&OtherNamedIn { row }) {
+        match self.users.other_named(row) {
             Some(holder) => Err(RowFault::NameTaken(holder.id)),
             None => Ok(()),
         }

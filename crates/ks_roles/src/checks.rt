@@ -6,7 +6,7 @@ ghost use Rattle.ks_base.specs.RoleFaults.{role_absent, admin_implied, implicati
 
 use crate::Roles;
 use ks_base::limits::{IMPLICATIONS, ROLES};
-use ks_base::{Id, ImplyRow, Kind, OtherWithName, RoleRow, RowFault, refuse_if};
+use ks_base::{Id, ImplyRow, Kind, RoleRow, RowFault, refuse_if};
 
 /// The name of the role that no other may imply.
 const ADMIN: &[u8] = b"admin";
@@ -30,7 +30,7 @@ impl Roles {
         ensures { fault_in result ≡ set_fault self.now row.now }
     {
         self.stands(&row.id)?;
-        match self.roles.first(&OtherWithName { row }) {
+        match self.roles.other_named(row) {
             Some(holder) => Err(RowFault::NameTaken(holder.id)),
             None => Ok(()),
         }

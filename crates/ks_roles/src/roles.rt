@@ -3,7 +3,7 @@ ghost use Rattle.ks_base.specs.Rows.{role_of};
 ghost use Rattle.ks_base.specs.Tables.{id_cmp, IsAscending};
 ghost use Rattle.ks_base.specs.RoleLists.{is_named};
 
-use ks_base::{Id, ImplyRow, RoleRow, RowSet, Table, Text, WithName};
+use ks_base::{Id, ImplyRow, RoleRow, RowSet, Table, Text};
 use std::alloc::Global;
 use std::marker::Model;
 
@@ -85,6 +85,6 @@ impl Roles {
     pub fn named(&self, name: &Text) -> Option<&RoleRow>
         ensures { option_copied result ≡ find (is_named name.now) self.now.roles }
     {
-        self.roles.first(&WithName { name })
+        self.roles.named(&[], name)
     }
 }

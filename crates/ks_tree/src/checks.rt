@@ -7,9 +7,7 @@ ghost use Rattle.ks_base.specs.TreeFaults.{domain_absent, project_absent, no_par
 use crate::Tree;
 use crate::named::{ChildOf, Disabled, WithId};
 use ks_base::limits::{DOMAINS, LEVELS, PROJECTS};
-use ks_base::{
-    DomainRow, Id, Kind, OtherNamedIn, OtherWithName, ProjectRow, Test, TreeFault, refuse_if,
-};
+use ks_base::{DomainRow, Id, Kind, ProjectRow, Test, TreeFault, refuse_if};
 
 /// Enabled projects below this one.
 #[derive(Drop)]
@@ -59,7 +57,7 @@ impl Tree {
     pub fn may_set_domain(&self, row: &DomainRow) -> Result<(), TreeFault>
         ensures { fault_in result ≡ set_domain_fault self.now row.now }
     {
-        match self.domains.first(&OtherWithName { row }) {
+        match self.domains.other_named(row) {
             Some(holder) => Err(TreeFault::NameTaken(holder.id)),
             None => Ok(()),
         }
@@ -72,7 +70,7 @@ impl Tree {
     {
         self.may_disable(row)?;
         self.may_enable(row)?;
-        match self.projects.first(&OtherNamedIn { row }) {
+        match self.projects.other_named(row) {
             Some(holder) => Err(TreeFault::NameTaken(holder.id)),
             None => Ok(()),
         }

@@ -3,7 +3,7 @@ ghost use Rattle.ks_base.specs.Rows.{domain_of, project_of};
 ghost use Rattle.ks_base.specs.Tables.{id_cmp, IsAscending};
 ghost use Rattle.ks_base.specs.Trees.{is_domain_named, is_project_named};
 
-use ks_base::{DomainRow, Id, NamedIn, ProjectRow, Table, Text, WithName};
+use ks_base::{DomainRow, Id, ProjectRow, Table, Text};
 use std::alloc::Global;
 use std::marker::Model;
 
@@ -93,13 +93,13 @@ impl Tree {
     pub fn domain_named(&self, name: &Text) -> Option<&DomainRow>
         ensures { option_copied result ≡ find (is_domain_named name.now) self.now.domains }
     {
-        self.domains.first(&WithName { name })
+        self.domains.named(&[], name)
     }
 
     /// The project of this domain with this name, compared by bytes.
     pub fn project_named(&self, domain: &Id, name: &Text) -> Option<&ProjectRow>
         ensures { option_copied result ≡ find (is_project_named domain.now name.now) self.now.projects }
     {
-        self.projects.first(&NamedIn { domain, name })
+        self.projects.named(domain.as_slice(), name)
     }
 }
