@@ -1,4 +1,4 @@
-ghost use Rattle.std.specs.Prelude.{◌≡◌, ◌≢◌, [], not, filter, Ok, Err, false, is_none, IsSome, IfOk, IsTrue};
+ghost use Rattle.std.specs.Prelude.{◌≡◌, ◌≢◌, [], not, filter, Ok, Err, false, is_none, IsNone, IsSome, IfOk, IfSome, IsTrue, ◌↔◌};
 ghost use Rattle.ks_base.specs.declared.limits.TheConstants.{GRANTS};
 ghost use Rattle.ks_base.specs.Orders.{grant_cmp};
 ghost use Rattle.ks_base.specs.Refusals.{Changes, Decides, fault_in};
@@ -85,6 +85,17 @@ impl Grants {
         ensures { fault_in result ≡ ungrant_fault self.now row.now }
     {
         refuse_if(!self.rows.has(row), RowFault::Absent(Kind::Grant, row.role))
+    }
+
+    /// The grants of this user or group, by target, whether they are inherited, and role. It takes no memory, and
+    /// looks at no other grants than a binary search for the first and one for the last of them.
+    pub fn of_actor(&self, actor: &Actor) -> Option<&[GrantRow]>
+        ensures rows { IfSome result (λ rows. rows.now ≡ filter (is_of_actor actor.now) self.now) }
+        ensures none { IsNone result ↔ (filter (is_of_actor actor.now) self.now ≡ []) }
+        ensures ascending { IfSome result (λ rows. IsAscending grant_cmp (λ row. row) rows.now) }
+    {
+        let rows = self.rows.of(actor);
+        if rows.is_empty() { None } else { Some(rows) }
     }
 
     /// Whether the grant stands.

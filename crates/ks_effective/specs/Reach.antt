@@ -1,29 +1,28 @@
--- The grants that reach a target, found by where they stand (OS-INHERIT).
-use Rattle.std.specs.Prelude.{Bool, true, false}
-use Rattle.std.specs.List.{list_any}
-use Rattle.ks_base.specs.declared.grants.GrantRow.{GrantRow}
+-- Where the grants of an actor stand that reach a target (OS-INHERIT).
+use Rattle.std.specs.Prelude.{true, false, List, [], ◌∷◌, ◌++◌, map, Option, Some, None}
+use Rattle.ks_base.specs.declared.grants.Actor.{Actor}
+use Rattle.ks_base.specs.declared.grants.GrantSite.{GrantSite}
 use Rattle.ks_base.specs.declared.grants.Target.{Target}
 use Rattle.ks_base.specs.declared.grants.Target.TheVariants as target
-use Rattle.ks_base.specs.Rows.{same}
-use Rattle.ks_base.specs.Revocation.{has}
+use Rattle.ks_base.specs.Rows.{Id}
 use Rattle.ks_effective.specs.declared.reach.Reach.{Reach}
 use Rattle.ks_effective.specs.declared.reach.Reach.TheVariants as reach
 
--- on the target itself a grant is not inherited; on a project's domain and on its ancestors it is
-abbrev pub reached_from : Reach → Bool → Target → Bool
-reached_from reach.System false target.System = true
-reached_from reach.System false (target.Domain at) = false
-reached_from reach.System false (target.Project at) = false
-reached_from reach.System true at = false
-reached_from (reach.Domain id) false target.System = false
-reached_from (reach.Domain id) false (target.Domain at) = same at id
-reached_from (reach.Domain id) false (target.Project at) = false
-reached_from (reach.Domain id) true at = false
-reached_from (reach.Project id domain ancestors) inherited target.System = false
-reached_from (reach.Project id domain ancestors) false (target.Domain at) = false
-reached_from (reach.Project id domain ancestors) false (target.Project at) = same at id
-reached_from (reach.Project id domain ancestors) true (target.Domain at) = has domain at
-reached_from (reach.Project id domain ancestors) true (target.Project at) = list_any (λ ancestor. same ancestor at) ancestors
+abbrev pub direct : Actor → Target → GrantSite
+direct actor at = record { actor = actor; target = at; inherited = false }
 
-abbrev pub includes : Reach → GrantRow → Bool
-includes reach row = reached_from reach row.inherited row.target
+abbrev pub inherited : Actor → Target → GrantSite
+inherited actor at = record { actor = actor; target = at; inherited = true }
+
+abbrev pub on_domain : Actor → Option Id → List GrantSite
+on_domain actor None = []
+on_domain actor (Some domain) = inherited actor (target.Domain domain) ∷ []
+
+abbrev pub on_projects : Actor → List Id → List GrantSite
+on_projects actor projects = map (λ id. inherited actor (target.Project id)) projects
+
+-- on the target itself a grant is not inherited; on a project's domain and on its ancestors it is
+abbrev pub sites : Actor → Reach → List GrantSite
+sites actor reach.System = direct actor target.System ∷ []
+sites actor (reach.Domain id) = direct actor (target.Domain id) ∷ []
+sites actor (reach.Project id domain ancestors) = direct actor (target.Project id) ∷ (on_domain actor domain ++ on_projects actor ancestors)

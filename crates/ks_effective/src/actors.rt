@@ -1,9 +1,10 @@
-ghost use Rattle.std.specs.Prelude.{◌≡◌, ◌↔◌, IfOk, IsTrue};
+ghost use Rattle.std.specs.Prelude.{◌≡◌, ◌↔◌, IfOk};
 ghost use Rattle.ks_base.specs.declared.grants.Actor.{Actor};
 ghost use Rattle.ks_base.specs.Roles.{Acts};
-ghost use Rattle.ks_effective.specs.Actors.{include};
+ghost use Rattle.ks_base.specs.Tables.{Among};
+ghost use Rattle.ks_effective.specs.Actors.{actors_in};
 
-use ks_base::{Actor, Id, IdList, Memory, has_id};
+use ks_base::{Id, IdList, Memory};
 use ks_people::People;
 use std::marker::Model;
 
@@ -15,20 +16,17 @@ pub struct Actors {
 }
 
 impl Model for Actors {
-    ghost use Rattle.ks_base.specs.Tables.{id_cmp, IsAscending};
     ghost use Rattle.ks_effective.specs.Actors.{ActorsOf};
 
     ghost Value = { ActorsOf };
 
     ghost view = { λ actors. record { user = actors.user; groups = actors.groups } };
-
-    ghost invariant = { λ actors. IsAscending id_cmp (λ id. id) actors.groups };
 }
 
 impl Actors {
     /// The actors that act for this user.
     pub fn of(people: &People, user: &Id) -> Result<Actors, Memory>
-        ensures { IfOk result (λ actors. (actor : Actor) → IsTrue (include actors actor) ↔ Acts people.now.members user.now actor) }
+        ensures { IfOk result (λ actors. (actor : Actor) → Among (actors_in actors) actor ↔ Acts people.now.members user.now actor) }
     {
         Ok(Actors {
             user: *user,
@@ -36,13 +34,17 @@ impl Actors {
         })
     }
 
-    /// Whether a grant to this actor acts for the user.
-    pub fn include(&self, actor: &Actor) -> bool
-        ensures { result ≡ include self.now actor.now }
+    /// The user.
+    pub fn user(&self) -> &Id
+        ensures { result.now ≡ self.now.user }
     {
-        match actor {
-            Actor::User(id) => *id == self.user,
-            Actor::Group(id) => has_id(self.groups.as_slice(), id),
-        }
+        &self.user
+    }
+
+    /// The groups that the user is in.
+    pub fn groups(&self) -> &[Id]
+        ensures { result.now ≡ self.now.groups }
+    {
+        self.groups.as_slice()
     }
 }

@@ -1,13 +1,13 @@
-ghost use Rattle.std.specs.Prelude.{◌≡◌, ◌↔◌, ℕ, List, filter, map, IfOk};
+ghost use Rattle.std.specs.Prelude.{◌≡◌, ◌↔◌, ◌++◌, ℕ, List, IfOk, OnOk};
 ghost use Rattle.ks_base.specs.Roles.{Effective};
 ghost use Rattle.ks_base.specs.Tables.{id_cmp, Among, IsAscending};
-ghost use Rattle.ks_effective.specs.Granted.{counts};
+ghost use Rattle.ks_effective.specs.Granted.{roles_granted, roles_to};
 ghost use Rattle.ks_effective.specs.State.{rows_of};
 
 use crate::actors::Actors;
-use crate::reach::Reach;
+use crate::reach::{GrantsOf, Reach};
 use ks_assign::Grants;
-use ks_base::{GrantRow, Id, IdList, Memory, Target};
+use ks_base::{Actor, Id, IdList, Memory, Target};
 use ks_people::People;
 use ks_roles::Roles;
 use ks_tree::Tree;
@@ -30,24 +30,34 @@ pub fn roles_of(
 {
     let actors = Actors::of(people, user)?;
     let reach = Reach::of(tree, target)?;
-    let granted = granted(alloc, grants.as_slice(), &actors, &reach)?;
+    let granted = granted(alloc, grants, &actors, &reach)?;
     roles.closure(&granted)
 }
 
-/// The roles of the grants to these actors that reach the target, in the order of the grants.
-fn granted(
-    alloc: Global,
-    grants: &[GrantRow],
-    actors: &Actors,
-    reach: &Reach,
-) -> Result<IdList, Memory>
-    ensures { IfOk result (λ ids. ids ≡ map (λ row. row.role) (filter (counts actors.now reach.now) grants.now)) }
+/// The roles of the grants to these actors that reach the target.
+fn granted(alloc: Global, grants: &Grants, actors: &Actors, reach: &Reach) -> Result<IdList, Memory>
+    ensures { IfOk result (λ ids. ids ≡ roles_granted grants.now actors.now reach.now) }
 {
     let mut roles = IdList::new(alloc);
-    for row in grants {
-        if actors.include(&row.actor) && reach.includes(row) {
-            roles.push(row.role)?;
-        }
+    add_granted(grants, Actor::User(*actors.user()), reach, &mut roles)?;
+    let groups = actors.groups();
+    for group in groups {
+        add_granted(grants, Actor::Group(*group), reach, &mut roles)?;
     }
     Ok(roles)
+}
+
+/// Adds the roles of the grants to this actor that reach the target.
+fn add_granted(
+    grants: &Grants,
+    actor: Actor,
+    reach: &Reach,
+    roles: &mut IdList,
+) -> Result<(), Memory>
+    ensures { OnOk result (roles.new ≡ roles.old ++ roles_to grants.now reach.now actor) }
+{
+    match grants.of_actor(&actor) {
+        Some(rows) => GrantsOf { actor, rows }.add_roles(reach, roles),
+        None => Ok(()),
+    }
 }

@@ -1,5 +1,5 @@
-use Rattle.ks_effective.proofs.ActorLemmas.{include-Decides}
+use Rattle.ks_effective.proofs.ActorLemmas.{they_act}
 use Rattle.ks_effective.proofs.actors.Actors.of.Goals as goal
 
 pub returns : goal.returns
-returns c = include-Decides c.args.people.now.members c.args.user.now c.in_ok-groups_of.field-0 c.in_ok-groups_of.ensures.ids
+returns c = they_act c.args.people.now.members c.args.user.now c.in_ok-groups_of.field-0 c.in_ok-groups_of.ensures.ids
