@@ -12,13 +12,14 @@ use Rattle.ks_base.proofs.AmongLemmas.{all_among, among_all}
 use Rattle.ks_base.proofs.ListLemmas.{length_filter}
 use Rattle.ks_revoke.specs.Things.{thing_cmp, thing_of}
 use Rattle.ks_revoke.specs.Marks.{AreMarks}
-use Rattle.ks_revoke.specs.Histories.{Kept, History, Stands, advanced}
+use Rattle.ks_revoke.specs.Histories.{AreFew, Kept, History, Stands, advanced}
 use Rattle.ks_revoke.specs.Holding.{AreInOrder, IsHeld}
 use Rattle.ks_revoke.proofs.ThingLemmas.{thing_total, alike}
 use Rattle.ks_revoke.proofs.LiveLemmas.{is_live_from, in_order_later, in_order_push, live_push, live_again}
 use Rattle.ks_revoke.proofs.MarkLemmas.{marks_added, marks_live}
 use Rattle.ks_revoke.proofs.TestLemmas.{live_suffice}
 use Rattle.ks_revoke.proofs.LawLemmas.{rows_same}
+use Rattle.ks_revoke.proofs.RowsLemmas.{ascending_few, put_few}
 
 -- leaving events out keeps their order, and makes no more of them
 in_order_filter_by : (test : EventRow → Bool) (high : ℕ) (event : EventRow) (events : List EventRow) (b : Bool) → AreInOrder high (event ∷ events) →
@@ -85,35 +86,50 @@ held_added life high events marks row held now within =
       ascending = ascending_put thing_cmp thing_of thing_total row marks held.ascending;
       marks_are = subst (AreMarks (events ++ row ∷ [])) (sym (filter_put (is_live life high) row marks own held.ascending))
           (marks_added high events (live life high marks) row held.in_order now held.marks_are);
+      few = omega (arith, length-append events (row ∷ []), put_few thing_cmp thing_of row marks, held.few);
     }
 
--- at a later moment the rows of what is past may stay
+-- at a later moment the rows of what is past may stay, if they are few
+marks_later : (life low high : ℕ) (events marks : List EventRow) → IsHeld life low events marks → low ≤ high → AreMarks (live life high events) (live life high marks)
+marks_later life low high events marks held le =
+    subst (AreMarks (live life high events)) (live_again life low high marks le) (marks_live life high events (live life low marks) held.marks_are)
+
 pub held_advanced : (life low high : ℕ) (events left marks : List EventRow) → IsHeld life low events marks → low ≤ high →
-    left ≡ live life high events → IsHeld life high left marks
-held_advanced life low high events left marks held le is =
-    rw is (record {
+    left ≡ live life high events → length marks ≤ length left + length left → IsHeld life high left marks
+held_advanced life low high events left marks held le is few = record {
+  within = omega (arith, length_filter (is_live life high) events, held.within, ap (λ (xs : List EventRow). length xs) is);
+  in_order = subst (AreInOrder high) (sym is) (in_order_filter (is_live life high) high events (in_order_later low high events le held.in_order));
+  all_live = rw is (live_again life high high events (omega arith));
+  ascending = held.ascending;
+  marks_are = subst (λ (xs : List EventRow). AreMarks xs (live life high marks)) (sym is) (marks_later life low high events marks held le);
+  few = few;
+}
+
+-- where they go, no more are left than there are events
+few_live : (life high : ℕ) (events marks : List EventRow) → AreMarks events (live life high marks) → length (live life high marks) ≤ length events
+few_live life high events marks are =
+    ascending_few thing_cmp thing_of thing_total (live life high marks) events are.ascending (λ row among. ((are.greatest row).0 among).0)
+
+pub held_swept : (life low high : ℕ) (events left marks kept : List EventRow) → IsHeld life low events marks → low ≤ high →
+    left ≡ live life high events → kept ≡ filter (is_live life high) marks → IsHeld life high left kept
+held_swept life low high events left marks kept held le is was =
+    let later = marks_later life low high events marks held le in
+    rw (is, was) (record {
       within = omega (arith, length_filter (is_live life high) events, held.within);
       in_order = in_order_filter (is_live life high) high events (in_order_later low high events le held.in_order);
       all_live = live_again life high high events (omega arith);
-      ascending = held.ascending;
-      marks_are = subst (AreMarks (live life high events)) (live_again life low high marks le) (marks_live life high events (live life low marks) held.marks_are);
-    })
-
--- and may go
-pub held_swept : (life high : ℕ) (events marks kept : List EventRow) → IsHeld life high events marks → kept ≡ filter (is_live life high) marks →
-    IsHeld life high events kept
-held_swept life high events marks kept held is =
-    rw is (record {
-      within = held.within;
-      in_order = held.in_order;
-      all_live = held.all_live;
       ascending = ascending_filter thing_cmp thing_of (is_live life high) marks held.ascending;
-      marks_are = subst (AreMarks events) (sym (live_again life high high marks (omega arith))) held.marks_are;
+      marks_are = subst (AreMarks (live life high events)) (sym (live_again life high high marks (omega arith))) later;
+      few = omega (arith, few_live life high (live life high events) marks later);
     })
 
-pub advanced_stands : (kept : Kept) (history : History) (high : ℕ) (left : List EventRow) (room : ℕ) → Stands kept history → kept.high ≤ high →
-    left ≡ live kept.life high kept.events → Stands (record { life = kept.life; high = high; events = left; room = room }) (advanced high history)
-advanced_stands kept history high left room stands le is =
+pub held_few : (life high : ℕ) (events marks : List EventRow) (room : ℕ) → IsHeld life high events marks →
+    AreFew (record { life = life; high = high; events = events; marks = marks; room = room })
+held_few life high events marks room held = record { ascending = held.ascending; marks_are = held.marks_are; few = held.few }
+
+pub advanced_stands : (kept : Kept) (history : History) (high : ℕ) (left marks : List EventRow) (room : ℕ) → Stands kept history → kept.high ≤ high →
+    left ≡ live kept.life high kept.events → Stands (record { life = kept.life; high = high; events = left; marks = marks; room = room }) (advanced high history)
+advanced_stands kept history high left marks room stands le is =
     let low : history.high ≤ high = omega (arith, stands.high_is) in
     let top : high ≡ max history.high high = omega arith in
     record {

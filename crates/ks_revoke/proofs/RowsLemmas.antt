@@ -1,7 +1,15 @@
 -- Lists of rows in general.
-use Rattle.std.proofs.Common.{◌≡◌, Bool, true, false, cond, inl, inr, List, [], ◌∷◌, ◌++◌, filter, refl, ap}
+use Rattle.std.proofs.Common.{◌≡◌, ◌+◌, ◌<◌, ◌≤◌, Bool, true, false, cond, inl, inr, List, [], ◌∷◌, ◌++◌, length, filter, refl, ap, ◌∙◌, arith}
+use Rattle.std.specs.Prelude.{not}
 use Rattle.std.specs.List.{AllByRecursion}
-use Rattle.ks_base.specs.Tables.{Among}
+use Rattle.std.specs.declared.cmp.Ordering.{Ordering}
+use Rattle.std.specs.declared.cmp.Ordering.TheVariants.{Less, Equal, Greater}
+use Rattle.std.specs.Ordering.{is_eq, ordering_reverse}
+use Rattle.std.specs.Cmp.{IsTotalOrder}
+use Rattle.std.proofs.lemmas.Cmp.{tied_itself}
+use Rattle.ks_base.specs.Tables.{Among, IsAscending, has_key, put_by, put_row}
+use Rattle.ks_base.proofs.ListLemmas.{fewer_behind, fewer_here, length_filter}
+use Rattle.ks_base.proofs.RowLemmas.{above_among, filter_among}
 
 pub push_among : {X : Type 0} (rows : List X) (last row : X) → Among rows row → Among (rows ++ last ∷ []) row
 push_among [] last row among = absurd among
@@ -35,3 +43,34 @@ pub filter_again : {X : Type 0} (wide narrow : X → Bool) → ((row : X) → na
     filter narrow (filter wide rows) ≡ filter narrow rows
 filter_again wide narrow within [] = refl
 filter_again wide narrow within (row ∷ rows) = again_by wide narrow row rows (filter wide rows) (wide row) refl (within row) (filter_again wide narrow within rows)
+
+-- where one does not pass, fewer are left
+fewer_left : {X : Type 0} (test : X → Bool) (rows : List X) (row : X) → Among rows row → test row ≡ false → length (filter test rows) < length rows
+fewer_left test [] row among fails = absurd among
+fewer_left test (next ∷ rows) row (inl same) fails =
+    fewer_here (test next) true next (filter test rows) rows (ap test same ∙ fails) refl (length_filter test rows)
+fewer_left test (next ∷ rows) row (inr later) fails =
+    fewer_behind (test next) true next (filter test rows) rows (λ passes. refl) (fewer_left test rows row later fails)
+
+-- rows that ascend are no more than those among which each of them is
+pub ascending_few : {K X : Type 0} (cmp : K → K → Ordering) (key : X → K) → IsTotalOrder cmp → (rows others : List X) → IsAscending cmp key rows →
+    ((row : X) → Among rows row → Among others row) → length rows ≤ length others
+ascending_few cmp key o [] others up into = omega arith
+ascending_few cmp key o (row ∷ rows) others up into =
+    let test : _ → Bool = λ x. not (has_key cmp key (key row) x) in
+    let own : test row ≡ false = ap (λ c. not (is_eq c)) (tied_itself o (key row)) in
+    let other : (x : _) → Among rows x → test x ≡ true = λ x among. ap (λ c. not (is_eq c))
+    (o.antisymm (key x) (key row) ∙ ap ordering_reverse (above_among cmp key (key row) rows x up.0 among)) in
+    let rest = ascending_few cmp key o rows (filter test others) up.1 (λ x among. filter_among test others x (into x (inr among)) (other x among)) in
+    omega (arith, rest, fewer_left test others row (into row (inl refl)) own)
+
+-- a row that is put is one more at most
+put_by_few : {X : Type 0} (row next : X) (rows behind : List X) (o : Ordering) → length behind ≤ length rows + 1 → length (put_by o row next rows behind) ≤ length rows + 1 + 1
+put_by_few row next rows behind Less more = omega (arith, more)
+put_by_few row next rows behind Equal more = omega arith
+put_by_few row next rows behind Greater more = omega arith
+
+pub put_few : {K X : Type 0} (cmp : K → K → Ordering) (key : X → K) (row : X) (rows : List X) → length (put_row cmp key row rows) ≤ length rows + 1
+unfolding put_row
+put_few cmp key row [] = omega arith
+put_few cmp key row (next ∷ rows) = omega (arith, put_by_few row next rows (put_row cmp key row rows) (cmp (key next) (key row)) (put_few cmp key row rows))

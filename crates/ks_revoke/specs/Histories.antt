@@ -1,7 +1,10 @@
 -- What is kept of the events, and the whole history for which it stands.
-use Rattle.std.specs.Prelude.{◌≡◌, ℕ, max, List, [], ◌∷◌, ◌++◌}
+use Rattle.std.specs.Prelude.{◌≡◌, ℕ, ◌+◌, ◌≤◌, max, List, [], ◌∷◌, ◌++◌, length}
 use Rattle.ks_base.specs.declared.events.EventRow.{EventRow}
 use Rattle.ks_base.specs.Revocation.{live}
+use Rattle.ks_base.specs.Tables.{IsAscending}
+use Rattle.ks_revoke.specs.Marks.{AreMarks}
+use Rattle.ks_revoke.specs.Things.{thing_cmp, thing_of}
 
 -- what contracts see of a `Revoked`
 pub record Kept : Type 0 where
@@ -11,8 +14,17 @@ pub record Kept : Type 0 where
   pub high : ℕ
   -- the events that are live then, in the order in which they were added
   pub events : List EventRow
+  -- the rows of greatest moments, in the order of things; some may be past
+  pub marks : List EventRow
   -- how many may be added before there is a need of more room
   pub room : ℕ
+
+-- the rows of greatest moments are few: at most one a thing, one for each thing that a live event names, and at most two for each
+-- live event
+pub record AreFew (kept : Kept) : Type 0 where
+  pub ascending : IsAscending thing_cmp thing_of kept.marks
+  pub marks_are : AreMarks kept.events (live kept.life kept.high kept.marks)
+  pub few : length kept.marks ≤ length kept.events + length kept.events
 
 -- all that was told
 pub record History : Type 0 where

@@ -1,5 +1,5 @@
 -- What is true of the fields of a `Revoked`.
-use Rattle.std.specs.Prelude.{◌≡◌, ℕ, ◌-◌, ◌≤◌, min, List, [], ◌∷◌, length}
+use Rattle.std.specs.Prelude.{◌≡◌, ℕ, ◌+◌, ◌-◌, ◌≤◌, min, List, [], ◌∷◌, length}
 use Rattle.std.specs.List.{AllByRecursion}
 use Rattle.ks_base.specs.declared.limits.TheConstants.{EVENTS}
 use Rattle.ks_base.specs.declared.events.EventRow.{EventRow}
@@ -21,6 +21,7 @@ pub record IsHeld (life high : ℕ) (events marks : List EventRow) : Type 0 wher
   -- at most one row a thing, and the live ones are the greatest moments: each other one is past
   pub ascending : IsAscending thing_cmp thing_of marks
   pub marks_are : AreMarks events (live life high marks)
+  pub few : length marks ≤ length events + length events
 
 -- how many events more may be added: as many as both lists have places for, and at most 262,144 in all
 abbrev pub room_of : ℕ → ℕ → ℕ → ℕ → ℕ

@@ -3,6 +3,7 @@ use Rattle.std.specs.Prelude.{◌≡◌, ℕ, ◌≤◌, ◌↔◌, nat_le, Bool
 use Rattle.std.specs.List.{AllByRecursion}
 use Rattle.ks_base.specs.declared.events.EventRow.{EventRow}
 use Rattle.ks_base.specs.declared.events.Revoke.{Revoke}
+use Rattle.ks_base.specs.Revocation.{live}
 use Rattle.ks_base.specs.Tables.{Among, IsAscending, find_row}
 use Rattle.ks_revoke.specs.Things.{thing_cmp, thing_of}
 
@@ -14,6 +15,17 @@ IsGreatest events row = Among events row × AllByRecursion (λ event. event.what
 pub record AreMarks (events rows : List EventRow) : Type 0 where
   pub ascending : IsAscending thing_cmp thing_of rows
   pub greatest : (row : EventRow) → Among rows row ↔ IsGreatest events row
+
+-- what contracts see of rows that are lent: those that are still to come, of which each that is past is passed over
+pub record Lent : Type 0 where
+  -- how long a token lives, in seconds
+  pub life : ℕ
+  -- the moment at which rows are live or past
+  pub high : ℕ
+  pub rows : List EventRow
+
+abbrev pub lent : Lent → List EventRow
+lent marks = live marks.life marks.high marks.rows
 
 -- the row, if there is one, ends the tokens that were issued then
 abbrev pub ends_then : ℕ → Option EventRow → Bool

@@ -1,7 +1,7 @@
 //! The rows that are lent.
 ghost use Rattle.std.specs.Prelude.{◌≡◌};
 ghost use Rattle.std.specs.Iterator.{YieldsFirstRef, item_count};
-ghost use Rattle.ks_base.specs.Revocation.{live};
+ghost use Rattle.ks_revoke.specs.Marks.{lent};
 
 use crate::live::is_live;
 use ks_base::EventRow;
@@ -17,18 +17,16 @@ pub struct LiveMarks<'a> {
 }
 
 impl<'a> Model for LiveMarks<'a> {
-    ghost use Rattle.std.specs.Prelude.{List};
-    ghost use Rattle.ks_base.specs.declared.events.EventRow.{EventRow};
-    ghost use Rattle.ks_base.specs.Revocation.{live};
+    ghost use Rattle.ks_revoke.specs.Marks.{Lent};
 
-    ghost Value = { List EventRow };
+    ghost Value = { Lent };
 
-    ghost view = { λ marks. live marks.life marks.high marks.rows.now };
+    ghost view = { λ marks. record { life = marks.life; high = marks.high; rows = marks.rows.now } };
 }
 
 impl<'a> LiveMarks<'a> {
     pub(crate) fn new(life: u64, high: u64, rows: &'a [EventRow]) -> LiveMarks<'a>
-        ensures { result ≡ live life high rows.now }
+        ensures { result ≡ record { life = life; high = high; rows = rows.now } }
     {
         LiveMarks { life, high, rows }
     }
@@ -37,9 +35,9 @@ impl<'a> LiveMarks<'a> {
 impl<'a> Iterator for LiveMarks<'a> {
     type Item = &'a EventRow;
 
-    ghost next_gives = { YieldsFirstRef (λ rows. rows) };
+    ghost next_gives = { YieldsFirstRef lent };
 
-    ghost remaining = { item_count (λ rows. rows) };
+    ghost remaining = { item_count lent };
 
     fn next(&mut self) -> Option<&'a EventRow> {
         while let Some((first, others)) = self.rows.split_first() {

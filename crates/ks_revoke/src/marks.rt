@@ -1,5 +1,5 @@
 //! The greatest moments, a row a thing. A row whose events are all past may stand among them.
-ghost use Rattle.std.specs.Prelude.{◌≡◌, ◌+◌, ◌<◌, ◌≤◌, ◌↔◌, true, length, vec_len, vec_capacity};
+ghost use Rattle.std.specs.Prelude.{◌≡◌, ◌+◌, ◌<◌, ◌≤◌, ◌↔◌, true, false, length, vec_len, vec_capacity};
 ghost use Rattle.std.specs.List.{list_any};
 ghost use Rattle.std.specs.List.Sorted.{IsSearchInRange};
 ghost use Rattle.ks_base.specs.Places.{IsPlace};
@@ -74,7 +74,8 @@ pub(crate) fn put(marks: &mut Vec<EventRow>, row: &EventRow)
 /// then. Each of those is past since the last sweep, by an event of its own. So a sweep passes over fewer rows than
 /// twice the events that went since the last one.
 pub(crate) fn is_sweep_due(rows: usize, events: usize) -> bool
-    ensures { result ≡ true ↔ events + events < rows }
+    ensures due { result ≡ true ↔ events + events < rows }
+    ensures few { result ≡ false → rows ≤ events + events }
 {
     rows.saturating_sub(events) > events
 }

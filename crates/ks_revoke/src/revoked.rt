@@ -1,9 +1,12 @@
-ghost use Rattle.std.specs.Prelude.{◌≡◌, ◌+◌, ◌<◌, ◌≤◌, ◌↔◌, max, [], ◌∷◌, ◌++◌, length, IfOk, IsOk, OnOk, Err};
+ghost use Rattle.std.specs.Prelude.{◌≡◌, ◌+◌, ◌<◌, ◌≤◌, ◌↔◌, ◌⊎◌, max, [], ◌∷◌, ◌++◌, length, IfOk, IsOk, OnOk, Err};
+ghost use Rattle.std.specs.List.{list_any};
 ghost use Rattle.ks_base.specs.declared.limits.TheConstants.{EVENTS};
 ghost use Rattle.ks_base.specs.declared.kinds.Kind.{Kind};
 ghost use Rattle.ks_base.specs.Revocation.{is_revoked, live, window};
-ghost use Rattle.ks_revoke.specs.Marks.{AreMarks};
-ghost use Rattle.ks_revoke.specs.Histories.{History, Stands, added, advanced};
+ghost use Rattle.ks_base.specs.Tables.{put_row};
+ghost use Rattle.ks_revoke.specs.Marks.{AreMarks, ends_if, lent};
+ghost use Rattle.ks_revoke.specs.Histories.{AreFew, History, Stands, added, advanced};
+ghost use Rattle.ks_revoke.specs.Things.{thing_cmp, thing_of, things_of};
 
 use crate::live::{drop_past, is_live};
 use crate::marks::{any_ends, is_sweep_due, put};
@@ -33,7 +36,7 @@ impl Model for Revoked {
 
     ghost Value = { Kept };
 
-    ghost view = { λ r. record { life = r.life; high = r.high; events = r.events.items; room = room_of (deque_len r.events) (deque_capacity r.events) (vec_len r.marks) (vec_capacity r.marks) } };
+    ghost view = { λ r. record { life = r.life; high = r.high; events = r.events.items; marks = r.marks.items; room = room_of (deque_len r.events) (deque_capacity r.events) (vec_len r.marks) (vec_capacity r.marks) } };
 
     ghost invariant = { λ r. IsHeld r.life r.high r.events.items r.marks.items };
 }
@@ -41,7 +44,7 @@ impl Model for Revoked {
 impl Revoked {
     /// No events, for tokens that live as many seconds. It takes no memory yet.
     pub fn new(alloc: Global, life: u64) -> Revoked
-        ensures empty { result ≡ record { life = life; high = 0; events = []; room = result.room } }
+        ensures empty { result ≡ record { life = life; high = 0; events = []; marks = []; room = result.room } }
         ensures stands { Stands result (record { life = life; high = 0; events = [] }) }
     {
         Revoked {
@@ -75,7 +78,7 @@ impl Revoked {
     pub fn add(&mut self, row: EventRow)
         requires room { 1 ≤ self.old.room }
         requires moment { row.moment ≡ self.old.high }
-        ensures added { self.new ≡ record self.old { events = self.old.events ++ row ∷ []; room = self.new.room } }
+        ensures added { self.new ≡ record self.old { events = self.old.events ++ row ∷ []; marks = put_row thing_cmp thing_of row self.old.marks; room = self.new.room } }
         ensures left { self.old.room ≤ self.new.room + 1 }
         ensures history { (history : History) → Stands self.old history → Stands self.new (added row history) }
     {
@@ -87,7 +90,9 @@ impl Revoked {
     /// Raises the greatest moment to this one, if it is greater, and takes the events out that are past then. It
     /// takes no memory, and over any run of calls no more steps than a few for each call and each event that goes.
     pub fn advance(&mut self, high: u64)
-        ensures advanced { let top = max self.old.high high in self.new ≡ record self.old { high = top; events = live self.old.life top self.old.events; room = self.new.room } }
+        ensures advanced { let top = max self.old.high high in self.new ≡ record self.old { high = top; events = live self.old.life top self.old.events; marks = self.new.marks; room = self.new.room } }
+        ensures few { AreFew self.new }
+        ensures marks { (self.new.marks ≡ self.old.marks) ⊎ (self.new.marks ≡ live self.old.life high self.old.marks) }
         ensures kept { self.old.room ≤ self.new.room }
         ensures lower { high ≤ self.old.high → self.new ≡ self.old }
         ensures history { (history : History) → Stands self.old history → Stands self.new (advanced high history) }
@@ -106,9 +111,18 @@ impl Revoked {
     /// Whether an event revokes a token of this holder that was issued then. It takes no memory.
     pub fn test(&self, holder: &Holder, issued: u64) -> bool
         ensures kept { result ≡ is_revoked self.now.events holder.now issued }
+        ensures marks { result ≡ list_any (ends_if issued (live self.now.life self.now.high self.now.marks)) (things_of holder.now) }
+        ensures few { AreFew self.now }
         ensures history { (history : History) → Stands self.now history → history.high < issued + history.life + window → result ≡ is_revoked history.events holder.now issued }
     {
         any_ends(self.life, self.high, self.marks.as_slice(), holder, issued)
+    }
+
+    /// How many events are live.
+    pub fn count(&self) -> usize
+        ensures { result ≡ length self.now.events }
+    {
+        self.events.len()
     }
 
     /// The live events, in the order in which they were added.
@@ -128,8 +142,10 @@ impl Revoked {
     /// The greatest moments: a row for each thing that a live event names, ordered by the place of its variant in
     /// `Revoke` and then by its bytes. It takes no memory.
     pub fn marks(&self) -> LiveMarks<'_>
-        ensures marks { AreMarks self.now.events result }
-        ensures history { (history : History) → Stands self.now history → AreMarks (live history.life history.high history.events) result }
+        ensures rows { result ≡ record { life = self.now.life; high = self.now.high; rows = self.now.marks } }
+        ensures few { AreFew self.now }
+        ensures marks { AreMarks self.now.events (lent result) }
+        ensures history { (history : History) → Stands self.now history → AreMarks (live history.life history.high history.events) (lent result) }
     {
         LiveMarks::new(self.life, self.high, self.marks.as_slice())
     }

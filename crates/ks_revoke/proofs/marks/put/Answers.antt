@@ -1,4 +1,4 @@
-use Rattle.std.proofs.Common.{sym, ap, ◌∙◌}
+use Rattle.std.proofs.Common.{sym, ◌∙◌}
 use Rattle.ks_base.proofs.PlaceLemmas.{put_found, put_gap}
 use Rattle.ks_revoke.specs.Things.{thing_cmp, thing_of}
 use Rattle.ks_revoke.proofs.marks.put.Goals as goal

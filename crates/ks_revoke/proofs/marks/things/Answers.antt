@@ -1,4 +1,4 @@
-use Rattle.std.proofs.Common.{◌≡◌, rules, Option, Some, None, refl, sym, ◌∙◌, ap}
+use Rattle.std.proofs.Common.{◌≡◌, rules, Option, Some, None, ap}
 use Rattle.std.specs.Prelude.{MatchOption, IsSomeAnd}
 use Rattle.std.specs.Option.{option_map}
 use Rattle.ks_base.specs.declared.events.Revoke.TheVariants as revoke

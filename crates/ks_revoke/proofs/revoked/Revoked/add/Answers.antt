@@ -1,4 +1,4 @@
-use Rattle.std.proofs.Common.{◌≡◌, ◌<◌, length, sym, ap, ◌∙◌, arith}
+use Rattle.std.proofs.Common.{◌<◌, length, sym, ap, ◌∙◌, arith}
 use Rattle.ks_base.specs.declared.limits.TheConstants.{EVENTS}
 use Rattle.ks_revoke.specs.Histories.{Kept}
 use Rattle.ks_revoke.proofs.HeldLemmas.{held_added}
