@@ -266,7 +266,7 @@ def named_roles(path, value):
 def trust_form(body):
     """The body that makes a trust."""
     place = at(body, "trust")
-    return {
+    read = {
         "trustor": needed(at(place, "trustor_user_id"), id_text),
         "trustee": needed(at(place, "trustee_user_id"), id_text),
         "project": needed(at(place, "project_id"), id_text),
@@ -278,3 +278,6 @@ def trust_form(body):
         "count": optional(at(place, "redelegation_count"), whole(0, 2**32 - 1)),
         "parent": optional(at(place, "redelegated_trust_id"), id_text),
     }
+    # A trust that counts its uses can't be passed on.
+    range_unless(read["remaining"] is None or not read["redelegate"], "trust.remaining_uses")
+    return read

@@ -1,6 +1,6 @@
 -- What is read of a body is in range.
 use Rattle.std.proofs.Common.{◌≡◌, ℕ, suc, ◌≤◌, Bool, true, false, List, length, Option, Some, None, Ok, Err, refl, ap, arith}
-use Rattle.std.specs.Prelude.{Result, IfOk, IfSome, codes, if◌then◌else◌, is_some, nat_le, option_and_then, ◌-◌, ◌^◌}
+use Rattle.std.specs.Prelude.{Result, IfOk, IfSome, codes, if◌then◌else◌, is_some, nat_le, not, option_and_then, ◌&&◌, ◌-◌, ◌^◌}
 use Rattle.std.specs.Int.{IsInRange, is_in_range}
 use Rattle.std.specs.List.{AllByRecursion}
 use Rattle.std.specs.Str.{bytes_eq}
@@ -19,7 +19,7 @@ use Rattle.ks_machine.specs.declared.bodies.Made.{Made}
 use Rattle.ks_machine.specs.declared.bodies.Named.{Named}
 use Rattle.ks_machine.specs.declared.bodies.ScopeIn.TheVariants as scope
 use Rattle.ks_machine.specs.Fit.{IsMadeName, IsNamed, IsProjectNamed, IsProof, IsScope, IsTrustBody, IsUserNamed}
-use Rattle.ks_machine.specs.Ranges.{AreUses, IsDescription, IsExpiry, IsName, IsPassword}
+use Rattle.ks_machine.specs.Ranges.{AreUses, IsDescription, IsExpiry, IsName, IsPassable, IsPassword}
 use Rattle.ks_shape.specs.declared.form.BodyIn.{BodyIn}
 use Rattle.ks_shape.specs.declared.form.Form.{Form}
 use Rattle.ks_shape.specs.declared.form.Form.TheVariants as form
@@ -35,7 +35,7 @@ use Rattle.ks_shape.specs.Places.{Place, names, path_at, place_at}
 use Rattle.ks_shape.specs.Ranges.{BodiesAreInRange, IsBodyFor, IsMadeFor}
 use Rattle.ks_shape.specs.Rows.{domain_of, group_of, id_at, made_of, name_at, project_of, role_of, user_of}
 use Rattle.ks_shape.specs.Times.{time_of}
-use Rattle.ks_shape.specs.Trusts.{limits_of, roles_at, trust_of}
+use Rattle.ks_shape.specs.Trusts.{limits_asked, limits_of, roles_at, trust_of}
 use Rattle.ks_shape.specs.Types.{affirmation, any_text, count_of, description_text, falsehood, id_text, list_of, name_text, one_method, password_text, text_of, time_text, truth, whole}
 use Rattle.ks_shape.proofs.MomentLemmas.{last_moment}
 use Rattle.ks_shape.proofs.PropertyLemmas.{If, judged_in, needed_in, optional_in, skip, step, weaken}
@@ -334,17 +334,33 @@ expiry_in : (value : Data) → IfOk (time_text value) IsExpiry
 unfolding time_text
 expiry_in value = skip IsExpiry (any_text value) _ (λ text. moment_in text _ refl)
 
+abbrev AreAsked : Limits → Type 0
+AreAsked limits = IfSome limits.expires IsExpiry × IfSome limits.remaining AreUses
+
+asked_in : (body : Place) → IfOk (limits_asked body) AreAsked
+unfolding limits_asked
+asked_in body =
+    step AreAsked (If IsExpiry) (optional time_text (names (codes "trust.expires_at")) body) _ (optional_in IsExpiry time_text expiry_in _ body) (λ expires is_expiry.
+    step AreAsked (If AreUses) (optional (whole 1 USES) (names (codes "trust.remaining_uses")) body) _ (optional_in AreUses (whole 1 USES) uses_in _ body) (λ remaining are_uses.
+    skip AreAsked (optional truth (names (codes "trust.allow_redelegation")) body) _ (λ redelegate.
+    skip AreAsked (optional (whole 0 (2 ^ 32 - 1)) (names (codes "trust.redelegation_count")) body) _ (λ count.
+    skip AreAsked (optional id_text (names (codes "trust.redelegated_trust_id")) body) _ (λ parent. (is_expiry, are_uses))))))
+
 abbrev AreLimits : Limits → Type 0
-AreLimits limits = IfSome limits.expires IsExpiry × IfSome limits.remaining AreUses
+AreLimits limits = IfSome limits.expires IsExpiry × IfSome limits.remaining AreUses × IsPassable limits.redelegate limits.remaining
+
+where_passable : (limits : Limits) (why : ShapeFault) (remaining : Option ℕ) (redelegate : Bool) → (IsPassable redelegate remaining → AreLimits limits)
+    → IfOk (need (not (is_some remaining && redelegate)) why >>= (λ _. Ok limits)) AreLimits
+where_passable limits why None true on = on refl
+where_passable limits why None false on = on tt
+where_passable limits why (Some uses) true on = tt
+where_passable limits why (Some uses) false on = on tt
 
 limits_in : (body : Place) → IfOk (limits_of body) AreLimits
 unfolding limits_of
 limits_in body =
-    step AreLimits (If IsExpiry) (optional time_text (names (codes "trust.expires_at")) body) _ (optional_in IsExpiry time_text expiry_in _ body) (λ expires is_expiry.
-    step AreLimits (If AreUses) (optional (whole 1 USES) (names (codes "trust.remaining_uses")) body) _ (optional_in AreUses (whole 1 USES) uses_in _ body) (λ remaining are_uses.
-    skip AreLimits (optional truth (names (codes "trust.allow_redelegation")) body) _ (λ redelegate.
-    skip AreLimits (optional (whole 0 (2 ^ 32 - 1)) (names (codes "trust.redelegation_count")) body) _ (λ count.
-    skip AreLimits (optional id_text (names (codes "trust.redelegated_trust_id")) body) _ (λ parent. (is_expiry, are_uses))))))
+    step AreLimits AreAsked (limits_asked body) _ (asked_in body) (λ limits are.
+    where_passable limits _ limits.remaining limits.redelegate (λ passable. (are.0, are.1, passable)))
 
 trust_in : (body : Place) → IfOk (trust_of body) IsTrustBody
 unfolding trust_of
@@ -355,7 +371,7 @@ trust_in body =
     skip IsTrustBody (needed truth (names (codes "trust.impersonation")) body) _ (λ impersonation.
     step IsTrustBody AreRoles (roles_at (names (codes "trust.roles")) body) _ (roles_in _ body) (λ roles are_roles.
     step IsTrustBody AreLimits (limits_of body) _ (limits_in body) (λ limits are_limits.
-    (are_roles.0, are_roles.1, are_limits.0, are_limits.1)))))))
+    (are_roles.0, are_roles.1, are_limits.0, are_limits.1, are_limits.2)))))))
 
 -- bodies
 

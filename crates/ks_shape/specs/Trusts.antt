@@ -1,8 +1,9 @@
 -- The body that makes a trust (OS-TRUST).
-use Rattle.std.specs.Prelude.{ℕ, ◌-◌, ◌^◌, false, List, Result, Ok, codes, unwrap_or}
+use Rattle.std.specs.Prelude.{ℕ, ◌-◌, ◌^◌, ◌&&◌, false, not, is_some, List, Result, Ok, codes, unwrap_or}
 use Rattle.ks_base.specs.declared.limits.TheConstants.{TRUST_ROLES, USES}
 use Rattle.ks_base.specs.declared.shapes.ShapeFault.{ShapeFault}
-use Rattle.ks_base.specs.Results.{◌>>=◌}
+use Rattle.ks_base.specs.declared.shapes.ShapeFault.TheVariants as fault
+use Rattle.ks_base.specs.Results.{need, ◌>>=◌}
 use Rattle.ks_machine.specs.declared.bodies.Named.{Named}
 use Rattle.ks_machine.specs.declared.bodies.TrustBody.{TrustBody}
 use Rattle.ks_shape.specs.declared.trust.Limits.{Limits}
@@ -17,9 +18,9 @@ roles_at names body = do
   roles ← needed (list_of TRUST_ROLES) names body
   all_named (path_at names body) roles
 
--- how long, how often and how far down a trust serves
-unfoldable pub limits_of : Place → Result Limits ShapeFault
-limits_of body = do
+-- how long, how often and how far down a trust is to serve
+unfoldable pub limits_asked : Place → Result Limits ShapeFault
+limits_asked body = do
   expires ← optional time_text (names (codes "trust.expires_at")) body
   remaining ← optional (whole 1 USES) (names (codes "trust.remaining_uses")) body
   redelegate ← optional truth (names (codes "trust.allow_redelegation")) body
@@ -32,6 +33,13 @@ limits_of body = do
     count = count;
     parent = parent;
   })
+
+-- the same, where a trust that counts its uses isn't passed on
+unfoldable pub limits_of : Place → Result Limits ShapeFault
+limits_of body = do
+  limits ← limits_asked body
+  _ ← need (not (is_some limits.remaining && limits.redelegate)) (fault.Range (path_at (names (codes "trust.remaining_uses")) body))
+  Ok limits
 
 unfoldable pub trust_of : Place → Result TrustBody ShapeFault
 trust_of body = do

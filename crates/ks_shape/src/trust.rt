@@ -1,7 +1,8 @@
 ghost use Rattle.ks_shape.specs.Places.{names_in, place_of};
 ghost use Rattle.ks_shape.specs.Readings.{Reads};
-ghost use Rattle.ks_shape.specs.Trusts.{limits_of, roles_at, trust_of};
+ghost use Rattle.ks_shape.specs.Trusts.{limits_asked, limits_of, roles_at, trust_of};
 
+use crate::misfit::Misfit;
 use crate::names::all_named;
 use crate::node::Node;
 use crate::types::{Count, IdText, TimeText, Truth, Whole};
@@ -32,10 +33,10 @@ fn roles(names: &[&str], body: &Node) -> Result<NamedList, ShapeRefusal>
     all_named(body.alloc, &path, values)
 }
 
-/// How long, how often and how far down a trust serves.
-#[tactic(auto, unfolding(crate::specs::Trusts::limits_of))]
-fn read_limits(body: &Node) -> Result<Limits, ShapeRefusal>
-    ensures { Reads result (limits_of (place_of body.now)) }
+/// How long, how often and how far down a trust is to serve.
+#[tactic(auto, unfolding(crate::specs::Trusts::limits_asked))]
+fn limits_asked(body: &Node) -> Result<Limits, ShapeRefusal>
+    ensures { Reads result (limits_asked (place_of body.now)) }
 {
     let expires = body.optional(&["trust", "expires_at"], &TimeText)?;
     let remaining = body.optional(&["trust", "remaining_uses"], &USES)?;
@@ -49,6 +50,18 @@ fn read_limits(body: &Node) -> Result<Limits, ShapeRefusal>
         count,
         parent,
     })
+}
+
+/// The same, where a trust that counts its uses is not passed on: what is passed on would be counted nowhere.
+#[tactic(auto, using(crate::proofs::RefusalLemmas::refused), unfolding(crate::specs::Trusts::limits_of))]
+fn read_limits(body: &Node) -> Result<Limits, ShapeRefusal>
+    ensures { Reads result (limits_of (place_of body.now)) }
+{
+    let limits = limits_asked(body)?;
+    if limits.remaining.is_some() && limits.redelegate {
+        return body.refuse(&["trust", "remaining_uses"], Misfit::Range);
+    }
+    Ok(limits)
 }
 
 /// The body that makes a trust.

@@ -1,42 +1,23 @@
--- One line for each exit: the fields before it were read, and it stops the form at its fault.
-use Rattle.std.proofs.Common.{refl}
+use Rattle.std.proofs.Common.{◌≡◌, true, Ok, Err, refl, sym, subst, ◌∙◌}
+use Rattle.std.specs.Prelude.{◌&&◌, not, is_some, codes}
+use Rattle.ks_base.specs.declared.shapes.ShapeFault.{ShapeFault}
+use Rattle.ks_base.specs.declared.shapes.ShapeFault.TheVariants as fault
+use Rattle.ks_base.specs.Results.{need, ◌>>=◌}
+use Rattle.ks_shape.specs.declared.trust.Limits.{Limits}
+use Rattle.ks_shape.specs.Places.{names, path_at, place_of}
+use Rattle.ks_shape.specs.Readings.{Reads}
 use Rattle.ks_shape.specs.Trusts.{limits_of}
-use Rattle.ks_shape.specs.Places.{place_of}
-use Rattle.ks_shape.proofs.RefusalLemmas.{stops}
+use Rattle.ks_shape.proofs.RefusalLemmas.{refused}
 use Rattle.ks_shape.proofs.trust.read_limits.Goals as goal
 
-pub returns-in_err-expires : goal.returns-in_err-expires
-unfolding limits_of
-returns-in_err-expires c =
-    stops c.from_residual.result c.in_err-expires.field-0.0 _ (limits_of (place_of c.args.body.now)) c.from_residual.ensures.1 c.in_err-expires.ensures
-    (λ fault h. rw h refl)
+-- where the uses are counted and the trust is to be passed on, it is refused
+counted : (limits : Limits) (why : ShapeFault) → is_some limits.remaining ≡ true → limits.redelegate ≡ true →
+    (need (not (is_some limits.remaining && limits.redelegate)) why >>= (λ _. Ok limits)) ≡ Err why
+counted limits why uses passes = rw (uses, passes) refl
 
-pub returns-in_err-remaining : goal.returns-in_err-remaining
+pub returns-then-limits : goal.returns-then-limits
 unfolding limits_of
-returns-in_err-remaining c =
-    stops c.from_residual-in_err-remaining.result c.in_err-remaining.field-0.0 _ (limits_of (place_of c.args.body.now)) c.from_residual-in_err-remaining.ensures.1 c.in_err-remaining.ensures
-    (λ fault h. rw (c.in_ok-expires.ensures, h) refl)
-
-pub returns-in_err-redelegate : goal.returns-in_err-redelegate
-unfolding limits_of
-returns-in_err-redelegate c =
-    stops c.from_residual-in_err-redelegate.result c.in_err-redelegate.field-0.0 _ (limits_of (place_of c.args.body.now)) c.from_residual-in_err-redelegate.ensures.1 c.in_err-redelegate.ensures
-    (λ fault h. rw (c.in_ok-expires.ensures, c.in_ok-remaining.ensures, h) refl)
-
-pub returns-in_err-count : goal.returns-in_err-count
-unfolding limits_of
-returns-in_err-count c =
-    stops c.from_residual-in_err-count.result c.in_err-count.field-0.0 _ (limits_of (place_of c.args.body.now)) c.from_residual-in_err-count.ensures.1 c.in_err-count.ensures
-    (λ fault h. rw (c.in_ok-expires.ensures, c.in_ok-remaining.ensures, c.in_ok-redelegate.ensures, h) refl)
-
-pub returns-in_err-parent : goal.returns-in_err-parent
-unfolding limits_of
-returns-in_err-parent c =
-    stops c.from_residual-in_err-parent.result c.in_err-parent.field-0.0 _ (limits_of (place_of c.args.body.now)) c.from_residual-in_err-parent.ensures.1 c.in_err-parent.ensures
-    (λ fault h. rw (c.in_ok-expires.ensures, c.in_ok-remaining.ensures, c.in_ok-redelegate.ensures, c.in_ok-count.ensures, h) refl)
-
-pub returns : goal.returns
-unfolding limits_of
-returns c =
-    rw (c.in_ok-expires.ensures, c.in_ok-remaining.ensures, c.in_ok-redelegate.ensures, c.in_ok-count.ensures, c.in_ok-parent.ensures)
-    (rw (← c.unwrap_or.ensures) refl)
+returns-then-limits c =
+    let why : ShapeFault = fault.Range (path_at (names (codes "trust.remaining_uses")) (place_of c.args.body.now)) in
+    let said = counted c.in_ok-limits.limits why (sym c.is_some.ensures ∙ c.if-is_some.true) c.if-limits.true in
+    rw c.in_ok-limits.ensures (subst (Reads {A = Limits} c.refuse.result) (sym said) (refused c.refuse.result why c.refuse.ensures))
