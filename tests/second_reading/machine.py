@@ -13,7 +13,7 @@ None where the reading failed. Nothing here is fast, and nothing is safe to serv
 """
 
 from second_reading.words import CAUSES, LAST_READING, REASONS, Refusal
-from second_reading.routes import DRAWING, action_of, command_of
+from second_reading.routes import DRAWING, FOR_ONESELF, action_of, command_of
 from second_reading.state import Invalid, text_of_body
 from second_reading.commands import Commands
 
@@ -57,7 +57,7 @@ class Machine(Commands):
             self.require_rule(call, "identity:" + action)
         outcome = getattr(self, "do_" + call.command)(call)
         if outcome.change is not None:
-            self.require_events(outcome.change)
+            self.require_events(outcome.change, call.command in FOR_ONESELF)
             self.apply(outcome.change)
         return outcome
 

@@ -71,6 +71,7 @@ FILTERS = {"domain": ("name", "enabled"), "project": ("name", "domain_id", "pare
 ASSIGNMENT_FILTERS = ("user.id", "group.id", "role.id", "scope.project.id", "scope.domain.id", "scope.system", "effective")
 TRUST_FILTERS = ("trustor_user_id", "trustee_user_id")
 DRAWING = ("login", "create", "change_password", "create_trust", "rotate_keys")
+FOR_ONESELF = ("revoke_token", "change_password", "delete_trust")
 
 
 def ids_of(pattern, path):

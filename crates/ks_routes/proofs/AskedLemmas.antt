@@ -3,11 +3,12 @@ use Rattle.std.proofs.Common.{◌≡◌, Bool, true, false, List, Option, Some, 
 use Rattle.std.specs.Prelude.{◌≢◌}
 use Rattle.ks_base.specs.declared.method.Method.{Method}
 use Rattle.ks_base.specs.declared.shapes.ShapeFault.{ShapeFault}
-use Rattle.ks_base.specs.Rows.{Id}
+use Rattle.ks_base.specs.Rows.{Id, Text}
 use Rattle.ks_http.specs.declared.request.Request.{Request}
 use Rattle.ks_machine.specs.declared.bodies.Made.{Made}
 use Rattle.ks_machine.specs.declared.command.Command.{Command}
 use Rattle.ks_machine.specs.declared.command.Command.TheVariants as command
+use Rattle.ks_machine.specs.Assignments.{user_lacking}
 use Rattle.ks_shape.specs.Bodies.{body_of}
 use Rattle.ks_shape.specs.declared.form.BodyIn.{BodyIn}
 use Rattle.ks_shape.specs.declared.form.BodyIn.TheVariants as body
@@ -16,7 +17,8 @@ use Rattle.ks_routes.specs.declared.action.Action.{Action}
 use Rattle.ks_routes.specs.declared.action.Action.TheVariants as action
 use Rattle.ks_routes.specs.declared.routed.Routed.{Routed}
 use Rattle.ks_routes.specs.declared.routed.Routed.TheVariants as routed
-use Rattle.ks_routes.specs.Asked.{asked, grant_in, grants_in, id_at, implication_in, kind_of, login_by, made_by, member_in, over, password_by, read_by, trust_by, with_id}
+use Rattle.ks_routes.specs.Asked.{asked, grant_in, grants_in, id_at, implication_in, kind_of, login_by, made_by, member_in, over, password_by, read_by, token_lacking, trust_by, unless_lacking, with_id}
+use Rattle.ks_routes.specs.Queries.{allows_expired, assignment_filters, filter_in}
 
 abbrev pub is_own : Routed → Bool
 is_own (routed.Command asks) = true
@@ -38,6 +40,10 @@ own_over None asks = refl
 own_with : (named : Option Id) (asks : Id → Routed) → ((a : Id) → is_own (asks a) ≡ true) → is_own (with_id named asks) ≡ true
 own_with (Some a) asks own = own a
 own_with None asks own = refl
+
+own_lacking : (lacking : Option Text) (asks : Command) → is_own (unless_lacking lacking asks) ≡ true
+own_lacking (Some name) asks = refl
+own_lacking None asks = refl
 
 own_read : (asks : BodyIn → Routed) (read : Result BodyIn ShapeFault) → ((b : BodyIn) → is_own (asks b) ≡ true) → is_own (read_by asks read) ≡ true
 own_read asks (Ok b) own = own b
@@ -71,9 +77,9 @@ pub asked_own : (asks : Action) (ids : List Id) (request : Request) → is_own (
 unfolding asked
 asked_own action.Version ids request = refl
 asked_own action.Login ids request = own_read login_by (body_of form.Login request.body) own_login
-asked_own action.Validate ids request = refl
-asked_own action.Check ids request = refl
-asked_own action.RevokeToken ids request = refl
+asked_own action.Validate ids request = own_lacking (token_lacking request.subject) (command.Validate (allows_expired request.query))
+asked_own action.Check ids request = own_lacking (token_lacking request.subject) (command.Check (allows_expired request.query))
+asked_own action.RevokeToken ids request = own_lacking (token_lacking request.subject) command.RevokeToken
 asked_own (action.Create kind) ids request = own_read (made_by (λ made. command.Create made)) (body_of (form.Made (kind_of kind) true) request.body) (own_made (λ made. command.Create made))
 asked_own (action.List kind) ids request = refl
 asked_own (action.Get kind) ids request = own_over (id_at ids 0) (λ a. command.Get (kind_of kind) a)
@@ -98,7 +104,8 @@ asked_own (action.GrantsOf place) ids request = own_over (grants_in place ids) (
 asked_own (action.Grant place) ids request = own_over (grant_in place ids) (λ row. command.Grant row)
 asked_own (action.IsGranted place) ids request = own_over (grant_in place ids) (λ row. command.IsGranted row)
 asked_own (action.Ungrant place) ids request = own_over (grant_in place ids) (λ row. command.Ungrant row)
-asked_own action.Assignments ids request = refl
+asked_own action.Assignments ids request =
+    own_lacking (user_lacking (filter_in assignment_filters request.query).fields) (command.Assignments (filter_in assignment_filters request.query))
 asked_own action.CreateTrust ids request = own_read trust_by (body_of form.Trust request.body) own_trust
 asked_own action.Trusts ids request = refl
 asked_own action.Trust ids request = own_over (id_at ids 0) (λ a. command.Trust a)

@@ -6,4 +6,6 @@ pub mod RowLemmas
 pub mod ServedLemmas
 pub mod LawLemmas
 pub mod SegmentLemmas
+pub mod HoldsLemmas
 pub mod RangeLemmas
+mod WholeLemmas

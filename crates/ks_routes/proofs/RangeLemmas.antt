@@ -10,6 +10,7 @@ use Rattle.ks_http.specs.declared.request.Request.{Request}
 use Rattle.ks_machine.specs.declared.bodies.Made.{Made}
 use Rattle.ks_machine.specs.declared.command.Command.{Command}
 use Rattle.ks_machine.specs.declared.command.Command.TheVariants as command
+use Rattle.ks_machine.specs.Assignments.{user_lacking}
 use Rattle.ks_machine.specs.Fit.{AreFields, IsGrant, IsMade, IsOwnKind, IsPlace}
 use Rattle.ks_shape.specs.Bodies.{body_of}
 use Rattle.ks_shape.specs.Ranges.{IsBodyFor}
@@ -27,32 +28,18 @@ use Rattle.ks_routes.specs.declared.action.TargetKind.{TargetKind}
 use Rattle.ks_routes.specs.declared.action.TargetKind.TheVariants as target_kind
 use Rattle.ks_routes.specs.declared.routed.Routed.{Routed}
 use Rattle.ks_routes.specs.declared.routed.Routed.TheVariants as routed
-use Rattle.ks_routes.specs.Asked.{actor_of, asked, both, grant_in, grants_in, id_at, ids_in, implication_in, kind_of, login_by, made_by, member_in, over, password_by, read_by, target_ids, target_of, trust_by, with_id}
+use Rattle.ks_routes.specs.Asked.{actor_of, asked, both, grant_in, grants_in, id_at, ids_in, implication_in, kind_of, login_by, made_by, member_in, password_by, read_by, target_ids, target_of, token_lacking, trust_by}
 use Rattle.ks_routes.specs.Patterns.{segments}
+use Rattle.ks_routes.specs.Queries.{allows_expired, assignment_filters, filter_in}
 use Rattle.ks_routes.specs.Ranges.{CommandsAreInRange}
 use Rattle.ks_routes.specs.Routes.{answered, command_of, routed_by, table}
 use Rattle.ks_routes.specs.Tables.{Row, action_of, found}
+use Rattle.ks_routes.proofs.HoldsLemmas.{IfCommand, lacking_holds, over_holds, plain_holds, with_holds}
 use Rattle.ks_routes.proofs.RowLemmas.{all_methods, at_method, found_passes}
 
 -- a command that is asked for has its fields in range
 abbrev IsInRange : Routed → Type 0
-IsInRange (routed.Command what) = AreFields what
-IsInRange (routed.Refused fault) = Unit {0}
-IsInRange routed.NoRoute = Unit {0}
-IsInRange (routed.NoMethod methods) = Unit {0}
-IsInRange routed.Memory = Unit {0}
-
-over_in : {A : Type 0} (named : Option A) (asks : A → Command) → IfSome named (λ a. AreFields (asks a)) → IsInRange (over named asks)
-over_in (Some a) asks are = are
-over_in None asks are = tt
-
-plain_in : {A : Type 0} (named : Option A) (asks : A → Command) → ((a : A) → AreFields (asks a)) → IsInRange (over named asks)
-plain_in (Some a) asks are = are a
-plain_in None asks are = tt
-
-with_in : (named : Option Id) (asks : Id → Routed) → ((a : Id) → IsInRange (asks a)) → IsInRange (with_id named asks)
-with_in (Some a) asks is = is a
-with_in None asks is = tt
+IsInRange = IfCommand AreFields
 
 -- bodies
 
@@ -150,42 +137,43 @@ asked_in : (asks : Action) (ids : List Id) (request : Request) → is_in_place a
 unfolding asked
 asked_in action.Version ids request is = tt
 asked_in action.Login ids request is = read_in login_by form.Login request.body (body_of form.Login request.body) refl login_in
-asked_in action.Validate ids request is = tt
-asked_in action.Check ids request is = tt
-asked_in action.RevokeToken ids request is = tt
+asked_in action.Validate ids request is = lacking_holds AreFields (token_lacking request.subject) (command.Validate (allows_expired request.query)) tt
+asked_in action.Check ids request is = lacking_holds AreFields (token_lacking request.subject) (command.Check (allows_expired request.query)) tt
+asked_in action.RevokeToken ids request is = lacking_holds AreFields (token_lacking request.subject) command.RevokeToken tt
 asked_in (action.Create kind) ids request is =
     read_in (made_by (λ made. command.Create made)) (form.Made (kind_of kind) true) request.body (body_of (form.Made (kind_of kind) true) request.body) refl
     (made_in (λ made. command.Create made) kind true (λ made is_made. is_made))
 asked_in (action.List kind) ids request is = own_kind kind
-asked_in (action.Get kind) ids request is = plain_in (id_at ids 0) (λ a. command.Get (kind_of kind) a) (λ a. own_kind kind)
+asked_in (action.Get kind) ids request is = plain_holds AreFields (id_at ids 0) (λ a. command.Get (kind_of kind) a) (λ a. own_kind kind)
 asked_in (action.Update kind) ids request is =
-    with_in (id_at ids 0) _ (λ a.
+    with_holds AreFields (id_at ids 0) _ (λ a.
     read_in (made_by (λ made. command.Update a made)) (form.Made (kind_of kind) false) request.body (body_of (form.Made (kind_of kind) false) request.body) refl
     (made_in (λ made. command.Update a made) kind false (λ made is_made. is_made)))
-asked_in (action.Delete kind) ids request is = plain_in (id_at ids 0) (λ a. command.Delete (kind_of kind) a) (λ a. own_kind kind)
+asked_in (action.Delete kind) ids request is = plain_holds AreFields (id_at ids 0) (λ a. command.Delete (kind_of kind) a) (λ a. own_kind kind)
 asked_in action.ChangePassword ids request is =
-    with_in (id_at ids 0) _ (λ user. read_in (password_by user) form.Password request.body (body_of form.Password request.body) refl (password_in user))
-asked_in action.GroupsOf ids request is = plain_in (id_at ids 0) (λ a. command.GroupsOf a) (λ a. tt)
-asked_in action.MembersOf ids request is = plain_in (id_at ids 0) (λ a. command.MembersOf a) (λ a. tt)
-asked_in action.Join ids request is = plain_in (member_in ids) (λ row. command.Join row) (λ row. tt)
-asked_in action.IsIn ids request is = plain_in (member_in ids) (λ row. command.IsIn row) (λ row. tt)
-asked_in action.Leave ids request is = plain_in (member_in ids) (λ row. command.Leave row) (λ row. tt)
-asked_in action.Implied ids request is = plain_in (id_at ids 0) (λ a. command.Implied a) (λ a. tt)
-asked_in action.Imply ids request is = plain_in (implication_in ids) (λ row. command.Imply row) (λ row. tt)
-asked_in action.Implication ids request is = plain_in (implication_in ids) (λ row. command.Implication row) (λ row. tt)
-asked_in action.IsImplied ids request is = plain_in (implication_in ids) (λ row. command.IsImplied row) (λ row. tt)
-asked_in action.Unimply ids request is = plain_in (implication_in ids) (λ row. command.Unimply row) (λ row. tt)
+    with_holds AreFields (id_at ids 0) _ (λ user. read_in (password_by user) form.Password request.body (body_of form.Password request.body) refl (password_in user))
+asked_in action.GroupsOf ids request is = plain_holds AreFields (id_at ids 0) (λ a. command.GroupsOf a) (λ a. tt)
+asked_in action.MembersOf ids request is = plain_holds AreFields (id_at ids 0) (λ a. command.MembersOf a) (λ a. tt)
+asked_in action.Join ids request is = plain_holds AreFields (member_in ids) (λ row. command.Join row) (λ row. tt)
+asked_in action.IsIn ids request is = plain_holds AreFields (member_in ids) (λ row. command.IsIn row) (λ row. tt)
+asked_in action.Leave ids request is = plain_holds AreFields (member_in ids) (λ row. command.Leave row) (λ row. tt)
+asked_in action.Implied ids request is = plain_holds AreFields (id_at ids 0) (λ a. command.Implied a) (λ a. tt)
+asked_in action.Imply ids request is = plain_holds AreFields (implication_in ids) (λ row. command.Imply row) (λ row. tt)
+asked_in action.Implication ids request is = plain_holds AreFields (implication_in ids) (λ row. command.Implication row) (λ row. tt)
+asked_in action.IsImplied ids request is = plain_holds AreFields (implication_in ids) (λ row. command.IsImplied row) (λ row. tt)
+asked_in action.Unimply ids request is = plain_holds AreFields (implication_in ids) (λ row. command.Unimply row) (λ row. tt)
 asked_in (action.GrantsOf place) ids request is =
-    over_in (grants_in place ids) (λ pair. command.GrantsOf pair.0 pair.1 place.inherited) (grants_are_in place ids is)
-asked_in (action.Grant place) ids request is = over_in (grant_in place ids) (λ row. command.Grant row) (grant_is_in place ids is)
-asked_in (action.IsGranted place) ids request is = over_in (grant_in place ids) (λ row. command.IsGranted row) (grant_is_in place ids is)
-asked_in (action.Ungrant place) ids request is = over_in (grant_in place ids) (λ row. command.Ungrant row) (grant_is_in place ids is)
-asked_in action.Assignments ids request is = tt
+    over_holds AreFields (grants_in place ids) (λ pair. command.GrantsOf pair.0 pair.1 place.inherited) (grants_are_in place ids is)
+asked_in (action.Grant place) ids request is = over_holds AreFields (grant_in place ids) (λ row. command.Grant row) (grant_is_in place ids is)
+asked_in (action.IsGranted place) ids request is = over_holds AreFields (grant_in place ids) (λ row. command.IsGranted row) (grant_is_in place ids is)
+asked_in (action.Ungrant place) ids request is = over_holds AreFields (grant_in place ids) (λ row. command.Ungrant row) (grant_is_in place ids is)
+asked_in action.Assignments ids request is =
+    lacking_holds AreFields (user_lacking (filter_in assignment_filters request.query).fields) (command.Assignments (filter_in assignment_filters request.query)) tt
 asked_in action.CreateTrust ids request is = read_in trust_by form.Trust request.body (body_of form.Trust request.body) refl trust_in
 asked_in action.Trusts ids request is = tt
-asked_in action.Trust ids request is = plain_in (id_at ids 0) (λ a. command.Trust a) (λ a. tt)
-asked_in action.DeleteTrust ids request is = plain_in (id_at ids 0) (λ a. command.DeleteTrust a) (λ a. tt)
-asked_in action.TrustRoles ids request is = plain_in (id_at ids 0) (λ a. command.TrustRoles a) (λ a. tt)
+asked_in action.Trust ids request is = plain_holds AreFields (id_at ids 0) (λ a. command.Trust a) (λ a. tt)
+asked_in action.DeleteTrust ids request is = plain_holds AreFields (id_at ids 0) (λ a. command.DeleteTrust a) (λ a. tt)
+asked_in action.TrustRoles ids request is = plain_holds AreFields (id_at ids 0) (λ a. command.TrustRoles a) (λ a. tt)
 asked_in action.Events ids request is = tt
 asked_in action.RotateKeys ids request is = tt
 asked_in action.LoadKeys ids request is = tt

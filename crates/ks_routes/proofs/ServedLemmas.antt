@@ -15,6 +15,7 @@ use Rattle.ks_machine.specs.declared.bodies.Made.{Made}
 use Rattle.ks_machine.specs.declared.bodies.TrustBody.{TrustBody}
 use Rattle.ks_machine.specs.declared.command.Command.{Command}
 use Rattle.ks_machine.specs.declared.command.Command.TheVariants as command
+use Rattle.ks_machine.specs.Assignments.{user_lacking}
 use Rattle.ks_shape.specs.Bodies.{body_of, document, form_of, password_of, whole_document}
 use Rattle.ks_shape.specs.Fields.{needed as needed_field}
 use Rattle.ks_shape.specs.Logins.{login_of}
@@ -33,8 +34,9 @@ use Rattle.ks_routes.specs.declared.action.TargetKind.{TargetKind}
 use Rattle.ks_routes.specs.declared.action.TargetKind.TheVariants as target_kind
 use Rattle.ks_routes.specs.declared.routed.Routed.{Routed}
 use Rattle.ks_routes.specs.declared.routed.Routed.TheVariants as routed
-use Rattle.ks_routes.specs.Asked.{asked, ids_in, kind_of, login_by, made_by, password_by, read_by, target_ids, trust_by}
+use Rattle.ks_routes.specs.Asked.{asked, ids_in, kind_of, login_by, made_by, password_by, read_by, target_ids, token_lacking, trust_by, unless_lacking}
 use Rattle.ks_routes.specs.Patterns.{Part, literal, id, fits, takes}
+use Rattle.ks_routes.specs.Queries.{allows_expired, assignment_filters, filter_in}
 use Rattle.ks_routes.specs.Tables.{Row}
 use Rattle.ks_routes.proofs.RowLemmas.{all_methods}
 
@@ -47,6 +49,10 @@ is_served routed.Memory = false
 
 pub not_unrouted : (told : Routed) → is_served told ≡ true → told ≢ routed.NoRoute
 not_unrouted told served e = let no : false ≡ true = ap is_served (sym e) ∙ served in cc
+
+served_lacking : (lacking : Option Text) (asks : Command) → is_served (unless_lacking lacking asks) ≡ true
+served_lacking (Some name) asks = refl
+served_lacking None asks = refl
 
 -- how many ids an action needs
 abbrev pub needed : Action → ℕ
@@ -192,9 +198,9 @@ pub asked_served : (asks : Action) (ids : List Id) (request : Request) → neede
 unfolding asked body_of
 asked_served action.Version ids request le = refl
 asked_served action.Login ids request le = served_login (document request.body)
-asked_served action.Validate ids request le = refl
-asked_served action.Check ids request le = refl
-asked_served action.RevokeToken ids request le = refl
+asked_served action.Validate ids request le = served_lacking (token_lacking request.subject) (command.Validate (allows_expired request.query))
+asked_served action.Check ids request le = served_lacking (token_lacking request.subject) (command.Check (allows_expired request.query))
+asked_served action.RevokeToken ids request le = served_lacking (token_lacking request.subject) command.RevokeToken
 asked_served (action.Create kind) ids request le = served_made (λ made. command.Create made) (kind_of kind) true (document request.body)
 asked_served (action.List kind) ids request le = refl
 asked_served (action.Get kind) [] request le = absurd (omega (arith, le))
@@ -236,7 +242,8 @@ asked_served (action.GrantsOf place) ids request le = served_grants place.target
 asked_served (action.Grant place) ids request le = served_grant place.target place ids request refl le
 asked_served (action.IsGranted place) ids request le = served_is_granted place.target place ids request refl le
 asked_served (action.Ungrant place) ids request le = served_ungrant place.target place ids request refl le
-asked_served action.Assignments ids request le = refl
+asked_served action.Assignments ids request le =
+    served_lacking (user_lacking (filter_in assignment_filters request.query).fields) (command.Assignments (filter_in assignment_filters request.query))
 asked_served action.CreateTrust ids request le = served_trust (document request.body)
 asked_served action.Trusts ids request le = refl
 asked_served action.Trust [] request le = absurd (omega (arith, le))

@@ -1,5 +1,5 @@
 -- The command that a request makes of what its route asks for.
-use Rattle.std.specs.Prelude.{ℕ, ◌+◌, true, false, if◌then◌else◌, List, [], ◌∷◌, Option, Some, None, Result, Ok, Err, option_map, slice_get}
+use Rattle.std.specs.Prelude.{ℕ, ◌+◌, true, false, if◌then◌else◌, List, [], ◌∷◌, Option, Some, None, Result, Ok, Err, codes, option_map, slice_get}
 use Rattle.ks_base.specs.declared.grants.Actor.{Actor}
 use Rattle.ks_base.specs.declared.grants.Actor.TheVariants as actor
 use Rattle.ks_base.specs.declared.grants.GrantRow.{GrantRow}
@@ -8,14 +8,17 @@ use Rattle.ks_base.specs.declared.grants.Target.{Target}
 use Rattle.ks_base.specs.declared.grants.Target.TheVariants as target
 use Rattle.ks_base.specs.declared.kinds.Kind.{Kind}
 use Rattle.ks_base.specs.declared.kinds.Kind.TheVariants as kind
+use Rattle.ks_base.specs.declared.shapes.Filter.{Filter}
 use Rattle.ks_base.specs.declared.shapes.ShapeFault.{ShapeFault}
+use Rattle.ks_base.specs.declared.shapes.ShapeFault.TheVariants as fault
 use Rattle.ks_base.specs.declared.users.MemberRow.{MemberRow}
-use Rattle.ks_base.specs.Rows.{Id}
+use Rattle.ks_base.specs.Rows.{Id, Text}
 use Rattle.ks_base.specs.Ids.{is_id}
 use Rattle.ks_http.specs.declared.request.Request.{Request}
 use Rattle.ks_machine.specs.declared.bodies.Made.{Made}
 use Rattle.ks_machine.specs.declared.command.Command.{Command}
 use Rattle.ks_machine.specs.declared.command.Command.TheVariants as command
+use Rattle.ks_machine.specs.Assignments.{user_lacking}
 use Rattle.ks_machine.specs.Targets.{filter_names}
 use Rattle.ks_shape.specs.Bodies.{body_of}
 use Rattle.ks_shape.specs.declared.form.BodyIn.{BodyIn}
@@ -112,11 +115,29 @@ abbrev pub with_id : Option Id → (Id → Routed) → Routed
 with_id (Some a) asks = asks a
 with_id None asks = routed.NoRoute
 
+-- what a request lacks is a fault of its shape, before it is a command
+
+abbrev pub unless_lacking : Option Text → Command → Routed
+unless_lacking None asks = routed.Command asks
+unless_lacking (Some name) asks = routed.Refused (fault.Missing name)
+
+-- a command about a token asks for its field
+abbrev pub token_lacking : Option Text → Option Text
+token_lacking (Some token) = None
+token_lacking None = Some (codes "X-Subject-Token")
+
+abbrev pub about_token : Request → Command → Routed
+about_token request asks = unless_lacking (token_lacking request.subject) asks
+
+-- a listing of effective roles names the user whose they are
+abbrev pub assignments_by : Filter → Routed
+assignments_by filter = unless_lacking (user_lacking filter.fields) (command.Assignments filter)
+
 -- bodies: what is read, or the first fault
 
 abbrev pub read_by : (BodyIn → Routed) → Result BodyIn ShapeFault → Routed
 read_by asks (Ok read) = asks read
-read_by asks (Err fault) = routed.Refused fault
+read_by asks (Err why) = routed.Refused why
 
 abbrev pub login_by : BodyIn → Routed
 login_by (body.Login login) = routed.Command (command.Login login)
@@ -146,9 +167,9 @@ trust_by (body.Password original password) = routed.NoRoute
 unfoldable pub asked : Action → List Id → Request → Routed
 asked action.Version ids request = routed.Command command.Version
 asked action.Login ids request = read_by login_by (body_of form.Login request.body)
-asked action.Validate ids request = routed.Command (command.Validate (allows_expired request.query))
-asked action.Check ids request = routed.Command (command.Check (allows_expired request.query))
-asked action.RevokeToken ids request = routed.Command command.RevokeToken
+asked action.Validate ids request = about_token request (command.Validate (allows_expired request.query))
+asked action.Check ids request = about_token request (command.Check (allows_expired request.query))
+asked action.RevokeToken ids request = about_token request command.RevokeToken
 asked (action.Create kind) ids request =
     read_by (made_by (λ made. command.Create made)) (body_of (form.Made (kind_of kind) true) request.body)
 asked (action.List kind) ids request = routed.Command (command.List (kind_of kind) (filter_in (filter_names (kind_of kind)) request.query))
@@ -172,7 +193,7 @@ asked (action.GrantsOf place) ids request = over (grants_in place ids) (λ pair.
 asked (action.Grant place) ids request = over (grant_in place ids) (λ row. command.Grant row)
 asked (action.IsGranted place) ids request = over (grant_in place ids) (λ row. command.IsGranted row)
 asked (action.Ungrant place) ids request = over (grant_in place ids) (λ row. command.Ungrant row)
-asked action.Assignments ids request = routed.Command (command.Assignments (filter_in assignment_filters request.query))
+asked action.Assignments ids request = assignments_by (filter_in assignment_filters request.query)
 asked action.CreateTrust ids request = read_by trust_by (body_of form.Trust request.body)
 asked action.Trusts ids request = routed.Command (command.Trusts (filter_in trust_filters request.query))
 asked action.Trust ids request = over (id_at ids 0) (λ trust. command.Trust trust)

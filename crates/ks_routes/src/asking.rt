@@ -1,10 +1,11 @@
 //! The command that a request makes of what its route asks for.
 ghost use Rattle.std.specs.Prelude.{◌≡◌, true, false, IfOk};
+ghost use Rattle.std.specs.Option.{option_copied};
 ghost use Rattle.ks_machine.specs.declared.command.Command.TheVariants as commands;
 ghost use Rattle.ks_machine.specs.Targets.{filter_names};
 ghost use Rattle.ks_shape.specs.Bodies.{body_of};
 ghost use Rattle.ks_shape.specs.declared.form.Form.TheVariants as forms;
-ghost use Rattle.ks_routes.specs.Asked.{actor_of, asked, both, grant_in, grants_in, implication_in, kind_of, login_by, made_by, member_in, password_by, read_by, routed_over, target_ids, target_of, trust_by};
+ghost use Rattle.ks_routes.specs.Asked.{about_token, actor_of, asked, assignments_by, both, grant_in, grants_in, implication_in, kind_of, login_by, made_by, member_in, password_by, read_by, routed_over, target_ids, target_of, token_lacking, trust_by, unless_lacking};
 ghost use Rattle.ks_routes.specs.Queries.{allows_expired, assignment_filters as assignment_names, filter_in, trust_filters as trust_names};
 ghost use Rattle.ks_routes.specs.steps.Reading.{IsAsked, unread_of};
 ghost use Rattle.ks_routes.specs.Routes.{Answers};
@@ -14,9 +15,11 @@ use crate::captured::Captured;
 use crate::filters::{assignment_filters, kind_filters, trust_filters};
 use crate::query::{allows_expired, filter_in};
 use crate::routed::Routed;
-use ks_base::{Actor, GrantRow, Id, ImplyRow, MemberRow, Memory, ShapeRefusal, Target};
+use ks_base::{
+    Actor, GrantRow, Id, ImplyRow, MemberRow, Memory, ShapeFault, ShapeRefusal, Target, Text,
+};
 use ks_http::Request;
-use ks_machine::Command;
+use ks_machine::{Command, user_lacking};
 use ks_shape::{BodyIn, Form, read_body};
 use std::alloc::Global;
 
@@ -186,11 +189,30 @@ fn list(alloc: Global, kind: RowKind, request: &Request) -> Result<Command, Memo
     Ok(Command::List(kind.kind(), filter))
 }
 
-fn assignments(alloc: Global, request: &Request) -> Result<Command, Memory>
-    ensures { IfOk result (λ command. command ≡ commands.Assignments (filter_in assignment_names request.now.query)) }
+/// The command, or what its request lacks.
+fn unless_lacking(alloc: Global, lacking: Option<&str>, command: Command) -> Routed
+    ensures { Answers (unless_lacking (option_copied lacking.entry) command) result }
 {
-    let filter = filter_in(alloc, assignment_filters(), request.query.as_slice())?;
-    Ok(Command::Assignments(filter))
+    let Some(name) = lacking else {
+        return Routed::Command(command);
+    };
+    match Text::of(alloc, name) {
+        Ok(name) => Routed::Refused(ShapeFault::Missing(name)),
+        Err(Memory) => Routed::Memory,
+    }
+}
+
+/// The listing that the query asks for, which names the user where it asks for effective roles.
+fn assignments(alloc: Global, request: &Request) -> Routed
+    ensures { Answers (assignments_by (filter_in assignment_names request.now.query)) result }
+{
+    match filter_in(alloc, assignment_filters(), request.query.as_slice()) {
+        Ok(filter) => {
+            let lacking = user_lacking(&filter.fields);
+            unless_lacking(alloc, lacking, Command::Assignments(filter))
+        }
+        Err(Memory) => Routed::Memory,
+    }
 }
 
 fn trusts(alloc: Global, request: &Request) -> Result<Command, Memory>
@@ -200,16 +222,39 @@ fn trusts(alloc: Global, request: &Request) -> Result<Command, Memory>
     Ok(Command::Trusts(filter))
 }
 
-fn validate(alloc: Global, request: &Request) -> Result<Command, Memory>
-    ensures { IfOk result (λ command. command ≡ commands.Validate (allows_expired request.now.query)) }
+/// The field that a request about a token lacks.
+fn token_lacking(subject: &Option<Text>) -> Option<&'static str>
+    ensures { option_copied result ≡ token_lacking subject.now }
 {
-    Ok(Command::Validate(allows_expired(alloc, request.query.as_slice())?))
+    match subject {
+        Some(_) => None,
+        None => Some("X-Subject-Token"),
+    }
 }
 
-fn check(alloc: Global, request: &Request) -> Result<Command, Memory>
-    ensures { IfOk result (λ command. command ≡ commands.Check (allows_expired request.now.query)) }
+/// A command about the token that the request is to name.
+fn about_token(alloc: Global, request: &Request, command: Command) -> Routed
+    ensures { Answers (about_token request.now command) result }
 {
-    Ok(Command::Check(allows_expired(alloc, request.query.as_slice())?))
+    unless_lacking(alloc, token_lacking(&request.subject), command)
+}
+
+fn validate(alloc: Global, request: &Request) -> Routed
+    ensures { Answers (about_token request.now (commands.Validate (allows_expired request.now.query))) result }
+{
+    match allows_expired(alloc, request.query.as_slice()) {
+        Ok(late) => about_token(alloc, request, Command::Validate(late)),
+        Err(Memory) => Routed::Memory,
+    }
+}
+
+fn check(alloc: Global, request: &Request) -> Routed
+    ensures { Answers (about_token request.now (commands.Check (allows_expired request.now.query))) result }
+{
+    match allows_expired(alloc, request.query.as_slice()) {
+        Ok(late) => about_token(alloc, request, Command::Check(late)),
+        Err(Memory) => Routed::Memory,
+    }
 }
 
 /// The command, or want of memory for it.
@@ -223,7 +268,8 @@ fn asked_of(command: Result<Command, Memory>) -> Routed
 }
 
 impl Action {
-    /// The command that the request makes of the action, where its path has these ids, or the first fault of its body.
+    /// The command that the request makes of the action, where its path has these ids; or the first fault of its body, or what
+    /// it lacks: its token, or the user of a listing of effective roles.
     #[tactic(auto, unfolding(crate::specs::Asked::asked))]
     pub fn command(self, alloc: Global, ids: &Captured, request: &Request) -> Routed
         ensures { Answers (asked self ids.now request.now) result }
@@ -231,9 +277,9 @@ impl Action {
         match self {
             Action::Version => Routed::Command(Command::Version),
             Action::Login => login(alloc, request),
-            Action::Validate => asked_of(validate(alloc, request)),
-            Action::Check => asked_of(check(alloc, request)),
-            Action::RevokeToken => Routed::Command(Command::RevokeToken),
+            Action::Validate => validate(alloc, request),
+            Action::Check => check(alloc, request),
+            Action::RevokeToken => about_token(alloc, request, Command::RevokeToken),
             Action::Create(kind) => create(alloc, kind, request),
             Action::List(kind) => asked_of(list(alloc, kind, request)),
             Action::Get(kind) => over(ids.at(0).map(|id| Command::Get(kind.kind(), id))),
@@ -264,7 +310,7 @@ impl Action {
             Action::Grant(place) => over(grant(place, ids).map(|row| Command::Grant(row))),
             Action::IsGranted(place) => over(grant(place, ids).map(|row| Command::IsGranted(row))),
             Action::Ungrant(place) => over(grant(place, ids).map(|row| Command::Ungrant(row))),
-            Action::Assignments => asked_of(assignments(alloc, request)),
+            Action::Assignments => assignments(alloc, request),
             Action::CreateTrust => create_trust(alloc, request),
             Action::Trusts => asked_of(trusts(alloc, request)),
             Action::Trust => over(ids.at(0).map(|trust| Command::Trust(trust))),

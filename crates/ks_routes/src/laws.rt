@@ -11,7 +11,7 @@ ghost use Rattle.ks_routes.specs.declared.action.Action.{Action};
 ghost use Rattle.ks_routes.specs.declared.routed.Routed.TheVariants as routed;
 ghost use Rattle.ks_base.specs.Ids.{is_id};
 ghost use Rattle.ks_routes.specs.Patterns.{fits, segments};
-ghost use Rattle.ks_routes.specs.Ranges.{CommandsAreInRange};
+ghost use Rattle.ks_routes.specs.Ranges.{CommandsAreInRange, CommandsAreWhole};
 ghost use Rattle.ks_routes.specs.Tables.{Row};
 ghost use Rattle.ks_routes.specs.Routes.{command_of, table};
 
@@ -64,4 +64,10 @@ pub fn ids_are_ids()
 /// a grant.
 pub fn commands_are_in_range()
     ensures { CommandsAreInRange }
+{}
+
+/// No request makes a command that lacks the token that it is about, or the user of a listing of effective roles: such a request
+/// is refused before it is a command.
+pub fn commands_are_whole()
+    ensures { CommandsAreWhole }
 {}

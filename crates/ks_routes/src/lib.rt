@@ -19,9 +19,9 @@ mod tree;
 
 pub use action::{Action, ActorKind, Place, RowKind, TargetKind};
 pub use laws::{
-    commands_are_in_range, ids_are_ids, listed_methods_are_taken, other_methods_have_no_command,
-    paths_have_one_route, routes_are_reached, routing_is_total, unrouted_paths_fit_nothing,
-    version_has_two_paths,
+    commands_are_in_range, commands_are_whole, ids_are_ids, listed_methods_are_taken,
+    other_methods_have_no_command, paths_have_one_route, routes_are_reached, routing_is_total,
+    unrouted_paths_fit_nothing, version_has_two_paths,
 };
 pub use methods::Methods;
 pub use route::{Route, find};

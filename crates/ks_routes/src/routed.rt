@@ -17,7 +17,8 @@ use std::alloc::Global;
 pub enum Routed {
     /// The command that the request's path and method name.
     Command(Command),
-    /// The request's body is not what its route asks for: the first fault.
+    /// The request's body is not what its route asks for, by its first fault; or the request lacks the token that it is about
+    /// or a field of its query (`Missing`).
     Refused(ShapeFault),
     /// No route has the path.
     NoRoute,
