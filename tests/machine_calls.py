@@ -266,7 +266,9 @@ class Caller:
         more = {"expires_at": time_text(now + rng.choice((-5, 500, 5000))), "remaining_uses": rng.choice((1, 2)),
                 "allow_redelegation": True, "redelegation_count": rng.choice((0, 1, 3, 4)),
                 "redelegated_trust_id": self.pick("trust")}
-        likely = {"allow_redelegation": 0.8, "remaining_uses": 0.05 if of_trusts else 0.5, "redelegated_trust_id": 0.05}
+        passes_on = rng.random() < 0.6
+        uses = 0.05 if of_trusts or passes_on else 0.8  # One that counts its uses is not passed on.
+        likely = {"allow_redelegation": 0.95 if passes_on else 0, "remaining_uses": uses, "redelegated_trust_id": 0.05}
         given.update({name: value for name, value in more.items() if rng.random() < likely.get(name, 0.1)})
         self.auth = rng.choice(of_trusts or [text for text in self.tokens[-20:] if self.scopes[text][0]] or [self.auth])
         project, roles = self.scopes.get(self.auth, (None, []))

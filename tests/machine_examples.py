@@ -205,6 +205,8 @@ def a_trust_has_its_uses():
     ann, bob = desk.on_demo(ANN, "secret"), desk.on_demo("bob", "hunter2")
     assert desk.ask("POST", "/v3/OS-TRUST/trusts", ann, trust_body("bob", ANN)) == 403
     assert desk.message() == "Refused: NotTrustor."
+    both = trust_body("bob", ANN, remaining_uses=1, allow_redelegation=True)
+    assert desk.ask("POST", "/v3/OS-TRUST/trusts", bob, both) == 400 and desk.message() == "trust.remaining_uses is out of range."
     assert desk.ask("POST", "/v3/OS-TRUST/trusts", bob, trust_body("bob", ANN, remaining_uses=1)) == 201
     scope = {"OS-TRUST:trust": {"id": desk.told()["trust"]["id"]}}
     assert desk.ask("POST", "/v3/auth/tokens", body=login_body(ANN, "wrong", scope=scope)) == 401

@@ -2,7 +2,7 @@
 
 import json
 
-from second_reading.words import EVENT_GRACE, EXPIRED_WINDOW, KINDS, LEVELS, LIMITS, OpeningRefused, Refusal
+from second_reading.words import EVENT_GRACE, EXPIRED_WINDOW, KINDS, LEVELS, LIMITS, OpeningRefused, Refusal, SELF_REVOCATIONS
 from second_reading.ciphers import envelope_of, key_of, opened, payload_of
 from second_reading.forms import MISSING, an_object, document
 from second_reading.policy import Policy
@@ -354,10 +354,10 @@ class State:
             return self.ring.rotated(change[1], self.settings["max_active_keys"])
         return self.ring.loaded(change[1]) if change[0] == "load" else self.ring
 
-    def require_events(self, change):
-        """There is room for the revocations that a change writes, if it writes some."""
-        written_now = self.ended_by(change)
-        if written_now and len(self.live_events()) + len(written_now) > LIMITS["event"]:
+    def require_events(self, change, is_for_oneself):
+        """There is room for the revocations that a change writes, if it writes some; less of it for what users do for themselves."""
+        written_now, most = self.ended_by(change), SELF_REVOCATIONS if is_for_oneself else LIMITS["event"]
+        if written_now and len(self.live_events()) + len(written_now) > most:
             raise Refusal("Full", "event")
 
     def ended_by(self, change):

@@ -2,6 +2,7 @@
 
 LIMITS = {"domain": 1024, "project": 65536, "user": 65536, "group": 16384, "member": 262144, "role": 1024, "implication": 8192,
           "grant": 262144, "trust": 65536, "event": 262144}
+SELF_REVOCATIONS = 131072
 LEVELS = 5
 REDELEGATIONS = 3
 LAST_SECOND = 253402300799

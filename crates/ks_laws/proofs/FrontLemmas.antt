@@ -1,11 +1,11 @@
 -- The state of a lawful front is orderly, and its walks are the whole climbs.
-use Rattle.std.proofs.Common.{ℕ, ◌≤◌, List, [], ◌∷◌, refl, arith}
+use Rattle.std.proofs.Common.{◌≡◌, ℕ, ◌<◌, ◌≤◌, List, [], ◌∷◌, Option, Some, None, refl, arith}
 use Rattle.std.specs.List.{AllByRecursion}
 use Rattle.ks_base.specs.declared.rows.ProjectRow.{ProjectRow}
 use Rattle.ks_base.specs.declared.trusts.TrustRow.{TrustRow}
 use Rattle.ks_base.specs.Trusts.{first_trustor}
-use Rattle.ks_base.proofs.ChainLemmas.{first_leads}
-use Rattle.ks_laws.specs.Laws.{CountsChanges, LawfulIsOrderly, LawfulIsSound, OpeningIsLawful, ProjectsAreClimbed, TrustsLead}
+use Rattle.ks_base.proofs.ChainLemmas.{first_leads, parent_among}
+use Rattle.ks_laws.specs.Laws.{CountedAreLast, CountsChanges, LawfulIsOrderly, LawfulIsSound, OpeningIsLawful, ProjectsAreClimbed, TrustsLead}
 use Rattle.ks_laws.specs.Orderly.{IsOrderly}
 use Rattle.ks_laws.proofs.ListLemmas.{found_is_among}
 use Rattle.ks_laws.proofs.OpeningLemmas.{opened_is_orderly}
@@ -17,6 +17,7 @@ use Rattle.ks_machine.specs.Changes.{apply, ring_after}
 use Rattle.ks_machine.specs.Fronts.{replay, replayed}
 use Rattle.ks_machine.specs.Lawful.{AreLawful, Fits}
 use Rattle.ks_machine.specs.Opened.{opened_state}
+use Rattle.ks_machine.specs.Ranges.{IsLastOf}
 use Rattle.ks_machine.specs.States.{State}
 use Rattle.ks_machine.proofs.FrontLemmas.{made_after}
 
@@ -68,6 +69,18 @@ lawful_is_orderly f lawful =
 pub changes_are_counted : CountsChanges
 unfolding replay opened_state
 changes_are_counted f lawful = omega (arith, made_after (opened_state f.opening) f.changes)
+
+-- trusts
+
+none_counted : (remaining : Option ℕ) (count lower : ℕ) → IsLastOf count remaining → lower < count → remaining ≡ None
+none_counted None count lower last above = refl
+none_counted (Some uses) count lower last above = absurd (omega (arith, last, above))
+
+pub counted_are_last : CountedAreLast
+counted_are_last f trust parent lawful among found =
+    let trusts = (lawful_is_orderly f lawful).rows.trusts in
+    none_counted parent.remaining parent.count trust.count
+    (trusts.range parent (parent_among (replay f).rows.trusts trust.parent parent found)).last ((trusts.chains trust among).below parent found).1
 
 -- walks
 

@@ -1,20 +1,24 @@
 -- What a step lacks can be found out: it is of what stands, in range, of its call, and not known.
-use Rattle.std.proofs.Common.{◌≡◌, ℕ, ◌≤◌, true, List, [], ◌∷◌, length, drop, Option, Some, None, IfSome, inl, inr, refl, ap, subst, length-drop, length-take, arith}
+use Rattle.std.proofs.Common.{◌≡◌, ℕ, ◌≤◌, true, List, [], ◌∷◌, length, drop, Option, Some, None, IfSome, inl, inr, refl, sym, ap, ◌∙◌, subst, length-drop, length-take, arith}
 use Rattle.ks_base.specs.declared.receipt.Drawn.{Drawn}
 use Rattle.ks_base.specs.declared.receipt.Drawn.TheVariants.{Unused, Bytes, Failed}
 use Rattle.ks_base.specs.declared.users.PasswordRow.{PasswordRow}
-use Rattle.ks_base.specs.Rows.{Text}
+use Rattle.ks_base.specs.declared.users.UserRow.{UserRow}
+use Rattle.ks_base.specs.Rows.{Rows, Text}
 use Rattle.ks_base.specs.Tables.{Among}
 use Rattle.ks_fernet.specs.declared.opening.OpenAnswer.{OpenAnswer}
 use Rattle.ks_fernet.specs.declared.opening.OpenAnswer.TheVariants.{NotText, No, Yes}
-use Rattle.ks_laws.specs.Lacking.{IsLack, IsNewOf, IsUnknown}
+use Rattle.ks_laws.specs.Lacking.{IsKept, IsLack, IsNewOf, IsTestedUser, IsUnknown}
 use Rattle.ks_laws.specs.Laws.{AnswersAreReplies, KeptSaltsAreWhole, LacksAreInRange, LacksAreUnknown}
 use Rattle.ks_laws.specs.Orderly.{Each, IsOrderly}
 use Rattle.ks_laws.proofs.AsksLemmas.{Asks, asks_asked, asks_map}
 use Rattle.ks_laws.proofs.LackLemmas.{ChecksAsk, asks_checked}
+use Rattle.ks_machine.specs.declared.bodies.LoginBody.{LoginBody}
+use Rattle.ks_machine.specs.declared.bodies.Proof.TheVariants as proof
 use Rattle.ks_machine.specs.declared.call.Call.{Call}
 use Rattle.ks_machine.specs.declared.cause.Cause.{Cause}
 use Rattle.ks_machine.specs.declared.command.Command.{Command}
+use Rattle.ks_machine.specs.declared.command.Command.TheVariants as command
 use Rattle.ks_machine.specs.declared.why.Why.{Why}
 use Rattle.ks_machine.specs.Actions.{requirements}
 use Rattle.ks_machine.specs.Attempts.{Attempt, Go, Stop, Lacks, Lack, Keys, Stored, Fresh, Known}
@@ -114,8 +118,8 @@ needed P (Lacks asked) lack is says = let same : asked ≡ lack = cc in subst P 
 in_range : (known : Known) (S : State) (moment : ℕ) (call : Call) → IsOrderly S → Fit call → ChecksAsk (IsLack S call) known (raised S moment) call
 in_range known S moment call old fit = record {
   token = λ text of. asks_opens (IsLack S call) known S.ring.held text (λ some. (some, among_lacking known text S.ring.held));
-  tested = λ user row password stands keeps of. asks_tested (IsLack S call) known row password (λ unknown. (
-    record { user = user; stands = stands; row = row; keeps = keeps; salt_is = refl; rounds_are = refl },
+  tested = λ user row password stands keeps whose of. asks_tested (IsLack S call) known row password (λ unknown. (
+    record { user = user; tested = whose; stands = stands; row = row; keeps = keeps; salt_is = refl; rounds_are = refl },
     kept_in (λ kept. AreRounds kept.rounds) user.password row keeps (old.rows.people.users_range user stands).1,
   ));
   fresh = λ password of has. asks_fresh (IsLack S call) known (raised S moment) call.draw password (λ unknown.
@@ -137,7 +141,7 @@ kept_salts_whole known S moment call salt rounds old salted fit says =
 not_known : (known : Known) (S : State) (call : Call) → ChecksAsk (IsUnknown known call) known S call
 not_known known S call = record {
   token = λ text of. asks_opens (IsUnknown known call) known S.ring.held text (λ some. (text, of, unknown known text S.ring.held));
-  tested = λ user row password stands keeps of. asks_tested (IsUnknown known call) known row password (λ unknown. (password, of, unknown));
+  tested = λ user row password stands keeps whose of. asks_tested (IsUnknown known call) known row password (λ unknown. (password, of, unknown));
   fresh = λ password of has. asks_fresh (IsUnknown known call) known S call.draw password (λ unknown. (password, of, unknown));
 }
 
@@ -156,3 +160,28 @@ replies_as (Needs lack) never = absurd (never lack refl)
 pub answers_are_replies : AnswersAreReplies
 unfolding answer
 answers_are_replies f call = replies_as _ (all_facts (replay f) (moment_of (replay f).high call.reading) call)
+
+-- a command tests one password, of which one salt is kept
+
+one_tested : (rows : Rows) (asked : Command) (user other : UserRow) → IsTestedUser rows asked user → IsTestedUser rows asked other → user ≡ other
+one_tested rows asked user other (inl (named, password, scope, is, found)) (inl (named', password', scope', was, found')) =
+    let body : LoginBody = record { proof = proof.Password named password; scope = scope } in
+    let body' : LoginBody = record { proof = proof.Password named' password'; scope = scope' } in
+    let logins : command.Login body ≡ command.Login body' = sym is ∙ was in
+    let bodies : body ≡ body' = cc in
+    let shown : proof.Password named password ≡ proof.Password named' password' = ap (λ (b : LoginBody). b.proof) bodies in
+    let same : named ≡ named' = cc in cc
+one_tested rows asked user other (inl (named, password, scope, is, found)) (inr (id, original, new, was, found')) = absurd (cc)
+one_tested rows asked user other (inr (id, original, new, is, found)) (inl (named, password, scope, was, found')) = absurd (cc)
+one_tested rows asked user other (inr (id, original, new, is, found)) (inr (id', original', new', was, found')) =
+    let same : id ≡ id' = cc in cc
+
+pub one_kept : (rows : Rows) (asked : Command) (salt salt' : List ℕ) (rounds rounds' : ℕ) → IsKept rows asked salt rounds → IsKept rows asked salt' rounds' →
+    (salt ≡ salt') × (rounds ≡ rounds')
+one_kept rows asked salt salt' rounds rounds' a b =
+    let user : a.user ≡ b.user = one_tested rows asked a.user b.user a.tested b.tested in
+    let row : a.row ≡ b.row = some_same _ _ (sym a.keeps ∙ ap (λ (u : UserRow). u.password) user ∙ b.keeps) in
+    (sym a.salt_is ∙ ap (λ (r : PasswordRow). r.salt) row ∙ b.salt_is, sym a.rounds_are ∙ ap (λ (r : PasswordRow). r.rounds) row ∙ b.rounds_are)
+  where
+    some_same : {X : Type 0} (x y : X) → Some x ≡ Some y → x ≡ y
+    some_same x y is = cc

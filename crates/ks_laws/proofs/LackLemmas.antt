@@ -10,7 +10,7 @@ use Rattle.ks_base.specs.declared.users.UserRow.{UserRow}
 use Rattle.ks_base.specs.People.{is_user_named}
 use Rattle.ks_base.specs.Rows.{Id, Text, Rows, user_of}
 use Rattle.ks_base.specs.Tables.{Among}
-use Rattle.ks_laws.specs.Lacking.{IsNewOf, IsTestedOf, IsTokenOf}
+use Rattle.ks_laws.specs.Lacking.{IsNewOf, IsTestedOf, IsTestedUser, IsTokenOf}
 use Rattle.ks_laws.proofs.AsksLemmas.{Asks, asks_behind_found, asks_behind_need, asks_bind, asks_blame, asks_decided, asks_fault, asks_found, asks_go, asks_map, asks_need, asks_unless}
 use Rattle.ks_laws.proofs.ListLemmas.{found_is_among, found_passes}
 use Rattle.ks_laws.proofs.QuietLemmas.{asks_allows, asks_create_domain, asks_create_group, asks_create_project, asks_create_role, asks_create_trust, asks_delete, asks_get, asks_grant, asks_grants_of, asks_is_granted, asks_is_in, asks_lines, asks_load, asks_room, asks_rotate, asks_scoped, asks_update_domain, asks_update_group, asks_update_project, asks_update_role}
@@ -36,6 +36,7 @@ use Rattle.ks_machine.specs.Members.{list_groups_of, implication, implied, imply
 use Rattle.ks_machine.specs.Outcomes.{Outcome}
 use Rattle.ks_machine.specs.Passwords.{change_password, derived, derived_or}
 use Rattle.ks_machine.specs.Scopes.{domain_in, user_in}
+use Rattle.ks_machine.specs.Room.{event_limit}
 use Rattle.ks_machine.specs.States.{State}
 use Rattle.ks_machine.specs.Steps.{answered, as_caller, as_caller_about, caller_of, checked, has_drawn, lacking_of, missing, subject_of}
 use Rattle.ks_machine.specs.TrustCommands.{delete_trust, get_trust, roles_of_trust}
@@ -46,7 +47,7 @@ use Rattle.ks_machine.specs.Validity.{Valid, opens, validity}
 pub record ChecksAsk (P : Lack → Type 0) (known : Known) (S : State) (call : Call) : Type 0 where
   pub token : (text : Text) → IsTokenOf call text → Asks {E = Why} P (opens known S.ring.held text)
   pub tested : (user : UserRow) (row : PasswordRow) (password : Text) → Among S.rows.users user → user.password ≡ Some row →
-      IsTestedOf call.command password → Asks {E = Cause} P (is_password known row password)
+      IsTestedUser S.rows call.command user → IsTestedOf call.command password → Asks {E = Cause} P (is_password known row password)
   pub fresh : (password : Text) → IsNewOf call.command password → has_drawn call.draw ≡ true → Asks {E = Cause} P (derived known S call.draw password)
 
 -- a user that is named stands
@@ -90,11 +91,11 @@ module _ (P : Lack → Type 0) (known : Known) (S : State) (call : Call) (checks
   -- passwords
 
   asks_by_password : (named : Option UserRow) (password : Text) → ((user : UserRow) → named ≡ Some user → Among S.rows.users user) →
-      IsTestedOf call.command password → Asks P (by_password known S.rows named password)
+      ((user : UserRow) → named ≡ Some user → IsTestedUser S.rows call.command user) → IsTestedOf call.command password → Asks P (by_password known S.rows named password)
   unfolding by_password
-  asks_by_password named password stands of =
+  asks_by_password named password stands whose of =
       asks_behind_found P named cause.Credentials _ (λ user is. asks_behind_found P user.password cause.Credentials _ (λ row keeps.
-      asks_bind P _ _ (checks.tested user row password (stands user is) keeps of) (λ same.
+      asks_bind P _ _ (checks.tested user row password (stands user is) keeps (whose user is) of) (λ same.
       asks_bind P _ _ (asks_need P same cause.Credentials) (λ passed. asks_map P _ _ (asks_need P _ _)))))
 
   asks_derived_or : (kept : Option PasswordRow) (password : Option Text) → ((new : Text) → password ≡ Some new → IsNewOf call.command new) →
@@ -107,7 +108,8 @@ module _ (P : Lack → Type 0) (known : Known) (S : State) (call : Call) (checks
       Asks P (change_password known S call.draw id original new)
   unfolding change_password
   asks_change_password id original new is drawn =
-      asks_bind P _ _ (asks_by_password (user_of id S.rows.users) original (found_is_among (λ (r : UserRow). r.id) id S.rows.users) (inr (id, new, is))) (λ user.
+      asks_bind P _ _ (asks_by_password (user_of id S.rows.users) original (found_is_among (λ (r : UserRow). r.id) id S.rows.users)
+      (λ user found. inr (id, original, new, is, found)) (inr (id, new, is))) (λ user.
       asks_map P _ _ (checks.fresh new (inl (id, original, is)) drawn))
 
   -- logins
@@ -115,8 +117,9 @@ module _ (P : Lack → Type 0) (known : Known) (S : State) (call : Call) (checks
   asks_shown : (moment : ℕ) (asked : LoginBody) (by : Proof) → call.command ≡ command.Login asked → asked.proof ≡ by → Asks P (shown known S moment by)
   unfolding shown
   asks_shown moment asked (proof.Password user password) is by =
+      let login = is ∙ ap (λ (p : Proof). command.Login (record { proof = p; scope = asked.scope })) by in
       asks_map P _ _ (asks_by_password (user_in S.rows user) password (named_stands S.rows user)
-      (inl (user, asked.scope, is ∙ ap (λ (p : Proof). command.Login (record { proof = p; scope = asked.scope })) by)))
+      (λ row found. inl (user, password, asked.scope, login, found)) (inl (user, asked.scope, login)))
   asks_shown moment asked (proof.Token text) is by =
       asks_bind P _ _ (asks_blame P _ _ (asks_validity moment false text
       (inr (inr (asked.scope, is ∙ ap (λ (p : Proof). command.Login (record { proof = p; scope = asked.scope })) by))))) (λ token.
@@ -219,4 +222,4 @@ module _ (P : Lack → Type 0) (known : Known) (S : State) (call : Call) (checks
       asks_bind P _ _ (asks_unless P (lacking_of (requirements call.command) call.subject)) (λ whole.
       asks_behind_need P (not (requirements call.command).draws || has_drawn call.draw) cause.Random _ (λ drawn.
       asks_bind P _ _ (asks_need P (not ((requirements call.command).loads && is_failed call.folder)) cause.KeyDir) (λ read.
-      asks_bind P _ _ (asks_answered moment call.command refl drawn) (λ outcome. asks_map P _ _ (asks_room P S moment outcome.change)))))
+      asks_bind P _ _ (asks_answered moment call.command refl drawn) (λ outcome. asks_map P _ _ (asks_room P S moment (event_limit call.command) outcome.change)))))

@@ -1,5 +1,5 @@
 -- Limits, and chains of tokens, on the state of the machine's examples, computed.
-use Rattle.std.proofs.Common.{◌≡◌, ℕ, ◌+◌, List, [], ◌∷◌, ◌++◌, Option, Some, None, true, refl}
+use Rattle.std.proofs.Common.{◌≡◌, ℕ, ◌+◌, List, [], ◌∷◌, ◌++◌, Option, Some, None, true, false, refl}
 use Rattle.std.specs.Prelude.{replicate, codes}
 use Rattle.ks_base.specs.declared.events.EventRow.{EventRow}
 use Rattle.ks_base.specs.declared.events.Revoke.TheVariants as revoke
@@ -56,12 +56,25 @@ an_event = record { what = revoke.Domain (codes "gone"); moment = moment }
 abbrev with_events : ℕ → State
 with_events count = record start { events = replicate count an_event }
 
--- the 262,144th live revocation has room, and one more has none
-revocations_at_their_limit :
-    cause_of (step known (with_events 262143) (call command.RevokeToken ann))
-    ∷ cause_of (step known (with_events 262144) (call command.RevokeToken ann))
+-- what users do for themselves has room for the 131,072nd live revocation, and for none more
+own_revocations_at_their_limit :
+    cause_of (step known (with_events 131071) (call command.RevokeToken ann))
+    ∷ cause_of (step known (with_events 131072) (call command.RevokeToken ann))
     ∷ []
     ≡ None ∷ Some (cause.Full kind.Event) ∷ []
+unfolding the_machine
+own_revocations_at_their_limit = refl
+
+abbrev disabled : Command
+disabled = command.Update (codes "bobby") (made.User None None None None (Some false))
+
+-- who is disabled is disabled all the same: the 262,144th has room, and one more has none
+revocations_at_their_limit :
+    cause_of (step known (with_events 131072) (call disabled ann))
+    ∷ cause_of (step known (with_events 262143) (call disabled ann))
+    ∷ cause_of (step known (with_events 262144) (call disabled ann))
+    ∷ []
+    ≡ None ∷ None ∷ Some (cause.Full kind.Event) ∷ []
 unfolding the_machine
 revocations_at_their_limit = refl
 

@@ -1,5 +1,5 @@
 -- What holds of each row still does where rows are put, dropped or left out; and faults that do not apply.
-use Rattle.std.proofs.Common.{◌≡◌, Bool, true, false, ◌⊎◌, inl, inr, List, [], ◌∷◌, cond, map, Option, Some, None, is_some, refl, sym, ap, subst, ◌∙◌}
+use Rattle.std.proofs.Common.{◌≡◌, ◌<◌, ◌≤◌, Bool, true, false, ◌⊎◌, inl, inr, List, [], ◌∷◌, cond, map, Option, Some, None, is_some, length, refl, sym, ap, subst, ◌∙◌, arith}
 use Rattle.std.specs.Prelude.{not}
 use Rattle.std.specs.List.{AllByRecursion, filter, find}
 use Rattle.std.specs.Ordering.{is_eq}
@@ -9,6 +9,7 @@ use Rattle.ks_base.specs.OrderLaws.{id_exact}
 use Rattle.ks_base.specs.Refusals.{fault_if, first_of}
 use Rattle.ks_base.specs.Rows.{Id, same}
 use Rattle.ks_base.specs.Tables.{Among, drop_row, find_row, id_cmp, put_row}
+use Rattle.ks_base.proofs.ListLemmas.{fewer_behind, fewer_here, no_more_by}
 use Rattle.ks_base.proofs.RowLemmas.{among_drop, among_filter, among_put, find_drop_other, find_put, find_put_other, found_among, eq_is, id_found}
 use Rattle.ks_base.proofs.AmongLemmas.{all_among, among_all}
 use Rattle.ks_laws.specs.Orderly.{Each}
@@ -161,3 +162,16 @@ pub put_standing : {R F : Type 0} (found : Option R) (added : Option F) (Keeps :
     IsPut found added Keeps set
 put_standing None added Keeps set standing stands keeps fits = cc
 put_standing {R} {F} (Some row) added Keeps set standing stands keeps fits = let is : standing ≡ row = cc in (subst Keeps is keeps, fits)
+
+-- of two tests, where each row that passes the one passes the other, no fewer pass that, and more where one row passes it alone
+pub no_fewer : {X : Type 0} (p q : X → Bool) → ((x : X) → p x ≡ true → q x ≡ true) → (rows : List X) → length (filter p rows) ≤ length (filter q rows)
+no_fewer p q more [] = omega arith
+no_fewer p q more (x ∷ rows) = no_more_by (p x) (q x) x (filter p rows) (filter q rows) (more x) (no_fewer p q more rows)
+
+pub more_pass : {X : Type 0} (p q : X → Bool) → ((x : X) → p x ≡ true → q x ≡ true) → (rows : List X) (row : X) → Among rows row → p row ≡ false → q row ≡ true →
+    length (filter p rows) < length (filter q rows)
+more_pass p q more [] row among fails passes = absurd among
+more_pass p q more (x ∷ rows) row (inl is) fails passes =
+    fewer_here (p x) (q x) x (filter p rows) (filter q rows) (ap p is ∙ fails) (ap q is ∙ passes) (no_fewer p q more rows)
+more_pass p q more (x ∷ rows) row (inr among) fails passes =
+    fewer_behind (p x) (q x) x (filter p rows) (filter q rows) (more x) (more_pass p q more rows row among fails passes)

@@ -49,10 +49,10 @@ module _ (P : Lack → Type 0) where
   asks_allows S caller subject asked None = asks_go Cause P _
   asks_allows S caller subject asked (Some action) = asks_need P _ _
 
-  pub asks_room : (S : State) (moment : ℕ) (what : Option Change) → Asks P (room_for S moment what)
+  pub asks_room : (S : State) (moment most : ℕ) (what : Option Change) → Asks P (room_for S moment most what)
   unfolding room_for
-  asks_room S moment None = asks_go Cause P _
-  asks_room S moment (Some what) = asks_need P _ _
+  asks_room S moment most None = asks_go Cause P _
+  asks_room S moment most (Some what) = asks_need P _ _
 
   -- the scope of a login
 

@@ -17,10 +17,10 @@ use Rattle.ks_base.specs.Trees.{TreeState, lies_in}
 use Rattle.ks_base.proofs.RowLemmas.{among_drop, among_filter, among_put}
 use Rattle.ks_base.proofs.TruthLemmas.{not_both}
 use Rattle.ks_base.proofs.OptionLemmas.{none_mapped}
-use Rattle.ks_base.proofs.ListLemmas.{find_kept, length_filter, no_more_by, fewer_here, fewer_behind}
+use Rattle.ks_base.proofs.ListLemmas.{find_kept, length_filter}
 use Rattle.ks_laws.specs.Ancestries.{HasAncestry, IsAncestry}
 use Rattle.ks_laws.specs.Orderly.{AreTreesOrderly, DomainStands, Each}
-use Rattle.ks_laws.proofs.ListLemmas.{after_drop, after_put, each_drop, each_filter, each_put, found_is_among, found_none, is_same, is_there, none_apply, same_is, stands_put, unless_fault}
+use Rattle.ks_laws.proofs.ListLemmas.{after_drop, after_put, each_drop, each_filter, each_put, found_is_among, found_none, is_same, is_there, more_pass, none_apply, same_is, stands_put, unless_fault}
 use Rattle.ks_machine.specs.Lawful.{IsPut}
 use Rattle.ks_machine.specs.Ranges.{IsDomainInRange, IsProjectInRange}
 
@@ -236,18 +236,6 @@ exact (suc n) projects (next ∷ steps) x climb le = rw (climb.0, climb.1) (ap (
 -- how many projects have less than so many above them, as far as that is computed
 lower : ℕ → ℕ → List ProjectRow → List ProjectRow → ℕ
 lower n most projects rows = length (filter (λ row. nat_lt (length (above_within n projects row)) most) rows)
-
-no_fewer : (p q : ProjectRow → Bool) → ((x : ProjectRow) → p x ≡ true → q x ≡ true) → (rows : List ProjectRow) → length (filter p rows) ≤ length (filter q rows)
-no_fewer p q more [] = omega arith
-no_fewer p q more (x ∷ rows) = no_more_by (p x) (q x) x (filter p rows) (filter q rows) (more x) (no_fewer p q more rows)
-
-more_pass : (p q : ProjectRow → Bool) → ((x : ProjectRow) → p x ≡ true → q x ≡ true) → (rows : List ProjectRow) (row : ProjectRow) → Among rows row → p row ≡ false → q row ≡ true →
-    length (filter p rows) < length (filter q rows)
-more_pass p q more [] row among fails passes = absurd among
-more_pass p q more (x ∷ rows) row (inl is) fails passes =
-    fewer_here (p x) (q x) x (filter p rows) (filter q rows) (ap p is ∙ fails) (ap q is ∙ passes) (no_fewer p q more rows)
-more_pass p q more (x ∷ rows) row (inr among) fails passes =
-    fewer_behind (p x) (q x) x (filter p rows) (filter q rows) (more x) (more_pass p q more rows row among fails passes)
 
 further : (a b c : ℕ) → b ≤ c → nat_lt a b ≡ true → nat_lt a c ≡ true
 further a b c le is = grind (arith, nat_tests, le, is)

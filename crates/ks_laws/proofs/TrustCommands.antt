@@ -1,6 +1,6 @@
 -- Making trusts, and what is told of them.
 use Rattle.std.proofs.Common.{◌≡◌, ℕ, suc, ◌+◌, ◌-◌, ◌≤◌, ◌<◌, Bool, true, false, ◌⊎◌, inl, inr, List, [], ◌∷◌, length, Option, Some, None, IfSome, IsSomeAnd, is_some, codes, cond, refl, sym, ap, subst, arith}
-use Rattle.std.specs.Prelude.{nat_lt, ◌&&◌, if◌then◌else◌}
+use Rattle.std.specs.Prelude.{nat_lt, ◌&&◌, if◌then◌else◌, unwrap_or}
 use Rattle.std.specs.List.{filter, find}
 use Rattle.std.specs.Option.{option_and_then, option_map_or, option_or}
 use Rattle.std.specs.declared.cmp.Ordering.{Ordering}
@@ -39,7 +39,7 @@ use Rattle.ks_machine.specs.Effective.{in_order}
 use Rattle.ks_machine.specs.Fit.{IsTrustBody}
 use Rattle.ks_machine.specs.Lawful.{Fits, IsStanding, IsTrustMade}
 use Rattle.ks_machine.specs.Outcomes.{made_id}
-use Rattle.ks_machine.specs.Ranges.{IsExpiry, IsTrustInRange}
+use Rattle.ks_machine.specs.Ranges.{IsExpiry, IsLastOf, IsPassable, IsTrustInRange}
 use Rattle.ks_machine.specs.States.{State, is_domain_on}
 use Rattle.ks_machine.specs.Tables.{standing_project, standing_trust, standing_user}
 use Rattle.ks_machine.specs.Told.{IsRowTellable}
@@ -186,6 +186,13 @@ count_in_range rows asked None held is may = leb-true (count_for asked None) RED
 count_in_range rows asked (Some parent) held is may =
     fewer_by asked.redelegate parent.count (held parent (found_is_among (λ (r : TrustRow). r.id) parent.id rows.trusts parent is.0)).count
 
+-- one that counts its uses is not passed on, so that its count is 0
+last_by : (redelegates : Bool) (remaining : Option ℕ) (count : ℕ) → IsPassable redelegates remaining → IsLastOf (if redelegates then count else 0) remaining
+last_by true None count is = tt
+last_by true (Some uses) count is = cc
+last_by false None count is = tt
+last_by false (Some uses) count is = refl
+
 new_in_range : (rows : Rows) (id : Id) (asked : TrustBody) (parent : Option TrustRow) (ids : List Id) → Each IsTrustHeld rows.trusts → IsTrustBody asked → IsParent rows asked parent →
     may_count asked parent ≡ true → nat_lt 0 (length asked.roles) ≡ true → AreAsked rows (length asked.roles) ids → IsTrustInRange (new_trust id asked parent (in_order ids))
 unfolding new_trust
@@ -195,6 +202,7 @@ new_in_range rows id asked parent ids held body is may some are = record {
   expires = latest asked.expires (option_and_then (λ above. above.expires) parent) body.2 (parent_expires rows asked parent held is);
   remaining = body.3;
   count = count_in_range rows asked parent held is may;
+  last = last_by asked.redelegate asked.remaining (option_map_or (λ above. above.count - 1) parent (unwrap_or asked.count REDELEGATIONS)) body.4;
 }
 
 -- the user of a valid token stands

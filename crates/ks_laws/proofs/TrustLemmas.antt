@@ -1,8 +1,6 @@
 -- Each change of trusts keeps them orderly.
 use Rattle.std.proofs.Common.{◌≡◌, ℕ, ◌-◌, ◌≤◌, Bool, true, false, List, length, Option, Some, None, IfSome, option_map, refl, sym, subst, arith}
 use Rattle.std.specs.Prelude.{not, if◌then◌else◌}
-use Rattle.ks_base.specs.declared.faults.TrustFault.TheVariants as fault
-use Rattle.ks_base.specs.declared.kinds.Kind.TheVariants as kind
 use Rattle.ks_base.specs.declared.limits.TheConstants.{REDELEGATIONS, TRUST_ROLES, USES}
 use Rattle.ks_base.specs.declared.trusts.TrustRow.{TrustRow}
 use Rattle.ks_base.specs.Rows.{Id, Rows, same}
@@ -15,7 +13,7 @@ use Rattle.ks_base.proofs.TrustLemmas.{chained_put, chained_left, chained_used, 
 use Rattle.ks_laws.specs.Orderly.{AreTrustsOrderly, IsTrustHeld}
 use Rattle.ks_laws.proofs.ListLemmas.{each_filter, each_put}
 use Rattle.ks_machine.specs.Lawful.{IsTrustMade}
-use Rattle.ks_machine.specs.Ranges.{AreUses, IsExpiry, IsTrustInRange}
+use Rattle.ks_machine.specs.Ranges.{AreUses, IsExpiry, IsLastOf, IsTrustInRange}
 use Rattle.ks_machine.specs.TrustCommands.{roles_to_give}
 
 -- a new trust
@@ -31,6 +29,7 @@ new_held trust range = record {
   expires = range.expires;
   remaining = held_uses trust.remaining range.remaining;
   count = range.count;
+  last = range.last;
 }
 
 pub trusts_put : (rows : Rows) (moment : ℕ) (new : TrustRow) → IsTrustMade rows moment new → AreTrustsOrderly rows.trusts → AreTrustsOrderly (put_row id_cmp (λ r. r.id) new rows.trusts)
@@ -66,13 +65,23 @@ fewer_uses : (trust : TrustRow) (b : Bool) → IfSome trust.remaining (λ uses. 
 fewer_uses trust true is = one_less trust.remaining is
 fewer_uses trust false is = is
 
-held_on : (next trust : TrustRow) → IsSameBut next trust → (IfSome trust.remaining (λ uses. uses ≤ USES) → IfSome next.remaining (λ uses. uses ≤ USES)) → IsTrustHeld trust → IsTrustHeld next
-held_on next trust like fewer held = record {
+still_last : (count : ℕ) (remaining : Option ℕ) → IsLastOf count remaining → IsLastOf count (option_map (λ left. left - 1) remaining)
+still_last count None is = tt
+still_last count (Some uses) is = is
+
+used_last : (trust : TrustRow) (b : Bool) → IsLastOf trust.count trust.remaining → IsLastOf trust.count (if b then used trust else trust).remaining
+used_last trust true is = still_last trust.count trust.remaining is
+used_last trust false is = is
+
+held_on : (next trust : TrustRow) → IsSameBut next trust → (IfSome trust.remaining (λ uses. uses ≤ USES) → IfSome next.remaining (λ uses. uses ≤ USES)) →
+    IsLastOf trust.count next.remaining → IsTrustHeld trust → IsTrustHeld next
+held_on next trust like fewer last held = record {
   roles_least = subst (λ (roles : List Id). 1 ≤ length roles) (sym like.roles) held.roles_least;
   roles_most = subst (λ (roles : List Id). length roles ≤ TRUST_ROLES) (sym like.roles) held.roles_most;
   expires = subst (λ (o : Option ℕ). IfSome o IsExpiry) (sym like.expires) held.expires;
   remaining = fewer held.remaining;
   count = subst (λ (n : ℕ). n ≤ REDELEGATIONS) (sym like.count) held.count;
+  last = subst (λ (n : ℕ). IsLastOf n next.remaining) (sym like.count) last;
 }
 
 pub trusts_used : (of : Id) (trusts : List TrustRow) → AreTrustsOrderly trusts → AreTrustsOrderly (use_trust of trusts)
@@ -83,4 +92,5 @@ trusts_used of trusts old = record {
   where
     of_one : (next : TrustRow) → (trust : TrustRow) × Among trusts trust × (after_use of trust ≡ next) → IsTrustHeld next
     of_one next (trust, among, is) =
-        subst IsTrustHeld is (held_on (after_use of trust) trust (use_leaves of trust) (fewer_uses trust (same trust.id of)) (old.range trust among))
+        subst IsTrustHeld is (held_on (after_use of trust) trust (use_leaves of trust) (fewer_uses trust (same trust.id of))
+        (used_last trust (same trust.id of) (old.range trust among).last) (old.range trust among))

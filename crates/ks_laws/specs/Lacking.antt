@@ -2,7 +2,7 @@
 use Rattle.std.specs.Prelude.{◌≡◌, ◌⊎◌, ℕ, ◌≤◌, Bool, List, length, Option, Some, None, IfSome}
 use Rattle.ks_base.specs.declared.users.PasswordRow.{PasswordRow}
 use Rattle.ks_base.specs.declared.users.UserRow.{UserRow}
-use Rattle.ks_base.specs.Rows.{Id, Text}
+use Rattle.ks_base.specs.Rows.{Id, Rows, Text, user_of}
 use Rattle.ks_base.specs.Tables.{Among}
 use Rattle.ks_laws.specs.Orderly.{Each}
 use Rattle.ks_machine.specs.declared.bodies.Made.TheVariants as made
@@ -15,22 +15,31 @@ use Rattle.ks_machine.specs.declared.command.Command.TheVariants as command
 use Rattle.ks_machine.specs.Attempts.{Known, Lack, Keys, Stored, Fresh}
 use Rattle.ks_machine.specs.Outcomes as outcomes
 use Rattle.ks_machine.specs.Ranges.{AreRounds}
+use Rattle.ks_machine.specs.Scopes.{user_in}
 use Rattle.ks_machine.specs.States.{State}
 
--- a user that stands keeps of a password this salt and these rounds
-pub record IsKept (users : List UserRow) (salt : List ℕ) (rounds : ℕ) : Type 0 where
+-- the user whose password a command tests: who is named in a login, or whose password is changed
+abbrev pub IsTestedUser : Rows → Command → UserRow → Type 0
+IsTestedUser rows asked user =
+    ((named : UserNamed) × (password : Text) × (scope : ScopeIn)
+    × (asked ≡ command.Login (record { proof = proof.Password named password; scope = scope })) × (user_in rows named ≡ Some user))
+    ⊎ ((id : Id) × (original : Text) × (new : Text) × (asked ≡ command.ChangePassword id original new) × (user_of id rows.users ≡ Some user))
+
+-- the user whose password the command tests stands, and keeps of it this salt and these rounds
+pub record IsKept (rows : Rows) (asked : Command) (salt : List ℕ) (rounds : ℕ) : Type 0 where
   pub user : UserRow
-  pub stands : Among users user
+  pub tested : IsTestedUser rows asked user
+  pub stands : Among rows.users user
   pub row : PasswordRow
   pub keeps : user.password ≡ Some row
   pub salt_is : row.salt ≡ salt
   pub rounds_are : row.rounds ≡ rounds
 
--- it can be found out: there are keys, and each is held; or rounds are in range, of a salt that is kept with them, or of the 16 bytes
+-- it can be found out: there are keys, and each is held; or rounds are in range, of the salt that is kept with them, or of the 16 bytes
 -- that were drawn for the rounds of the settings
 abbrev pub IsLack : State → Call → Lack → Type 0
 IsLack S call (Keys keys) = (1 ≤ length keys) × Each (Among S.ring.held) keys
-IsLack S call (Stored salt rounds) = IsKept S.rows.users salt rounds × AreRounds rounds
+IsLack S call (Stored salt rounds) = IsKept S.rows call.command salt rounds × AreRounds rounds
 IsLack S call (Fresh salt rounds) =
     (salt ≡ outcomes.salt call.draw) × (length salt ≡ 16) × (rounds ≡ S.settings.rounds) × AreRounds rounds
 

@@ -5,7 +5,8 @@ use Rattle.ks_base.specs.declared.rows.ProjectRow.{ProjectRow}
 use Rattle.ks_base.specs.declared.trusts.TrustRow.{TrustRow}
 use Rattle.ks_base.specs.Rows.{Id, project_of, trust_of}
 use Rattle.ks_base.specs.Tree.{above}
-use Rattle.ks_base.specs.Trusts.{LeadsTo, first_trustor}
+use Rattle.ks_base.specs.Tables.{Among}
+use Rattle.ks_base.specs.Trusts.{LeadsTo, first_trustor, parent_trust}
 use Rattle.ks_laws.specs.Ancestries.{IsAncestry}
 use Rattle.ks_laws.specs.Lacking.{AreSalted, IsLack, IsUnknown}
 use Rattle.ks_laws.specs.Orderly.{IsOrderly}
@@ -20,7 +21,7 @@ use Rattle.ks_machine.specs.Lawful.{Fits, IsLawful, IsOpeningInRange}
 use Rattle.ks_machine.specs.Moment.{last_moment}
 use Rattle.ks_machine.specs.Opened.{open_fault, opened_state}
 use Rattle.ks_machine.specs.Openings.{PlainOpening}
-use Rattle.ks_machine.specs.Room.{room_for}
+use Rattle.ks_machine.specs.Room.{event_limit, room_for}
 use Rattle.ks_machine.specs.States.{State, raised}
 use Rattle.ks_machine.specs.Steps.{Needs, Replies, step, step_at}
 use Rattle.ks_machine.specs.Told.{IsTellable}
@@ -38,7 +39,7 @@ StepsFit =
     (known : Known) (S : State) (moment : ℕ) (call : Call) (told : Reply) (change : Option Change)
     → IsOrderly S → S.high ≤ moment → moment ≤ last_moment → S.made < 2 ^ 58 → Fit call
     → step_at known S moment call ≡ Replies told change
-    → IsTellable told × FitsIf S moment change × (room_for S moment change ≡ Go tt)
+    → IsTellable told × FitsIf S moment change × (room_for S moment (event_limit call.command) change ≡ Go tt)
 
 -- a change that fits leaves the state orderly, and so does the time
 abbrev pub ChangesKeepOrderly : Type 0
@@ -95,6 +96,12 @@ LawfulIsOrderly = (f : Front) → IsLawful f → IsOrderly (replay f)
 -- each change is counted
 abbrev pub CountsChanges : Type 0
 CountsChanges = (f : Front) → IsLawful f → (replay f).made ≡ length f.changes
+
+-- no trust that counts its uses has a child, so that each use of what it gives is counted
+abbrev pub CountedAreLast : Type 0
+CountedAreLast =
+    (f : Front) (trust parent : TrustRow) → IsLawful f → Among (replay f).rows.trusts trust
+    → parent_trust (replay f).rows.trusts trust.parent ≡ Some parent → parent.remaining ≡ None
 
 abbrev pub RepliesAreTellable : Type 0
 RepliesAreTellable = (f : Front) (call : Call) → IsLawful f → Fit call → IsTellable (answer f call)

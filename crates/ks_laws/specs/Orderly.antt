@@ -17,7 +17,7 @@ use Rattle.ks_base.specs.Tables.{Among, IsAscending, id_cmp}
 use Rattle.ks_base.specs.Trusts.{AreChained}
 use Rattle.ks_laws.specs.Ancestries.{HasAncestry}
 use Rattle.ks_machine.specs.Lawful.{ActorStands, IsStanding, TargetStands}
-use Rattle.ks_machine.specs.Ranges.{IsDomainInRange, IsExpiry, IsGroupInRange, IsProjectInRange, IsRoleInRange, IsSettings, IsUserInRange}
+use Rattle.ks_machine.specs.Ranges.{IsDomainInRange, IsExpiry, IsGroupInRange, IsLastOf, IsProjectInRange, IsRoleInRange, IsSettings, IsUserInRange}
 use Rattle.ks_machine.specs.States.{State}
 
 -- each of the rows
@@ -47,13 +47,14 @@ pub record ArePeopleOrderly (domains : List DomainRow) (users : List UserRow) (g
   pub group_homes : Each (λ row. DomainStands domains row.domain) groups
   pub names : AreNamesUnique users
 
--- a trust that stands: as it was made, with no more uses
+-- a trust that stands: as it was made, with no more uses; none may follow below one whose uses are counted
 pub record IsTrustHeld (trust : TrustRow) : Type 0 where
   pub roles_least : 1 ≤ length trust.roles
   pub roles_most : length trust.roles ≤ TRUST_ROLES
   pub expires : IfSome trust.expires IsExpiry
   pub remaining : IfSome trust.remaining (λ uses. uses ≤ USES)
   pub count : trust.count ≤ REDELEGATIONS
+  pub last : IsLastOf trust.count trust.remaining
 
 -- trusts: in range, and each behind its parent, with a lower count
 pub record AreTrustsOrderly (trusts : List TrustRow) : Type 0 where

@@ -2,7 +2,7 @@
 //! a function that does nothing.
 #![tactic(auto)]
 
-ghost use Rattle.ks_laws.specs.Laws.{AnswersAreReplies, ChangesKeepOrderly, CountsChanges, EarlierIsLawful, KeptSaltsAreWhole, LacksAreInRange, LacksAreUnknown, LawfulGoesOn, LawfulIsOrderly, LawfulIsSound, MomentsKeepLawful, OpenedIsOrderly, OpeningIsLawful, ProjectsAreClimbed, RepliesAreTellable, StepsFit, TimeKeepsOrderly, TrustsLead};
+ghost use Rattle.ks_laws.specs.Laws.{AnswersAreReplies, ChangesKeepOrderly, CountedAreLast, CountsChanges, EarlierIsLawful, KeptSaltsAreWhole, LacksAreInRange, LacksAreUnknown, LawfulGoesOn, LawfulIsOrderly, LawfulIsSound, MomentsKeepLawful, OpenedIsOrderly, OpeningIsLawful, ProjectsAreClimbed, RepliesAreTellable, StepsFit, TimeKeepsOrderly, TrustsLead};
 
 /// An accepted opening opens an orderly state. What a step of one tells can be told, and the change that it makes fits and
 /// leaves an orderly state, with whatever facts the step was taken.
@@ -35,10 +35,11 @@ pub fn lawful_fronts_go_on()
 {}
 
 /// Rows of a lawful front's state have their ranges and stand in their order, and what they name stands; each change is
-/// counted.
+/// counted. A trust that counts its uses is nowhere passed on.
 pub fn lawful_states_are_orderly()
     ensures orderly { LawfulIsOrderly }
     ensures counted { CountsChanges }
+    ensures uses { CountedAreLast }
 {}
 
 /// Each moment in a reply has a text.

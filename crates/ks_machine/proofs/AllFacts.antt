@@ -370,10 +370,10 @@ whole_answered S moment call command.Events = whole_as_caller S moment call _ (�
 whole_answered S moment call command.RotateKeys = whole_as_caller S moment call _ (λ caller. whole_rotate S call.draw)
 whole_answered S moment call command.LoadKeys = whole_as_caller S moment call _ (λ caller. whole_load S call.folder)
 
-whole_room : (S : State) (moment : ℕ) (what : Option Change) → IsWhole (room_for S moment what)
+whole_room : (S : State) (moment most : ℕ) (what : Option Change) → IsWhole (room_for S moment most what)
 unfolding room_for
-whole_room S moment None = whole_go Cause _
-whole_room S moment (Some what) = whole_need _ _
+whole_room S moment most None = whole_go Cause _
+whole_room S moment most (Some what) = whole_need _ _
 
 whole_checked : (S : State) (moment : ℕ) (call : Call) → IsWhole (checked everything S moment call)
 unfolding checked

@@ -29,7 +29,7 @@ use Rattle.ks_machine.specs.declared.call.FolderRead.TheVariants as folder
 use Rattle.ks_machine.specs.declared.command.Command.{Command}
 use Rattle.ks_machine.specs.declared.command.Command.TheVariants as command
 use Rattle.ks_machine.specs.Actions.{requirements}
-use Rattle.ks_machine.specs.Ranges.{AreUses, IsDescription, IsExpiry, IsName, IsPassword}
+use Rattle.ks_machine.specs.Ranges.{AreUses, IsDescription, IsExpiry, IsName, IsPassable, IsPassword}
 use Rattle.ks_ring.specs.Rings.{refusal_of}
 
 -- a command that draws has 64 bytes, or its draw failed
@@ -122,6 +122,7 @@ IsMade new (made.Role id name description) = IsMadeName new id name × IfSome de
 abbrev pub IsTrustBody : TrustBody → Type 0
 IsTrustBody body =
     AllByRecursion IsNamed body.roles × (length body.roles ≤ TRUST_ROLES) × IfSome body.expires IsExpiry × IfSome body.remaining AreUses
+    × IsPassable body.redelegate body.remaining
 
 abbrev pub AreFields : Command → Type 0
 AreFields (command.Login body) = IsProof body.proof × IsScope body.scope

@@ -6,8 +6,10 @@ use Rattle.ks_base.specs.declared.grants.Actor.TheVariants as actor
 use Rattle.ks_base.specs.declared.grants.GrantRow.{GrantRow}
 use Rattle.ks_base.specs.declared.grants.Target.{Target}
 use Rattle.ks_base.specs.declared.grants.Target.TheVariants as target
+use Rattle.ks_base.specs.declared.kinds.Kind.TheVariants as kind
 use Rattle.ks_base.specs.declared.limits.TheConstants.{LAST_KEY_INDEX}
 use Rattle.ks_base.specs.declared.trusts.TrustRow.{TrustRow}
+use Rattle.ks_base.specs.Limits.{limit}
 use Rattle.ks_base.specs.Rows.{Rows, domain_of, group_of, project_of, role_of, trust_of, user_of}
 use Rattle.ks_base.specs.Trusts.{FollowsParent, creation_fault, use_fault}
 use Rattle.ks_machine.specs.declared.change.Change.{Change}
@@ -111,7 +113,7 @@ unfoldable pub AreLawful : State → ℕ → List Entry → ℕ → Type 0
 AreLawful S last [] high = last ≤ high
 AreLawful S last (entry ∷ entries) high =
     (entry.number ≡ S.made) × (last ≤ entry.moment) × Fits S entry.moment entry.change
-    × (room_for S entry.moment (Some entry.change) ≡ Go tt) × AreLawful (apply S entry.moment entry.change) entry.moment entries high
+    × (room_for S entry.moment (limit kind.Event) (Some entry.change) ≡ Go tt) × AreLawful (apply S entry.moment entry.change) entry.moment entries high
 
 -- the rows of an opening have their ranges
 pub record IsOpeningInRange (opening : PlainOpening) : Type 0 where

@@ -1,5 +1,5 @@
 -- The ranges of fields (Identity API v3; own limits).
-use Rattle.std.specs.Prelude.{ℕ, ◌≤◌, IfSome, length}
+use Rattle.std.specs.Prelude.{◌≡◌, ℕ, ◌≤◌, Bool, true, false, Option, None, IfSome, length}
 use Rattle.ks_base.specs.declared.limits.TheConstants.{DESCRIPTION_BYTES, KEYS, LAST_SECOND, LONGEST_LIFE, NAME_BYTES, PASSWORD_BYTES, REDELEGATIONS, ROUNDS, SHORTEST_LIFE, TRUST_ROLES, USES}
 use Rattle.ks_base.specs.declared.rows.DomainRow.{DomainRow}
 use Rattle.ks_base.specs.declared.rows.GroupRow.{GroupRow}
@@ -45,6 +45,15 @@ IsExpiry expires = expires ≤ LAST_SECOND
 abbrev pub AreUses : ℕ → Type 0
 AreUses uses = (1 ≤ uses) × (uses ≤ USES)
 
+-- a trust that counts its uses can't be passed on
+abbrev pub IsPassable : Bool → Option ℕ → Type 0
+IsPassable true remaining = remaining ≡ None
+IsPassable false remaining = Unit {0}
+
+-- so none may follow below it
+abbrev pub IsLastOf : ℕ → Option ℕ → Type 0
+IsLastOf count remaining = IfSome remaining (λ uses. count ≡ 0)
+
 -- a new trust; the count of one with a parent follows from the parent's
 pub record IsTrustInRange (row : TrustRow) : Type 0 where
   pub roles_least : 1 ≤ length row.roles
@@ -52,6 +61,7 @@ pub record IsTrustInRange (row : TrustRow) : Type 0 where
   pub expires : IfSome row.expires IsExpiry
   pub remaining : IfSome row.remaining AreUses
   pub count : row.count ≤ REDELEGATIONS
+  pub last : IsLastOf row.count row.remaining
 
 pub record IsSettings (settings : Settings) : Type 0 where
   pub life_least : SHORTEST_LIFE ≤ settings.life

@@ -27,7 +27,7 @@ use Rattle.ks_machine.specs.Login.{login, told_token}
 use Rattle.ks_machine.specs.Members.{grant, grants_of, list_groups_of, implication, implied, imply, is_granted, is_implied, is_in, join, leave, list_members_of, ungrant, unimply}
 use Rattle.ks_machine.specs.Outcomes.{Outcome, changes, tells}
 use Rattle.ks_machine.specs.Passwords.{change_password}
-use Rattle.ks_machine.specs.Room.{room_for}
+use Rattle.ks_machine.specs.Room.{event_limit, room_for}
 use Rattle.ks_machine.specs.States.{State, raised}
 use Rattle.ks_machine.specs.Targets.{credentials, target_of}
 use Rattle.ks_machine.specs.TrustCommands.{create_trust, delete_trust, get_trust, list_trusts, roles_of_trust}
@@ -140,7 +140,7 @@ checked known S moment call = do
   _ ← need (not (requirements call.command).draws || has_drawn call.draw) cause.Random
   _ ← need (not ((requirements call.command).loads && is_failed call.folder)) cause.KeyDir
   outcome ← answered known S moment call call.command
-  _ ← room_for S moment outcome.change
+  _ ← room_for S moment (event_limit call.command) outcome.change
   Go outcome
 
 -- one step: a reply and the change that it makes, or the fact that is lacking

@@ -1,4 +1,8 @@
+ghost use Rattle.std.specs.Prelude.{◌≡◌};
+ghost use Rattle.ks_machine.specs.Room.{event_limit};
+
 use crate::{LoginBody, Made, TrustBody};
+use ks_base::limits::{EVENTS, SELF_REVOCATIONS};
 use ks_base::{Actor, Filter, GrantRow, Id, ImplyRow, Kind, MemberRow, Target, Text};
 
 /// What a request asks for, by the route that it came on.
@@ -89,6 +93,20 @@ impl Drop for Command {
             | Command::Events
             | Command::RotateKeys
             | Command::LoadKeys => {}
+        }
+    }
+}
+
+impl Command {
+    /// How many revocations may be live with those that the command writes.
+    pub fn event_limit(&self) -> usize
+        ensures { result ≡ event_limit self.now }
+    {
+        match self {
+            Command::RevokeToken | Command::ChangePassword(_, _, _) | Command::DeleteTrust(_) => {
+                SELF_REVOCATIONS
+            }
+            _ => EVENTS,
         }
     }
 }

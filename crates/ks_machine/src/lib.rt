@@ -3,6 +3,7 @@
 //! passwords, and the lines of a token's validity that its keys, its payload and the time decide.
 #![tactic(auto)]
 
+mod assignments;
 mod bodies;
 mod body_out;
 mod call;
@@ -17,6 +18,7 @@ mod reply;
 mod settings;
 mod why;
 
+pub use assignments::{asks_for_effective, user_lacking};
 pub use bodies::{
     LoginBody, Made, Named, NamedList, ProjectNamed, Proof, ScopeIn, TrustBody, UserNamed,
 };

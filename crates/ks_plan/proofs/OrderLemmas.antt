@@ -13,7 +13,7 @@ use Rattle.ks_machine.specs.Passwords.{change_password}
 use Rattle.ks_machine.specs.TrustCommands.{create_trust}
 use Rattle.ks_machine.specs.Openings.{NamedRule}
 use Rattle.ks_machine.specs.Outcomes.{Outcome}
-use Rattle.ks_machine.specs.Room.{room_for}
+use Rattle.ks_machine.specs.Room.{event_limit, room_for}
 use Rattle.ks_machine.specs.States.{State}
 use Rattle.ks_machine.specs.Steps.{allows, answered, as_caller, as_caller_about, caller_of, checked, has_drawn, lacking_of, missing, revoked_subject, subject_of}
 use Rattle.ks_machine.specs.Validity.{Valid}
@@ -42,7 +42,7 @@ room_comes_last known S moment call =
     behind_three (unless (lacking_of (requirements call.command) call.subject))
     (need (not (requirements call.command).draws || has_drawn call.draw) cause.Random)
     (need (not ((requirements call.command).loads && is_failed call.folder)) cause.KeyDir)
-    (answered known S moment call call.command) (λ outcome. room_for S moment outcome.change >>= (λ _. Go outcome))
+    (answered known S moment call call.command) (λ outcome. room_for S moment (event_limit call.command) outcome.change >>= (λ _. Go outcome))
 
 -- the parties first
 

@@ -22,7 +22,7 @@ use Rattle.ks_machine.specs.Members.{grant, grants_of, list_groups_of, implicati
 use Rattle.ks_machine.specs.Openings.{NamedRule}
 use Rattle.ks_machine.specs.Outcomes.{Outcome, tells}
 use Rattle.ks_machine.specs.Passwords.{change_password}
-use Rattle.ks_machine.specs.Room.{room_for}
+use Rattle.ks_machine.specs.Room.{event_limit, room_for}
 use Rattle.ks_machine.specs.States.{State}
 use Rattle.ks_machine.specs.Steps.{answered, caller_of, checked, has_drawn, lacking_of, missing, revoked_subject, subject_of}
 use Rattle.ks_machine.specs.Targets.{credentials, target_of}
@@ -40,7 +40,7 @@ planned known S moment call = do
 -- and with that check they are the machine's
 abbrev pub RoomComesLast : Type 0
 RoomComesLast = (known : Known) (S : State) (moment : ℕ) (call : Call) →
-    checked known S moment call ≡ (planned known S moment call >>= (λ outcome. room_for S moment outcome.change >>= (λ _. Go outcome)))
+    checked known S moment call ≡ (planned known S moment call >>= (λ outcome. room_for S moment (event_limit call.command) outcome.change >>= (λ _. Go outcome)))
 
 -- the same in the order of the code: who is admitted, and then the command's own checks
 

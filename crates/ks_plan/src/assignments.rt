@@ -1,7 +1,7 @@
 //! Who has which role where (Identity API v3, role assignments): the grants, or what they give one user.
 ghost use Rattle.std.specs.Prelude.{◌≡◌, ◌&&◌, codes, filter, option_copied, IfOk};
 ghost use Rattle.ks_auth.specs.Answers.{rows_told};
-ghost use Rattle.ks_machine.specs.Assignments.{agrees, asks_for_effective, assignments, domain_of_target, effective_of, group_of_actor, is_listed, is_yes, project_of_target, rows_asked, system_of_target, user_of_actor};
+ghost use Rattle.ks_machine.specs.Assignments.{agrees, assignments, domain_of_target, effective_of, group_of_actor, is_listed, project_of_target, rows_asked, system_of_target, user_of_actor};
 ghost use Rattle.ks_plan.specs.Plans.{outcome_of};
 
 use crate::Plan;
@@ -9,7 +9,7 @@ use crate::effective::given_to_text;
 use crate::filters::value_in;
 use ks_auth::Tables;
 use ks_base::{Actor, FieldList, Filter, GrantList, GrantRow, Memory, Target, Text};
-use ks_machine::BodyOut;
+use ks_machine::{BodyOut, asks_for_effective};
 use std::alloc::Global;
 
 /// Whether a filter is not given, or is this id.
@@ -98,22 +98,6 @@ fn are_all(first: bool, second: bool, third: bool) -> bool
     ensures { result ≡ (first && (second && third)) }
 {
     first && second && third
-}
-
-fn is_yes(text: &Text) -> bool
-    ensures { result ≡ is_yes text.now }
-{
-    !(text.as_slice() == b"0".as_slice() || text.as_slice() == b"false".as_slice())
-}
-
-/// Whether the listing asks for effective roles.
-fn asks_for_effective(fields: &FieldList) -> bool
-    ensures { result ≡ asks_for_effective fields.now }
-{
-    match value_in(fields, "effective") {
-        Some(text) => is_yes(text),
-        None => false,
-    }
 }
 
 /// All that is given to the user whom the listing names.

@@ -1,17 +1,13 @@
 //! What each command asks for before its own checks.
 ghost use Rattle.std.specs.Prelude.{◌≡◌, true};
-ghost use Rattle.std.specs.Option.{option_copied};
 ghost use Rattle.ks_machine.specs.Actions.{draws_for, open_to_all, requirements};
-ghost use Rattle.ks_machine.specs.Assignments.{asks_for_effective, user_lacking};
 ghost use Rattle.ks_plan.specs.Views.{asks_for, requirements_of};
 
 use crate::actions::{
     creation_action, deletion_action, get_action, grant_action, grant_check_action, grants_action,
     listing_action, revocation_action, update_action,
 };
-use crate::filters::value_in;
-use ks_base::FieldList;
-use ks_machine::{Command, Made};
+use ks_machine::{Command, Made, user_lacking};
 
 /// What a command asks for before its own checks.
 #[derive(Clone, Copy)]
@@ -81,27 +77,6 @@ fn draws_for(made: &Made) -> bool
         Made::User { .. } => true,
         Made::Domain { .. } | Made::Project { .. } | Made::Group { .. } | Made::Role { .. } =>
             false,
-    }
-}
-
-/// The user whom a listing of effective roles does not name.
-fn user_lacking(filters: &FieldList) -> Option<&'static str>
-    ensures { option_copied result ≡ user_lacking filters.now }
-{
-    if asks_for_effective(filters) && value_in(filters, "user.id").is_none() {
-        Some("user.id")
-    } else {
-        None
-    }
-}
-
-/// Whether a listing asks for effective roles.
-fn asks_for_effective(filters: &FieldList) -> bool
-    ensures { result ≡ asks_for_effective filters.now }
-{
-    match value_in(filters, "effective") {
-        Some(text) => text.as_str() != "0" && text.as_str() != "false",
-        None => false,
     }
 }
 

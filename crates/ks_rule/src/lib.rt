@@ -16,5 +16,6 @@ mod truth;
 mod writer;
 
 pub use credentials::{Attributes, Credentials};
+pub use kind::value_in;
 pub use rule::Rule;
 pub use truth::NamedRules;
