@@ -1,0 +1,5 @@
+mod RoleLists
+mod TimeLemmas
+mod ValidLemmas
+mod TellLemmas
+mod EndLemmas

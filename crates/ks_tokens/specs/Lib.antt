@@ -1,0 +1,2 @@
+pub mod ValidTokens
+pub mod Laws
