@@ -1,11 +1,10 @@
 -- What is decided, where an identity stands for fronts that keep all their changes.
-use Rattle.std.proofs.Common.{ℕ, ◌≤◌, inl, inr, length, None, ap, arith, length-append}
+use Rattle.std.proofs.Common.{ℕ, ◌≤◌, inl, inr, length, None, ap, subst, arith, length-append}
 use Rattle.ks_auth.specs.Facts.{FactsState, told}
-use Rattle.ks_laws.specs.Lacking.{IsLack}
-use Rattle.ks_laws.specs.Laws.{LacksAreInRange, LawfulIsOrderly}
+use Rattle.ks_base.specs.declared.limits.TheConstants.{KEYS}
+use Rattle.ks_laws.specs.Laws.{LacksAreInRange, LacksAreUnknown, LawfulIsOrderly}
 use Rattle.ks_machine.specs.declared.call.Call.{Call}
 use Rattle.ks_machine.specs.declared.reply.Reply.{Reply}
-use Rattle.ks_machine.specs.Attempts.{Lack, Keys, Stored, Fresh}
 use Rattle.ks_machine.specs.Fit.{Fit}
 use Rattle.ks_machine.specs.Fronts.{Front, ◌⊑◌, after, replay, then}
 use Rattle.ks_machine.specs.Moment.{moment_of}
@@ -13,7 +12,7 @@ use Rattle.ks_machine.specs.States.{State}
 use Rattle.ks_machine.proofs.FrontLemmas.{calls_go_on}
 use Rattle.ks_state.specs.declared.decision.Decision.{Decision}
 use Rattle.ks_state.specs.declared.decision.Decision.TheVariants as decision
-use Rattle.ks_state.specs.Decides.{DecidedBy, IsInRange, Replied, with_kept}
+use Rattle.ks_state.specs.Decides.{DecidedBy, Replied, with_kept}
 use Rattle.ks_state.specs.Deciding.{Decided}
 use Rattle.ks_state.specs.Replies.{IsReply}
 use Rattle.ks_state.specs.Shown.{Shown}
@@ -44,21 +43,21 @@ replied : (f : Front) (call : Call) (said : Reply) (new : Shown) → IsReply f c
 replied f call said new (inl (is, stands)) = inl (is, keeps_all new (after f call) stands)
 replied f call said new (inr (is, stands)) = inr (is, inl (keeps_all new (then f (moment_of f.high call.reading) None) stands))
 
-in_range : (S : State) (call : Call) (lack : Lack) → IsLack S call lack → IsInRange lack
-in_range S call (Keys keys) is = tt
-in_range S call (Stored salt rounds) is = is.1
-in_range S call (Fresh salt rounds) is = is.3
-
-pub decided_by : (facts : FactsState) (f : Front) (call : Call) (decided : Decision) (old new : Shown) → LawfulIsOrderly → LacksAreInRange → Fit call → Stands old f →
-    Decided f call facts decided old new → DecidedBy StandsWithAllKept changes_made f call facts decided old new
-decided_by facts f call (decision.Done said) old new orderly ranges fit stands is = replied f call said new is
-decided_by facts f call (decision.Needs needs) old new orderly ranges fit stands (lack, names, lacks, same) = (
-  lack,
-  names,
-  in_range (replay f) call lack (ranges (told facts) (replay f) (moment_of (replay f).high call.reading) call lack (orderly f stands.lawful) fit lacks),
-  lacks,
-  same,
-)
+pub decided_by : (facts : FactsState) (f : Front) (call : Call) (decided : Decision) (old new : Shown) → LawfulIsOrderly → LacksAreInRange → LacksAreUnknown →
+    length old.state.ring.held ≤ KEYS → Fit call → Stands old f → Decided f call facts decided old new → DecidedBy StandsWithAllKept changes_made f call facts decided old new
+decided_by facts f call (decision.Done said) old new orderly ranges unknown few fit stands is = replied f call said new is
+decided_by facts f call (decision.Needs needs) old new orderly ranges unknown few fit stands (lack, names, lacks, same) =
+    let moment = moment_of (replay f).high call.reading in (
+      record {
+        lack = lack;
+        names = names;
+        lacks = lacks;
+        found = ranges (told facts) (replay f) moment call lack (orderly f stands.lawful) fit lacks;
+        unknown = unknown (told facts) (replay f) moment call lack lacks;
+        few = subst (λ (S : State). length S.ring.held ≤ KEYS) stands.state few;
+      },
+      same,
+    )
 
 longer : (f g : Front) → f ⊑ g → length f.changes ≤ length g.changes
 longer f g on = omega (arith, ap length on.changes, length-append f.changes on.later)

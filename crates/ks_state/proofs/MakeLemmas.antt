@@ -29,19 +29,19 @@ parts settings rules ring rows log = record {
 abbrev pub roomy : ℕ → ℕ → Logged → Logged
 roomy room places log = record log { revoked = record log.revoked { room = room }; places = places }
 
-pub made : (settings : Settings) (rules : List NamedRule) (ring : RingState) (rows left : Rows) (log ready done : Logged) (things : List Revoke) (what : Change) →
-    ready ≡ roomy ready.revoked.room ready.places log → done ≡ written things what done.revoked.room done.places ready →
+pub made : (most : ℕ) (settings : Settings) (rules : List NamedRule) (ring : RingState) (rows left : Rows) (log ready done : Logged) (things : List Revoke) (what : Change) →
+    ready ≡ roomy ready.revoked.room ready.places log → done ≡ written things what done.revoked.marks done.revoked.room done.places ready →
     things ≡ ended_by rows what → left ≡ rows_after rows what → ring ≡ ring_after (parts settings rules ring rows log).state what →
-    is_room log.revoked.events (length things) ≡ true → log.made < 2 ^ 58 →
-    HasRoom (parts settings rules ring rows log) what × (parts settings rules ring left done ≡ changed what (parts settings rules ring rows log))
+    is_room most log.revoked.events (length things) ≡ true → log.made < 2 ^ 58 →
+    HasRoom most (parts settings rules ring rows log) what × (parts settings rules ring left done ≡ changed what (parts settings rules ring rows log))
 unfolding apply
-made settings rules ring rows left log ready done things what roomier is ends leaves turns room few = (
-  (subst (λ (l : List Revoke). is_room log.revoked.events (length l) ≡ true) ends room, few),
+made most settings rules ring rows left log ready done things what roomier is ends leaves turns room few = (
+  (subst (λ (l : List Revoke). is_room most log.revoked.events (length l) ≡ true) ends room, few),
   ap {A = Logged} (λ d. parts settings rules ring left d)
-      (is ∙ ap {A = Logged} (λ r. written things what done.revoked.room done.places r) roomier
-      ∙ ap {A = List Revoke} (λ t. written t what done.revoked.room done.places log) ends)
-      ∙ ap {A = Rows} (λ r. parts settings rules ring r (written (ended_by rows what) what done.revoked.room done.places log)) leaves
-      ∙ ap {A = RingState} (λ r. parts settings rules r (rows_after rows what) (written (ended_by rows what) what done.revoked.room done.places log)) turns,
+      (is ∙ ap {A = Logged} (λ r. written things what done.revoked.marks done.revoked.room done.places r) roomier
+      ∙ ap {A = List Revoke} (λ t. written t what done.revoked.marks done.revoked.room done.places log) ends)
+      ∙ ap {A = Rows} (λ r. parts settings rules ring r (written (ended_by rows what) what done.revoked.marks done.revoked.room done.places log)) leaves
+      ∙ ap {A = RingState} (λ r. parts settings rules r (rows_after rows what) (written (ended_by rows what) what done.revoked.marks done.revoked.room done.places log)) turns,
 )
 
 -- the people and the grants that a domain leaves

@@ -19,7 +19,7 @@ pub stands_first : (state : State) (opening : PlainOpening) → IsOpeningInRange
 unfolding AreLawful
 stands_first state opening range is none = record {
   state = is ∙ first_state opening;
-  newest = record { older = []; last = refl; some = λ empty. refl };
+  newest = record { older = []; last = refl; few = omega arith; some = λ empty. refl };
   lawful = record { range = range; accepted = none; changes = omega arith; high = omega arith; count = omega arith };
 }
 

@@ -14,7 +14,7 @@ use Rattle.ks_machine.specs.Fronts.{Front, after, answer, change_of, replay, rep
 use Rattle.ks_machine.specs.Lawful.{Fits, IsLawful}
 use Rattle.ks_machine.specs.Moment.{last_moment, moment_of}
 use Rattle.ks_machine.specs.Outcomes.{Outcome}
-use Rattle.ks_machine.specs.Room.{room_for}
+use Rattle.ks_machine.specs.Room.{event_limit, room_for}
 use Rattle.ks_machine.specs.States.{State}
 use Rattle.ks_machine.specs.Steps.{Replies, Needs, step, step_at, stepped}
 use Rattle.ks_state.specs.Planning.{GoOn, IsPlan, moment_at, state_at, with_room}
@@ -52,22 +52,22 @@ pub telling_step : (known : Known) (f : Front) (call : Call) (outcome : Outcome)
 unfolding room_for
 telling_step known f call outcome none is =
     step_is known f call (Go outcome) is
-    ∙ ap {A = Option Change} (λ change. stepped (room_for (state_at f call) (moment_at f call) change >>= (λ _. Go outcome))) none
+    ∙ ap {A = Option Change} (λ change. stepped (room_for (state_at f call) (moment_at f call) (event_limit call.command) change >>= (λ _. Go outcome))) none
     ∙ ap (Replies (reply.Ok outcome.told)) none
 
 pub changing_step : (known : Known) (f : Front) (call : Call) (outcome : Outcome) (what : Change) → outcome.change ≡ Some what → IsPlan known f call (Go outcome) →
-    room_for (state_at f call) (moment_at f call) (Some what) ≡ Go tt → step known (replay f) call ≡ Replies (reply.Ok outcome.told) (Some what)
+    room_for (state_at f call) (moment_at f call) (event_limit call.command) (Some what) ≡ Go tt → step known (replay f) call ≡ Replies (reply.Ok outcome.told) (Some what)
 changing_step known f call outcome what some is room =
     step_is known f call (Go outcome) is
-    ∙ ap {A = Option Change} (λ change. stepped (room_for (state_at f call) (moment_at f call) change >>= (λ _. Go outcome))) some
+    ∙ ap {A = Option Change} (λ change. stepped (room_for (state_at f call) (moment_at f call) (event_limit call.command) change >>= (λ _. Go outcome))) some
     ∙ ap {A = Attempt Cause (Unit {0})} (λ checked. stepped (checked >>= (λ _. Go outcome))) room
     ∙ ap (Replies (reply.Ok outcome.told)) some
 
 pub full_step : (known : Known) (f : Front) (call : Call) (outcome : Outcome) (what : Change) (why : Cause) → outcome.change ≡ Some what → IsPlan known f call (Go outcome) →
-    room_for (state_at f call) (moment_at f call) (Some what) ≡ Stop why → step known (replay f) call ≡ Replies (reply.Refused why) None
+    room_for (state_at f call) (moment_at f call) (event_limit call.command) (Some what) ≡ Stop why → step known (replay f) call ≡ Replies (reply.Refused why) None
 full_step known f call outcome what why some is room =
     step_is known f call (Go outcome) is
-    ∙ ap {A = Option Change} (λ change. stepped (room_for (state_at f call) (moment_at f call) change >>= (λ _. Go outcome))) some
+    ∙ ap {A = Option Change} (λ change. stepped (room_for (state_at f call) (moment_at f call) (event_limit call.command) change >>= (λ _. Go outcome))) some
     ∙ ap {A = Attempt Cause (Unit {0})} (λ checked. stepped (checked >>= (λ _. Go outcome))) room
 
 -- the moment of a call is one that a front may have
@@ -93,24 +93,24 @@ memory_reply shown f call stands =
 few_changes : (shown : Shown) (f : Front) → Stands shown f → shown.state.made < 2 ^ 58 → length f.changes < 2 ^ 58
 few_changes shown f stands less = subst (λ n. n < 2 ^ 58) (made_so_far shown f stands) less
 
-room_at : (shown : Shown) (f : Front) (call : Call) (what : Change) (b : Bool) → Stands shown f → has_room (raised_to (moment_at f call) shown) what ≡ b →
-    has_room (record { state = with_live (state_at f call); newest = shown.newest }) what ≡ b
+room_at : (shown : Shown) (f : Front) (call : Call) (what : Change) (b : Bool) → Stands shown f → has_room (event_limit call.command) (raised_to (moment_at f call) shown) what ≡ b →
+    has_room (event_limit call.command) (record { state = with_live (state_at f call); newest = shown.newest }) what ≡ b
 unfolding replay
 room_at shown f call what b stands is =
     let within = moment_within f call stands.lawful in
-    ap {A = State} (λ S. has_room (record { state = S; newest = shown.newest }) what) (sym (raised_stands shown f (moment_at f call) within.0 within.1 stands).state) ∙ is
+    ap {A = State} (λ S. has_room (event_limit call.command) (record { state = S; newest = shown.newest }) what) (sym (raised_stands shown f (moment_at f call) within.0 within.1 stands).state) ∙ is
 
 -- the front with the change is lawful
 pub changed_lawful : (known : Known) (shown : Shown) (f : Front) (call : Call) (outcome : Outcome) (what : Change) → FewFactsSuffice → AreTrue known → GoOn → Fit call →
-    Stands shown f → outcome.change ≡ Some what → IsPlan known f call (Go outcome) → HasRoom (raised_to (moment_at f call) shown) what →
+    Stands shown f → outcome.change ≡ Some what → IsPlan known f call (Go outcome) → HasRoom (event_limit call.command) (raised_to (moment_at f call) shown) what →
     (step known (replay f) call ≡ Replies (reply.Ok outcome.told) (Some what)) × IsLawful (then f (moment_at f call) (Some what))
 changed_lawful known shown f call outcome what few are on fit stands some is room =
-    let there = room_there (state_at f call) what (room_at shown f call what true stands room.0) in
+    let there = room_there (state_at f call) call.command what (room_at shown f call what true stands room.0) in
     let says = changing_step known f call outcome what some is there in
     (says, subst IsLawful (answered_as known f call (reply.Ok outcome.told) (Some what) few are says).1 (on f call stands.lawful fit (few_changes shown f stands room.1)))
 
 pub fits_with_room : (known : Known) (shown : Shown) (f : Front) (call : Call) (outcome : Outcome) (what : Change) → FewFactsSuffice → AreTrue known → GoOn → Fit call →
-    Stands shown f → outcome.change ≡ Some what → IsPlan known f call (Go outcome) → FitsWithRoom (raised_to (moment_at f call) shown) what
+    Stands shown f → outcome.change ≡ Some what → IsPlan known f call (Go outcome) → FitsWithRoom (event_limit call.command) (raised_to (moment_at f call) shown) what
 unfolding replay
 fits_with_room known shown f call outcome what few are on fit stands some is room =
     let within = moment_within f call stands.lawful in
@@ -118,7 +118,7 @@ fits_with_room known shown f call outcome what few are on fit stands some is roo
     subst (λ (S : State). Fits S (moment_at f call) what) (sym (raised_stands shown f (moment_at f call) within.0 within.1 stands).state) fits
 
 changed_reply : (known : Known) (shown : Shown) (f : Front) (call : Call) (outcome : Outcome) (what : Change) → FewFactsSuffice → AreTrue known → GoOn → Fit call →
-    Stands shown f → outcome.change ≡ Some what → IsPlan known f call (Go outcome) → HasRoom (raised_to (moment_at f call) shown) what →
+    Stands shown f → outcome.change ≡ Some what → IsPlan known f call (Go outcome) → HasRoom (event_limit call.command) (raised_to (moment_at f call) shown) what →
     IsReply f call (reply.Ok outcome.told) (changed what (raised_to (moment_at f call) shown))
 changed_reply known shown f call outcome what few are on fit stands some is room =
     let within = moment_within f call stands.lawful in
@@ -129,17 +129,17 @@ changed_reply known shown f call outcome what few are on fit stands some is room
     inl (sym all.0, subst (Stands (changed what (raised_to (moment_at f call) shown))) (sym all.1) after_it)
 
 full_reply : (known : Known) (shown : Shown) (f : Front) (call : Call) (outcome : Outcome) (what : Change) → FewFactsSuffice → AreTrue known →
-    Stands shown f → outcome.change ≡ Some what → IsPlan known f call (Go outcome) → has_room (raised_to (moment_at f call) shown) what ≡ false →
+    Stands shown f → outcome.change ≡ Some what → IsPlan known f call (Go outcome) → has_room (event_limit call.command) (raised_to (moment_at f call) shown) what ≡ false →
     IsReply f call (reply.Refused (cause.Full kind.Event)) (raised_to (moment_at f call) shown)
 full_reply known shown f call outcome what few are stands some is lacks =
-    let room = room_lacks (state_at f call) what (room_at shown f call what false stands lacks) in
+    let room = room_lacks (state_at f call) call.command what (room_at shown f call what false stands lacks) in
     same_reply known shown f call (reply.Refused (cause.Full kind.Event)) few are stands
     (full_step known f call outcome what (cause.Full kind.Event) some is room)
 
 -- what is carried out of a plan is a reply of the machine, or there was no memory
 carried_by : (known : Known) (shown : Shown) (f : Front) (call : Call) (outcome : Outcome) (change : Option Change) (said : Reply) (new : Shown) →
     outcome.change ≡ change → FewFactsSuffice → AreTrue known → GoOn → Fit call → Stands shown f → IsPlan known f call (Go outcome) →
-    CarriesOut outcome.told change (raised_to (moment_at f call) shown) said new → IsReply f call said new
+    CarriesOut outcome.told change (event_limit call.command) (raised_to (moment_at f call) shown) said new → IsReply f call said new
 carried_by known shown f call outcome None said new none few are on fit stands is carried =
     rw (carried.0, carried.1) (same_reply known shown f call (reply.Ok outcome.told) few are stands (telling_step known f call outcome none is))
 carried_by known shown f call outcome (Some what) said new some few are on fit stands is (inl (is_ok, room, new_is)) =
@@ -151,6 +151,6 @@ carried_by known shown f call outcome (Some what) said new some few are on fit s
 
 pub carried_reply : (known : Known) (shown : Shown) (f : Front) (call : Call) (outcome : Outcome) (said : Reply) (new : Shown) →
     FewFactsSuffice → AreTrue known → GoOn → Fit call → Stands shown f → IsPlan known f call (Go outcome) →
-    CarriesOut outcome.told outcome.change (raised_to (moment_at f call) shown) said new → IsReply f call said new
+    CarriesOut outcome.told outcome.change (event_limit call.command) (raised_to (moment_at f call) shown) said new → IsReply f call said new
 carried_reply known shown f call outcome said new few are on fit stands is carried =
     carried_by known shown f call outcome outcome.change said new refl few are on fit stands is carried

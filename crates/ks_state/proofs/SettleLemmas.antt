@@ -18,6 +18,7 @@ use Rattle.ks_plan.specs.declared.halt.Halt.TheVariants as halt
 use Rattle.ks_plan.specs.declared.halt.Needs.{Needs as Lacking}
 use Rattle.ks_plan.specs.declared.plan.Plan.{Plan}
 use Rattle.ks_plan.specs.Plans.{Names, outcome_of}
+use Rattle.ks_machine.specs.Room.{event_limit}
 use Rattle.ks_state.specs.Deciding.{IsPlanned}
 use Rattle.ks_state.specs.Planning.{GoOn, IsPlan, moment_at}
 use Rattle.ks_state.specs.Replies.{CarriesOut, IsReply}
@@ -32,25 +33,25 @@ moment_is : (shown : Shown) (f : Front) (call : Call) (moment : ℕ) → Stands 
 moment_is shown f call moment stands is = is ∙ ap (λ high. moment_of high call.reading) (high_is shown f stands)
 
 fits_by : (facts : FactsState) (shown : Shown) (f : Front) (call : Call) (outcome : Outcome) (change : Option Change) → FewFactsSuffice → GoOn → Fit call → Stands shown f →
-    outcome.change ≡ change → IsPlan (told facts) f call (Go outcome) → IfSome change (λ what. FitsWithRoom (raised_to (moment_at f call) shown) what)
+    outcome.change ≡ change → IsPlan (told facts) f call (Go outcome) → IfSome change (λ what. FitsWithRoom (event_limit call.command) (raised_to (moment_at f call) shown) what)
 fits_by facts shown f call outcome None few on fit stands is plan = tt
 fits_by facts shown f call outcome (Some what) few on fit stands is plan =
     fits_with_room (told facts) shown f call outcome what few (told_is_true facts) on fit stands is plan
 
 pub planned_fits : (facts : FactsState) (shown : Shown) (f : Front) (call : Call) (moment : ℕ) (plan : Plan) → FewFactsSuffice → GoOn → Fit call → Stands shown f →
     moment ≡ moment_of shown.state.high call.reading → IsPlanned (told facts) f call (Ok plan) →
-    IfSome plan.change (λ what. FitsWithRoom (raised_to moment shown) what)
+    IfSome plan.change (λ what. FitsWithRoom (event_limit call.command) (raised_to moment shown) what)
 planned_fits facts shown f call moment plan few on fit stands is planned =
-    subst (λ m. IfSome plan.change (λ what. FitsWithRoom (raised_to m shown) what)) (sym (moment_is shown f call moment stands is))
+    subst (λ m. IfSome plan.change (λ what. FitsWithRoom (event_limit call.command) (raised_to m shown) what)) (sym (moment_is shown f call moment stands is))
     (fits_by facts shown f call (outcome_of plan) plan.change few on fit stands refl (subst (IsPlan (told facts) f call) planned.gives planned.is_plan))
 
 pub done_reply : (facts : FactsState) (shown : Shown) (f : Front) (call : Call) (moment : ℕ) (plan : Plan) (said : Reply) (new : Shown) → FewFactsSuffice → GoOn → Fit call →
     Stands shown f → moment ≡ moment_of shown.state.high call.reading → IsPlanned (told facts) f call (Ok plan) →
-    CarriesOut plan.told plan.change (raised_to moment shown) said new → IsReply f call said new
+    CarriesOut plan.told plan.change (event_limit call.command) (raised_to moment shown) said new → IsReply f call said new
 done_reply facts shown f call moment plan said new few on fit stands is planned carried =
     carried_reply (told facts) shown f call (outcome_of plan) said new few (told_is_true facts) on fit stands
     (subst (IsPlan (told facts) f call) planned.gives planned.is_plan)
-    (subst (λ m. CarriesOut plan.told plan.change (raised_to m shown) said new) (moment_is shown f call moment stands is) carried)
+    (subst (λ m. CarriesOut plan.told plan.change (event_limit call.command) (raised_to m shown) said new) (moment_is shown f call moment stands is) carried)
 
 pub refused_reply : (facts : FactsState) (shown : Shown) (f : Front) (call : Call) (moment : ℕ) (why : Cause) → FewFactsSuffice → Stands shown f →
     moment ≡ moment_of shown.state.high call.reading → IsPlanned (told facts) f call (Err (halt.Refused why)) →

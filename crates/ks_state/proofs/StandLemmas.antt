@@ -1,8 +1,10 @@
 -- What a moment and a change make of a front is what they make of an identity that stands for it.
-use Rattle.std.proofs.Common.{◌≡◌, ℕ, suc, ◌+◌, ◌-◌, ◌≤◌, ◌==◌, ◌||◌, nat_le, true, false, List, [], ◌∷◌, ◌++◌, length, take, drop, Some, None, refl, sym, ap, ◌∙◌, arith, append_assoc, append-nil}
+use Rattle.std.proofs.Common.{◌≡◌, ℕ, suc, ◌+◌, ◌-◌, ◌≤◌, ◌==◌, ◌||◌, nat_le, true, false, List, [], ◌∷◌, ◌++◌, length, take, drop, Some, None, refl, sym, ap, ◌∙◌, arith, append_assoc, append-nil, length-append, length-drop}
+use Rattle.std.specs.Prelude.{◌&&◌}
 use Rattle.std.proofs.lemmas.Bool.{ne_eqb}
+use Rattle.std.proofs.lemmas.Bool.Decides.{nat_tests}
 use Rattle.std.proofs.lemmas.List.{take-append-drop}
-use Rattle.ks_laws.proofs.LawLemmas.{lawful_longer}
+use Rattle.ks_laws.proofs.LawLemmas.{lawful_longer, lower_limit}
 use Rattle.ks_base.specs.declared.events.EventRow.{EventRow}
 use Rattle.ks_base.specs.declared.events.Revoke.{Revoke}
 use Rattle.ks_base.specs.declared.kinds.Kind.TheVariants as kind
@@ -11,13 +13,14 @@ use Rattle.ks_base.specs.Revocation.{live}
 use Rattle.ks_machine.specs.declared.cause.Cause.TheVariants as cause
 use Rattle.ks_machine.specs.declared.change.Change.{Change}
 use Rattle.ks_machine.specs.declared.change.Entry.{Entry}
+use Rattle.ks_machine.specs.declared.command.Command.{Command}
 use Rattle.ks_machine.specs.Attempts.{Go, Stop}
 use Rattle.ks_machine.specs.Changes.{apply, ended_by, events_at, ring_after}
 use Rattle.ks_machine.specs.Fronts.{Front, replay, replayed, then}
 use Rattle.ks_machine.specs.Lawful.{AreLawful, Fits, IsLawful}
 use Rattle.ks_machine.specs.Moment.{last_moment}
 use Rattle.ks_machine.specs.Opened.{opened_state}
-use Rattle.ks_machine.specs.Room.{has_event_room, room_for}
+use Rattle.ks_machine.specs.Room.{event_limit, has_event_room, room_for}
 use Rattle.ks_machine.specs.States.{State}
 use Rattle.ks_machine.proofs.FrontLemmas.{changes_are_replayed}
 use Rattle.ks_revoke.proofs.LiveLemmas.{live_again, live_push}
@@ -57,6 +60,7 @@ newest_after newest changes entry are =
       older = are.older ++ take gone newest;
       last = ap (λ (all : List Entry). all ++ entry ∷ []) (are.last ∙ ap (λ (tail : List Entry). are.older ++ tail) (sym (take-append-drop gone newest)) ∙ sym (append_assoc are.older (take gone newest) (drop gone newest)))
           ∙ append_assoc (are.older ++ take gone newest) (drop gone newest) (entry ∷ []);
+      few = omega (arith, length-append (drop gone newest) (entry ∷ []), length-drop gone newest, are.few);
       some = λ empty. absurd (not_empty (drop gone newest) entry empty);
     }
 
@@ -95,19 +99,26 @@ fits_in f moment what lawful =
 some_is : (n : ℕ) → (suc n == 0) ≡ false
 some_is n = ne_eqb (suc n) 0 (λ e. absurd (omega (arith, e)))
 
-room_is : (S : State) (moment : ℕ) (things : List Revoke) → has_event_room S moment things ≡ is_room (live S.settings.life moment S.events) (length things)
-room_is S moment [] = refl
-room_is S moment (thing ∷ things) =
-    ap (λ b. b || nat_le (length (live S.settings.life moment S.events) + length (thing ∷ things)) EVENTS) (sym (some_is (length things)))
+-- what is within a lower limit is within both
+both_within : (count most all : ℕ) → most ≤ all → nat_le count most ≡ (nat_le count most && nat_le count all)
+both_within count most all le = grind (arith, nat_tests, le)
 
-pub room_there : (S : State) (what : Change) → is_room (with_live S).events (length (ended_by S.rows what)) ≡ true → room_for S S.high (Some what) ≡ Go tt
-unfolding room_for
-room_there S what is = rw (room_is S S.high (ended_by S.rows what) ∙ is) refl
+room_is : (S : State) (moment most : ℕ) (things : List Revoke) → most ≤ EVENTS →
+    has_event_room S moment most things ≡ is_room most (live S.settings.life moment S.events) (length things)
+room_is S moment most [] le = refl
+room_is S moment most (thing ∷ things) le =
+    let count : ℕ = length (live S.settings.life moment S.events) + length (thing ∷ things) in
+    both_within count most EVENTS le ∙ ap (λ b. b || (nat_le count most && nat_le count EVENTS)) (sym (some_is (length things)))
 
-pub room_lacks : (S : State) (what : Change) → is_room (with_live S).events (length (ended_by S.rows what)) ≡ false →
-    room_for S S.high (Some what) ≡ Stop (cause.Full kind.Event)
+pub room_there : (S : State) (asked : Command) (what : Change) → is_room (event_limit asked) (with_live S).events (length (ended_by S.rows what)) ≡ true →
+    room_for S S.high (event_limit asked) (Some what) ≡ Go tt
 unfolding room_for
-room_lacks S what is = rw (room_is S S.high (ended_by S.rows what) ∙ is) refl
+room_there S asked what is = rw (room_is S S.high (event_limit asked) (ended_by S.rows what) (lower_limit asked) ∙ is) refl
+
+pub room_lacks : (S : State) (asked : Command) (what : Change) → is_room (event_limit asked) (with_live S).events (length (ended_by S.rows what)) ≡ false →
+    room_for S S.high (event_limit asked) (Some what) ≡ Stop (cause.Full kind.Event)
+unfolding room_for
+room_lacks S asked what is = rw (room_is S S.high (event_limit asked) (ended_by S.rows what) (lower_limit asked) ∙ is) refl
 
 -- what an identity stands for
 

@@ -1,16 +1,18 @@
 -- What a value that decides calls owes.
-use Rattle.std.specs.Prelude.{◌≡◌, ℕ, ◌⊎◌, None}
+use Rattle.std.specs.Prelude.{◌≡◌, ℕ, ◌≤◌, ◌⊎◌, None, length}
 use Rattle.ks_auth.specs.Facts.{FactsState, told}
+use Rattle.ks_base.specs.declared.limits.TheConstants.{KEYS}
+use Rattle.ks_laws.specs.Lacking.{IsLack, IsUnknown}
 use Rattle.ks_machine.specs.declared.call.Call.{Call}
 use Rattle.ks_machine.specs.declared.cause.Cause.TheVariants as cause
 use Rattle.ks_machine.specs.declared.reply.Reply.{Reply}
 use Rattle.ks_machine.specs.declared.reply.Reply.TheVariants as reply
-use Rattle.ks_machine.specs.Attempts.{Lack, Keys, Stored, Fresh}
+use Rattle.ks_machine.specs.Attempts.{Lack}
 use Rattle.ks_machine.specs.Fronts.{Front, after, answer, replay, then}
 use Rattle.ks_machine.specs.Moment.{moment_of}
-use Rattle.ks_machine.specs.Ranges.{AreRounds}
-use Rattle.ks_machine.specs.Steps.{Needs, step}
+use Rattle.ks_machine.specs.Steps.{Needs as Lacking, step}
 use Rattle.ks_machine.specs.Told.{IsTellable}
+use Rattle.ks_plan.specs.declared.halt.Needs.{Needs}
 use Rattle.ks_plan.specs.Plans.{Names}
 use Rattle.ks_state.specs.declared.decision.Decision.{Decision}
 use Rattle.ks_state.specs.declared.decision.Decision.TheVariants as decision
@@ -19,11 +21,16 @@ use Rattle.ks_state.specs.declared.decision.Decision.TheVariants as decision
 abbrev pub with_kept : Front → ℕ → Front
 with_kept f count = record f { kept = count }
 
--- the rounds that a derivation is asked for have their range
-abbrev pub IsInRange : Lack → Type 0
-IsInRange (Keys keys) = Unit {0}
-IsInRange (Stored salt rounds) = AreRounds rounds
-IsInRange (Fresh salt rounds) = AreRounds rounds
+-- facts are asked for of a call after a front: what the first check of the plain machine's step lacks, by the facts that are known
+pub record IsAsked (f : Front) (call : Call) (facts : FactsState) (needs : Needs) : Type 0 where
+  pub lack : Lack
+  pub names : Names needs lack
+  pub lacks : step (told facts) (replay f) call ≡ Lacking lack
+  -- it can be found out, and is not known
+  pub found : IsLack (replay f) call lack
+  pub unknown : IsUnknown (told facts) call lack
+  -- and it is of 32 keys at most
+  pub few : length (replay f).ring.held ≤ KEYS
 
 -- a reply has a text for each moment in it
 abbrev pub CanBeTold : Decision → Type 0
@@ -44,5 +51,4 @@ module _ {S : Type 0} (means : S → Front → Type 0) (kept : S → ℕ) where
   -- first lacking check asks for, and nothing changed
   abbrev pub DecidedBy : Front → Call → FactsState → Decision → S → S → Type 0
   DecidedBy f call facts (decision.Done said) old new = Replied f call said new
-  DecidedBy f call facts (decision.Needs needs) old new =
-      (lack : Lack) × Names needs lack × IsInRange lack × (step (told facts) (replay f) call ≡ Needs lack) × (new ≡ old)
+  DecidedBy f call facts (decision.Needs needs) old new = IsAsked f call facts needs × (new ≡ old)

@@ -1,5 +1,5 @@
 -- What is written down of the changes: the live revocations, and the newest changes themselves.
-use Rattle.std.specs.Prelude.{ℕ, ◌+◌, ◌-◌, ◌==◌, ◌||◌, nat_le, Bool, List, [], ◌∷◌, ◌++◌, length, drop}
+use Rattle.std.specs.Prelude.{ℕ, ◌+◌, ◌-◌, ◌==◌, ◌||◌, ◌&&◌, nat_le, Bool, List, [], ◌∷◌, ◌++◌, length, drop}
 use Rattle.ks_base.specs.declared.events.EventRow.{EventRow}
 use Rattle.ks_base.specs.declared.events.Revoke.{Revoke}
 use Rattle.ks_base.specs.declared.limits.TheConstants.{ENTRIES, EVENTS}
@@ -31,14 +31,14 @@ places_of kept capacity = (capacity - kept) + (kept + 1 - newest_most)
 abbrev pub newest_with : Entry → List Entry → List Entry
 newest_with entry entries = drop (length entries + 1 - newest_most) entries ++ entry ∷ []
 
--- there is room for so many more revocations among the live ones
-abbrev pub is_room : List EventRow → ℕ → Bool
-is_room live more = (more == 0) || nat_le (length live + more) EVENTS
+-- with so many more revocations no more are live than these, nor than may ever be
+abbrev pub is_room : ℕ → List EventRow → ℕ → Bool
+is_room most live more = (more == 0) || (nat_le (length live + more) most && nat_le (length live + more) EVENTS)
 
 -- the log with one change more, and with what it revoked
-abbrev pub written : List Revoke → Change → ℕ → ℕ → Logged → Logged
-written things change room places log = record {
-  revoked = record log.revoked { events = log.revoked.events ++ events_at log.revoked.high things; room = room };
+abbrev pub written : List Revoke → Change → List EventRow → ℕ → ℕ → Logged → Logged
+written things change marks room places log = record {
+  revoked = record log.revoked { events = log.revoked.events ++ events_at log.revoked.high things; marks = marks; room = room };
   newest = newest_with (record { number = log.made; moment = log.revoked.high; change = change }) log.newest;
   made = log.made + 1;
   places = places;

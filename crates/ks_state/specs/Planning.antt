@@ -8,7 +8,7 @@ use Rattle.ks_machine.specs.Fronts.{Front, after, replay}
 use Rattle.ks_machine.specs.Lawful.{IsLawful}
 use Rattle.ks_machine.specs.Moment.{moment_of}
 use Rattle.ks_machine.specs.Outcomes.{Outcome}
-use Rattle.ks_machine.specs.Room.{room_for}
+use Rattle.ks_machine.specs.Room.{event_limit, room_for}
 use Rattle.ks_machine.specs.States.{State, raised}
 use Rattle.ks_machine.specs.Steps.{checked}
 
@@ -22,7 +22,7 @@ state_at f call = raised (replay f) (moment_at f call)
 
 -- the checks but for room, and then room
 abbrev pub with_room : Front → Call → Attempt Cause Outcome → Attempt Cause Outcome
-with_room f call said = said >>= (λ outcome. room_for (state_at f call) (moment_at f call) outcome.change >>= (λ _. Go outcome))
+with_room f call said = said >>= (λ outcome. room_for (state_at f call) (moment_at f call) (event_limit call.command) outcome.change >>= (λ _. Go outcome))
 
 -- this is what the checks say but for room, with the facts that are known
 pub record IsPlan (known : Known) (f : Front) (call : Call) (said : Attempt Cause Outcome) : Type 0 where

@@ -1,5 +1,5 @@
 -- What a call is replied, for each front for which the identity stands.
-use Rattle.std.specs.Prelude.{◌≡◌, ◌⊎◌, false, Option, Some, None, Result, Ok, Err}
+use Rattle.std.specs.Prelude.{◌≡◌, ◌⊎◌, ℕ, false, Option, Some, None, Result, Ok, Err}
 use Rattle.ks_base.specs.declared.kinds.Kind.TheVariants as kind
 use Rattle.ks_machine.specs.declared.body_out.BodyOut.{BodyOut}
 use Rattle.ks_machine.specs.declared.call.Call.{Call}
@@ -29,9 +29,9 @@ told_if (Err unmade.Memory) told = reply.Refused cause.Memory
 
 -- what was planned is told, and its change is made, if there is one; or there is no room for its revocations, or no memory, and
 -- then nothing changes
-abbrev pub CarriesOut : BodyOut → Option Change → Shown → Reply → Shown → Type 0
-CarriesOut told None old said new = (said ≡ reply.Ok told) × (new ≡ old)
-CarriesOut told (Some what) old said new =
-    ((said ≡ reply.Ok told) × HasRoom old what × (new ≡ changed what old))
-    ⊎ (((said ≡ reply.Refused (cause.Full kind.Event)) × (has_room old what ≡ false) × (new ≡ old))
+abbrev pub CarriesOut : BodyOut → Option Change → ℕ → Shown → Reply → Shown → Type 0
+CarriesOut told None most old said new = (said ≡ reply.Ok told) × (new ≡ old)
+CarriesOut told (Some what) most old said new =
+    ((said ≡ reply.Ok told) × HasRoom most old what × (new ≡ changed what old))
+    ⊎ (((said ≡ reply.Refused (cause.Full kind.Event)) × (has_room most old what ≡ false) × (new ≡ old))
     ⊎ ((said ≡ reply.Refused cause.Memory) × (new ≡ old)))

@@ -45,20 +45,20 @@ changed change shown = record {
   newest = newest_with (record { number = shown.state.made; moment = shown.state.high; change = change }) shown.newest;
 }
 
--- there is room for the revocations of a change among the live ones
-abbrev pub has_room : Shown → Change → Bool
-has_room shown change = is_room shown.state.events (length (ended_by shown.state.rows change))
+-- there is room for the revocations of a change among so many live ones
+abbrev pub has_room : ℕ → Shown → Change → Bool
+has_room most shown change = is_room most shown.state.events (length (ended_by shown.state.rows change))
 
 -- there is room for them, and for a change more
-abbrev pub HasRoom : Shown → Change → Type 0
-HasRoom shown change = (has_room shown change ≡ true) × (shown.state.made < 2 ^ 58)
+abbrev pub HasRoom : ℕ → Shown → Change → Type 0
+HasRoom most shown change = (has_room most shown change ≡ true) × (shown.state.made < 2 ^ 58)
 
 -- a change that finds room fits the state, at its highest moment
-abbrev pub FitsWithRoom : Shown → Change → Type 0
-FitsWithRoom shown change = HasRoom shown change → Fits shown.state shown.state.high change
+abbrev pub FitsWithRoom : ℕ → Shown → Change → Type 0
+FitsWithRoom most shown change = HasRoom most shown change → Fits shown.state shown.state.high change
 
 -- a change is made; or there is no room for its revocations, or no memory, and then nothing changes
-abbrev pub Makes : Shown → Change → Result (Unit {0}) Unmade → Shown → Type 0
-Makes old change (Ok done) new = HasRoom old change × (new ≡ changed change old)
-Makes old change (Err unmade.Full) new = (has_room old change ≡ false) × (new ≡ old)
-Makes old change (Err unmade.Memory) new = new ≡ old
+abbrev pub Makes : ℕ → Shown → Change → Result (Unit {0}) Unmade → Shown → Type 0
+Makes most old change (Ok done) new = HasRoom most old change × (new ≡ changed change old)
+Makes most old change (Err unmade.Full) new = (has_room most old change ≡ false) × (new ≡ old)
+Makes most old change (Err unmade.Memory) new = new ≡ old

@@ -1,5 +1,6 @@
 -- For which fronts an identity stands.
-use Rattle.std.specs.Prelude.{◌≡◌, ℕ, List, [], ◌++◌, length}
+use Rattle.std.specs.Prelude.{◌≡◌, ℕ, ◌≤◌, List, [], ◌++◌, length}
+use Rattle.ks_base.specs.declared.limits.TheConstants.{ENTRIES}
 use Rattle.ks_base.specs.Revocation.{live}
 use Rattle.ks_machine.specs.declared.change.Entry.{Entry}
 use Rattle.ks_machine.specs.Fronts.{Front, replay}
@@ -11,10 +12,11 @@ use Rattle.ks_state.specs.Shown.{Shown}
 abbrev pub with_live : State → State
 with_live S = record S { events = live S.settings.life S.high S.events }
 
--- the last of all changes, and at least one where there is one
+-- the last of all changes, at most 65,536, and at least one where there is one
 pub record AreNewest (newest changes : List Entry) : Type 0 where
   pub older : List Entry
   pub last : changes ≡ older ++ newest
+  pub few : length newest ≤ ENTRIES
   pub some : newest ≡ [] → changes ≡ []
 
 -- an identity stands for a front

@@ -12,13 +12,13 @@ use ks_machine::Change;
 
 impl Identity {
     #[tactic(auto, unfolding(ks_machine::specs::Lawful::Fits, ks_machine::specs::Changes::apply, ks_machine::specs::Changes::rows_after, ks_machine::specs::Changes::ring_after, ks_machine::specs::Changes::domain_dropped))]
-    pub(crate) fn drop_domain(&mut self, id: Id) -> Result<(), Unmade>
-        requires { FitsWithRoom self.old (Change.DropDomain id) }
-        ensures { Makes self.old (Change.DropDomain id) result self.new }
+    pub(crate) fn drop_domain(&mut self, id: Id, most: usize) -> Result<(), Unmade>
+        requires { FitsWithRoom most self.old (Change.DropDomain id) }
+        ensures { Makes most self.old (Change.DropDomain id) result self.new }
     {
         let rows = DomainRows::of(&self.tree, &self.people, &id)?;
         let gone = self.domain_gone(&rows)?;
-        self.log.ready(gone.things.as_slice().len())?;
+        self.log.ready(most, gone.things.as_slice().len())?;
         self.trusts.drop_all(&gone.ids);
         drop_grants(&mut self.grants, &self.tree, &self.people, &rows);
         drop_people(&mut self.people, &rows);
@@ -31,12 +31,12 @@ impl Identity {
     }
 
     #[tactic(auto, unfolding(ks_machine::specs::Lawful::Fits, ks_machine::specs::Changes::apply, ks_machine::specs::Changes::rows_after, ks_machine::specs::Changes::ring_after, ks_machine::specs::Changes::project_dropped))]
-    pub(crate) fn drop_project(&mut self, id: Id) -> Result<(), Unmade>
-        requires { FitsWithRoom self.old (Change.DropProject id) }
-        ensures { Makes self.old (Change.DropProject id) result self.new }
+    pub(crate) fn drop_project(&mut self, id: Id, most: usize) -> Result<(), Unmade>
+        requires { FitsWithRoom most self.old (Change.DropProject id) }
+        ensures { Makes most self.old (Change.DropProject id) result self.new }
     {
         let gone = self.project_gone(&id)?;
-        self.log.ready(gone.things.as_slice().len())?;
+        self.log.ready(most, gone.things.as_slice().len())?;
         let Ok(()) = self.tree.drop_project(&id) else {
             unreachable!()
         };
@@ -48,12 +48,12 @@ impl Identity {
     }
 
     #[tactic(auto, unfolding(ks_machine::specs::Lawful::Fits, ks_machine::specs::Changes::apply, ks_machine::specs::Changes::rows_after, ks_machine::specs::Changes::ring_after, ks_machine::specs::Changes::user_dropped))]
-    pub(crate) fn drop_user(&mut self, id: Id) -> Result<(), Unmade>
-        requires { FitsWithRoom self.old (Change.DropUser id) }
-        ensures { Makes self.old (Change.DropUser id) result self.new }
+    pub(crate) fn drop_user(&mut self, id: Id, most: usize) -> Result<(), Unmade>
+        requires { FitsWithRoom most self.old (Change.DropUser id) }
+        ensures { Makes most self.old (Change.DropUser id) result self.new }
     {
         let gone = self.user_gone(&id)?;
-        self.log.ready(gone.things.as_slice().len())?;
+        self.log.ready(most, gone.things.as_slice().len())?;
         let Ok(()) = self.people.drop_user(&id) else {
             unreachable!()
         };
@@ -64,11 +64,11 @@ impl Identity {
     }
 
     #[tactic(auto, unfolding(ks_machine::specs::Lawful::Fits, ks_machine::specs::Changes::apply, ks_machine::specs::Changes::rows_after, ks_machine::specs::Changes::ring_after, ks_machine::specs::Changes::ended_by, ks_machine::specs::Changes::group_dropped))]
-    pub(crate) fn drop_group(&mut self, id: Id) -> Result<(), Unmade>
-        requires { FitsWithRoom self.old (Change.DropGroup id) }
-        ensures { Makes self.old (Change.DropGroup id) result self.new }
+    pub(crate) fn drop_group(&mut self, id: Id, most: usize) -> Result<(), Unmade>
+        requires { FitsWithRoom most self.old (Change.DropGroup id) }
+        ensures { Makes most self.old (Change.DropGroup id) result self.new }
     {
-        self.log.ready(0)?;
+        self.log.ready(most, 0)?;
         let Ok(()) = self.people.drop_group(&id) else {
             unreachable!()
         };
@@ -78,12 +78,12 @@ impl Identity {
     }
 
     #[tactic(auto, unfolding(ks_machine::specs::Lawful::Fits, ks_machine::specs::Changes::apply, ks_machine::specs::Changes::rows_after, ks_machine::specs::Changes::ring_after, ks_machine::specs::Changes::role_dropped))]
-    pub(crate) fn drop_role(&mut self, id: Id) -> Result<(), Unmade>
-        requires { FitsWithRoom self.old (Change.DropRole id) }
-        ensures { Makes self.old (Change.DropRole id) result self.new }
+    pub(crate) fn drop_role(&mut self, id: Id, most: usize) -> Result<(), Unmade>
+        requires { FitsWithRoom most self.old (Change.DropRole id) }
+        ensures { Makes most self.old (Change.DropRole id) result self.new }
     {
         let gone = self.role_gone(&id)?;
-        self.log.ready(gone.things.as_slice().len())?;
+        self.log.ready(most, gone.things.as_slice().len())?;
         let Ok(()) = self.roles.drop_role(&id) else {
             unreachable!()
         };
@@ -94,11 +94,11 @@ impl Identity {
     }
 
     #[tactic(auto, unfolding(ks_machine::specs::Changes::apply, ks_machine::specs::Changes::rows_after, ks_machine::specs::Changes::ring_after))]
-    pub(crate) fn drop_trust(&mut self, id: Id) -> Result<(), Unmade>
-        ensures { Makes self.old (Change.DropTrust id) result self.new }
+    pub(crate) fn drop_trust(&mut self, id: Id, most: usize) -> Result<(), Unmade>
+        ensures { Makes most self.old (Change.DropTrust id) result self.new }
     {
         let gone = self.trust_gone(&id)?;
-        self.log.ready(gone.things.as_slice().len())?;
+        self.log.ready(most, gone.things.as_slice().len())?;
         self.trusts.drop_all(&gone.ids);
         self.log
             .write(gone.things.as_slice(), Change::DropTrust(id));

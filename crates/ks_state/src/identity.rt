@@ -1,4 +1,5 @@
-ghost use Rattle.std.specs.Prelude.{◌≡◌, ◌≤◌, IfOk};
+ghost use Rattle.std.specs.Prelude.{◌≡◌, ◌≤◌, length, IfOk};
+ghost use Rattle.ks_base.specs.declared.limits.TheConstants.{KEYS};
 ghost use Rattle.ks_state.specs.Shown.{raised_to};
 
 use crate::log::Log;
@@ -88,6 +89,13 @@ impl Identity {
         ensures { IfOk result (λ events. events ≡ self.now.state.events) }
     {
         self.log.revoked().kept()
+    }
+
+    /// Tells that at most 32 keys are held.
+    pub(crate) fn holds_few_keys(&self)
+        ensures { length self.now.state.ring.held ≤ KEYS }
+    {
+        let _held = self.ring.held();
     }
 
     /// Raises the highest moment to this one, and lets the revocations that are past then go. It takes no memory.

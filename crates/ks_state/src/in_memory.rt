@@ -38,6 +38,7 @@ impl Decides for Identity {
         lawful_states_are_orderly();
         steps_lack_what_can_be_found();
         replies_can_be_told();
+        self.holds_few_keys();
         Identity::decide(self, call, facts)
     }
 

@@ -10,11 +10,11 @@ use ks_machine::Change;
 
 impl Identity {
     #[tactic(auto, unfolding(ks_machine::specs::Changes::apply, ks_machine::specs::Changes::rows_after, ks_machine::specs::Changes::ring_after, ks_machine::specs::Changes::ended_by))]
-    pub(crate) fn join(&mut self, row: MemberRow) -> Result<(), Unmade>
-        ensures { Makes self.old (Change.Join row) result self.new }
+    pub(crate) fn join(&mut self, row: MemberRow, most: usize) -> Result<(), Unmade>
+        ensures { Makes most self.old (Change.Join row) result self.new }
     {
         let standing = row.copy()?;
-        self.log.ready(0)?;
+        self.log.ready(most, 0)?;
         let Ok(_) = self.people.join_group(standing) else {
             return Err(Unmade::Memory);
         };
@@ -23,11 +23,11 @@ impl Identity {
     }
 
     #[tactic(auto, unfolding(ks_machine::specs::Lawful::Fits, ks_machine::specs::Changes::apply, ks_machine::specs::Changes::rows_after, ks_machine::specs::Changes::ring_after, ks_machine::specs::Changes::ended_by))]
-    pub(crate) fn leave(&mut self, row: MemberRow) -> Result<(), Unmade>
-        requires { FitsWithRoom self.old (Change.Leave row) }
-        ensures { Makes self.old (Change.Leave row) result self.new }
+    pub(crate) fn leave(&mut self, row: MemberRow, most: usize) -> Result<(), Unmade>
+        requires { FitsWithRoom most self.old (Change.Leave row) }
+        ensures { Makes most self.old (Change.Leave row) result self.new }
     {
-        self.log.ready(0)?;
+        self.log.ready(most, 0)?;
         let Ok(()) = self.people.leave_group(&row) else {
             unreachable!()
         };
@@ -36,11 +36,11 @@ impl Identity {
     }
 
     #[tactic(auto, unfolding(ks_machine::specs::Changes::apply, ks_machine::specs::Changes::rows_after, ks_machine::specs::Changes::ring_after, ks_machine::specs::Changes::ended_by))]
-    pub(crate) fn imply(&mut self, row: ImplyRow) -> Result<(), Unmade>
-        ensures { Makes self.old (Change.Imply row) result self.new }
+    pub(crate) fn imply(&mut self, row: ImplyRow, most: usize) -> Result<(), Unmade>
+        ensures { Makes most self.old (Change.Imply row) result self.new }
     {
         let standing = row.copy()?;
-        self.log.ready(0)?;
+        self.log.ready(most, 0)?;
         let Ok(_) = self.roles.imply(standing) else {
             return Err(Unmade::Memory);
         };
@@ -49,11 +49,11 @@ impl Identity {
     }
 
     #[tactic(auto, unfolding(ks_machine::specs::Lawful::Fits, ks_machine::specs::Changes::apply, ks_machine::specs::Changes::rows_after, ks_machine::specs::Changes::ring_after, ks_machine::specs::Changes::ended_by))]
-    pub(crate) fn unimply(&mut self, row: ImplyRow) -> Result<(), Unmade>
-        requires { FitsWithRoom self.old (Change.Unimply row) }
-        ensures { Makes self.old (Change.Unimply row) result self.new }
+    pub(crate) fn unimply(&mut self, row: ImplyRow, most: usize) -> Result<(), Unmade>
+        requires { FitsWithRoom most self.old (Change.Unimply row) }
+        ensures { Makes most self.old (Change.Unimply row) result self.new }
     {
-        self.log.ready(0)?;
+        self.log.ready(most, 0)?;
         let Ok(()) = self.roles.unimply(&row) else {
             unreachable!()
         };
@@ -62,12 +62,12 @@ impl Identity {
     }
 
     #[tactic(auto, unfolding(ks_machine::specs::Changes::apply, ks_machine::specs::Changes::rows_after, ks_machine::specs::Changes::ring_after, ks_machine::specs::Changes::ended_by))]
-    pub(crate) fn grant(&mut self, row: GrantRow) -> Result<(), Unmade>
-        ensures { Makes self.old (Change.Grant row) result self.new }
+    pub(crate) fn grant(&mut self, row: GrantRow, most: usize) -> Result<(), Unmade>
+        ensures { Makes most self.old (Change.Grant row) result self.new }
     {
         let _actor = &row.actor;
         let standing = row.copy()?;
-        self.log.ready(0)?;
+        self.log.ready(most, 0)?;
         let Ok(_) = self.grants.grant(standing) else {
             return Err(Unmade::Memory);
         };
@@ -76,12 +76,12 @@ impl Identity {
     }
 
     #[tactic(auto, unfolding(ks_machine::specs::Lawful::Fits, ks_machine::specs::Changes::apply, ks_machine::specs::Changes::rows_after, ks_machine::specs::Changes::ring_after, ks_machine::specs::Changes::ended_by))]
-    pub(crate) fn ungrant(&mut self, row: GrantRow) -> Result<(), Unmade>
-        requires { FitsWithRoom self.old (Change.Ungrant row) }
-        ensures { Makes self.old (Change.Ungrant row) result self.new }
+    pub(crate) fn ungrant(&mut self, row: GrantRow, most: usize) -> Result<(), Unmade>
+        requires { FitsWithRoom most self.old (Change.Ungrant row) }
+        ensures { Makes most self.old (Change.Ungrant row) result self.new }
     {
         let _actor = &row.actor;
-        self.log.ready(0)?;
+        self.log.ready(most, 0)?;
         let Ok(()) = self.grants.ungrant(&row) else {
             unreachable!()
         };

@@ -53,7 +53,7 @@ impl Model for Log {
 fn revoke_all(revoked: &mut Revoked, moment: u64, things: &[Revoke])
     requires room { length things.now ≤ revoked.old.room }
     requires moment { revoked.old.high ≡ moment }
-    ensures { revoked.new ≡ record revoked.old { events = revoked.old.events ++ events_at moment things.now; room = revoked.new.room } }
+    ensures { revoked.new ≡ record revoked.old { events = revoked.old.events ++ events_at moment things.now; marks = revoked.new.marks; room = revoked.new.room } }
 {
     for thing in things {
         revoked.add(EventRow {
@@ -79,7 +79,7 @@ fn put_newest(newest: &mut VecDeque<Entry>, entry: Entry)
 impl Log {
     /// Nothing yet, for tokens that live as many seconds. It takes no memory.
     pub(crate) fn new(alloc: Global, life: u64) -> Log
-        ensures { result ≡ record { revoked = record { life = life; high = 0; events = []; room = result.revoked.room }; newest = []; made = 0; places = result.places } }
+        ensures { result ≡ record { revoked = record { life = life; high = 0; events = []; marks = []; room = result.revoked.room }; newest = []; made = 0; places = result.places } }
     {
         Log {
             revoked: Revoked::new(alloc, life),
@@ -113,35 +113,39 @@ impl Log {
     /// Raises the highest moment to this one, and lets the revocations that are past then go. It takes no memory.
     pub(crate) fn raise(&mut self, moment: u64)
         requires { self.old.revoked.high ≤ moment }
-        ensures { self.new ≡ record self.old { revoked = record self.old.revoked { high = moment; events = live self.old.revoked.life moment self.old.revoked.events; room = self.new.revoked.room } } }
+        ensures { self.new ≡ record self.old { revoked = record self.old.revoked { high = moment; events = live self.old.revoked.life moment self.old.revoked.events; marks = self.new.revoked.marks; room = self.new.revoked.room } } }
     {
         self.revoked.advance(moment);
         self.high = moment;
     }
 
-    /// Makes room for one change and as many revocations. Refused is what would lead to too many live ones.
-    pub(crate) fn ready(&mut self, more: usize) -> Result<(), Unmade>
+    /// Makes room for one change and as many more revocations. Refused is what would lead to more live ones than these, or
+    /// than may ever be.
+    pub(crate) fn ready(&mut self, most: usize, more: usize) -> Result<(), Unmade>
         ensures same { self.new ≡ record self.old { revoked = record self.old.revoked { room = self.new.revoked.room }; places = self.new.places } }
         ensures room { OnOk result (more ≤ self.new.revoked.room) }
         ensures place { OnOk result ((1 ≤ self.new.places) × (self.old.made < 2 ^ 58)) }
-        ensures free { OnOk result (is_room self.old.revoked.events more ≡ true) }
-        ensures full { result ≡ Err Unmade.Full → is_room self.old.revoked.events more ≡ false }
+        ensures free { OnOk result (is_room most self.old.revoked.events more ≡ true) }
+        ensures full { result ≡ Err Unmade.Full → is_room most self.old.revoked.events more ≡ false }
     {
         if more > 0 {
-            self.room(more)?;
+            self.room(most, more)?;
         }
         self.place()?;
         Ok(())
     }
 
     /// Makes room for as many revocations.
-    fn room(&mut self, more: usize) -> Result<(), Unmade>
+    fn room(&mut self, most: usize, more: usize) -> Result<(), Unmade>
         requires { 0 < more }
         ensures same { self.new ≡ record self.old { revoked = record self.old.revoked { room = self.new.revoked.room } } }
         ensures room { OnOk result (more ≤ self.new.revoked.room) }
-        ensures free { OnOk result (is_room self.old.revoked.events more ≡ true) }
-        ensures full { result ≡ Err Unmade.Full → is_room self.old.revoked.events more ≡ false }
+        ensures free { OnOk result (is_room most self.old.revoked.events more ≡ true) }
+        ensures full { result ≡ Err Unmade.Full → is_room most self.old.revoked.events more ≡ false }
     {
+        if most.saturating_sub(self.revoked.count()) < more {
+            return Err(Unmade::Full);
+        }
         match self.revoked.room(more) {
             Ok(()) => Ok(()),
             Err(RevokeFault::Full(_)) => Err(Unmade::Full),
@@ -168,7 +172,7 @@ impl Log {
         requires room { length things.now ≤ self.old.revoked.room }
         requires place { 1 ≤ self.old.places }
         requires count { self.old.made < 2 ^ 58 }
-        ensures { self.new ≡ written things.now change self.new.revoked.room self.new.places self.old }
+        ensures { self.new ≡ written things.now change self.new.revoked.marks self.new.revoked.room self.new.places self.old }
     {
         revoke_all(&mut self.revoked, self.high, things);
         let entry = Entry {

@@ -6,35 +6,35 @@ use crate::unmade::Unmade;
 use ks_machine::Change;
 
 impl Identity {
-    /// Makes a change that fits, at the highest moment, and writes down what it revokes. Where it is not made, nothing
-    /// changes.
-    pub(crate) fn make(&mut self, change: Change) -> Result<(), Unmade>
-        requires { FitsWithRoom self.old change }
-        ensures { Makes self.old change result self.new }
+    /// Makes a change that fits, at the highest moment, and writes down what it revokes, where at most so many revocations
+    /// are live then. Where it is not made, nothing changes.
+    pub(crate) fn make(&mut self, change: Change, most: usize) -> Result<(), Unmade>
+        requires { FitsWithRoom most self.old change }
+        ensures { Makes most self.old change result self.new }
     {
         match change {
-            Change::PutDomain(row) => self.put_domain(row),
-            Change::PutProject(row) => self.put_project(row),
-            Change::PutUser(row) => self.put_user(row),
-            Change::PutGroup(row) => self.put_group(row),
-            Change::PutRole(row) => self.put_role(row),
-            Change::PutTrust(row) => self.put_trust(row),
-            Change::DropDomain(id) => self.drop_domain(id),
-            Change::DropProject(id) => self.drop_project(id),
-            Change::DropUser(id) => self.drop_user(id),
-            Change::DropGroup(id) => self.drop_group(id),
-            Change::DropRole(id) => self.drop_role(id),
-            Change::DropTrust(id) => self.drop_trust(id),
-            Change::Join(row) => self.join(row),
-            Change::Leave(row) => self.leave(row),
-            Change::Imply(row) => self.imply(row),
-            Change::Unimply(row) => self.unimply(row),
-            Change::Grant(row) => self.grant(row),
-            Change::Ungrant(row) => self.ungrant(row),
-            Change::UseTrust(id) => self.use_trust(id),
-            Change::RevokeToken(audit) => self.revoke_token(audit),
-            Change::Rotate(key) => self.rotate(key),
-            Change::Load(keys) => self.load(keys),
+            Change::PutDomain(row) => self.put_domain(row, most),
+            Change::PutProject(row) => self.put_project(row, most),
+            Change::PutUser(row) => self.put_user(row, most),
+            Change::PutGroup(row) => self.put_group(row, most),
+            Change::PutRole(row) => self.put_role(row, most),
+            Change::PutTrust(row) => self.put_trust(row, most),
+            Change::DropDomain(id) => self.drop_domain(id, most),
+            Change::DropProject(id) => self.drop_project(id, most),
+            Change::DropUser(id) => self.drop_user(id, most),
+            Change::DropGroup(id) => self.drop_group(id, most),
+            Change::DropRole(id) => self.drop_role(id, most),
+            Change::DropTrust(id) => self.drop_trust(id, most),
+            Change::Join(row) => self.join(row, most),
+            Change::Leave(row) => self.leave(row, most),
+            Change::Imply(row) => self.imply(row, most),
+            Change::Unimply(row) => self.unimply(row, most),
+            Change::Grant(row) => self.grant(row, most),
+            Change::Ungrant(row) => self.ungrant(row, most),
+            Change::UseTrust(id) => self.use_trust(id, most),
+            Change::RevokeToken(audit) => self.revoke_token(audit, most),
+            Change::Rotate(key) => self.rotate(key, most),
+            Change::Load(keys) => self.load(keys, most),
         }
     }
 }

@@ -18,59 +18,59 @@ use ks_tree::Tree;
 
 impl Identity {
     #[tactic(auto, unfolding(ks_machine::specs::Changes::apply, ks_machine::specs::Changes::rows_after, ks_machine::specs::Changes::ring_after, ks_machine::specs::Changes::ended_by))]
-    pub(crate) fn put_domain(&mut self, row: DomainRow) -> Result<(), Unmade>
-        ensures { Makes self.old (Change.PutDomain row) result self.new }
+    pub(crate) fn put_domain(&mut self, row: DomainRow, most: usize) -> Result<(), Unmade>
+        ensures { Makes most self.old (Change.PutDomain row) result self.new }
     {
         let things = domain_ended(self.alloc, self.tree.domain(&row.id), &row)?;
         let standing = row.copy()?;
-        self.log.ready(things.as_slice().len())?;
+        self.log.ready(most, things.as_slice().len())?;
         put_domain(&mut self.tree, standing)?;
         self.log.write(things.as_slice(), Change::PutDomain(row));
         Ok(())
     }
 
     #[tactic(auto, unfolding(ks_machine::specs::Lawful::Fits, ks_machine::specs::Changes::apply, ks_machine::specs::Changes::rows_after, ks_machine::specs::Changes::ring_after, ks_machine::specs::Changes::ended_by))]
-    pub(crate) fn put_project(&mut self, row: ProjectRow) -> Result<(), Unmade>
-        requires { FitsWithRoom self.old (Change.PutProject row) }
-        ensures { Makes self.old (Change.PutProject row) result self.new }
+    pub(crate) fn put_project(&mut self, row: ProjectRow, most: usize) -> Result<(), Unmade>
+        requires { FitsWithRoom most self.old (Change.PutProject row) }
+        ensures { Makes most self.old (Change.PutProject row) result self.new }
     {
         let things = project_ended(self.alloc, self.tree.project(&row.id), &row)?;
         let standing = row.copy()?;
-        self.log.ready(things.as_slice().len())?;
+        self.log.ready(most, things.as_slice().len())?;
         put_project(&mut self.tree, standing)?;
         self.log.write(things.as_slice(), Change::PutProject(row));
         Ok(())
     }
 
     #[tactic(auto, unfolding(ks_machine::specs::Changes::apply, ks_machine::specs::Changes::rows_after, ks_machine::specs::Changes::ring_after, ks_machine::specs::Changes::ended_by))]
-    pub(crate) fn put_user(&mut self, row: UserRow) -> Result<(), Unmade>
-        ensures { Makes self.old (Change.PutUser row) result self.new }
+    pub(crate) fn put_user(&mut self, row: UserRow, most: usize) -> Result<(), Unmade>
+        ensures { Makes most self.old (Change.PutUser row) result self.new }
     {
         let things = user_ended(self.alloc, self.people.user(&row.id), &row)?;
         let standing = row.copy()?;
-        self.log.ready(things.as_slice().len())?;
+        self.log.ready(most, things.as_slice().len())?;
         put_user(&mut self.people, standing)?;
         self.log.write(things.as_slice(), Change::PutUser(row));
         Ok(())
     }
 
     #[tactic(auto, unfolding(ks_machine::specs::Changes::apply, ks_machine::specs::Changes::rows_after, ks_machine::specs::Changes::ring_after, ks_machine::specs::Changes::ended_by))]
-    pub(crate) fn put_group(&mut self, row: GroupRow) -> Result<(), Unmade>
-        ensures { Makes self.old (Change.PutGroup row) result self.new }
+    pub(crate) fn put_group(&mut self, row: GroupRow, most: usize) -> Result<(), Unmade>
+        ensures { Makes most self.old (Change.PutGroup row) result self.new }
     {
         let standing = row.copy()?;
-        self.log.ready(0)?;
+        self.log.ready(most, 0)?;
         put_group(&mut self.people, standing)?;
         self.log.write(&[], Change::PutGroup(row));
         Ok(())
     }
 
     #[tactic(auto, unfolding(ks_machine::specs::Changes::apply, ks_machine::specs::Changes::rows_after, ks_machine::specs::Changes::ring_after, ks_machine::specs::Changes::ended_by))]
-    pub(crate) fn put_role(&mut self, row: RoleRow) -> Result<(), Unmade>
-        ensures { Makes self.old (Change.PutRole row) result self.new }
+    pub(crate) fn put_role(&mut self, row: RoleRow, most: usize) -> Result<(), Unmade>
+        ensures { Makes most self.old (Change.PutRole row) result self.new }
     {
         let standing = row.copy()?;
-        self.log.ready(0)?;
+        self.log.ready(most, 0)?;
         put_role(&mut self.roles, standing)?;
         self.log.write(&[], Change::PutRole(row));
         Ok(())
@@ -78,13 +78,13 @@ impl Identity {
 
     /// A trust comes. That its first trustor has its roles was seen when it was planned.
     #[tactic(auto, unfolding(ks_machine::specs::Lawful::Fits, ks_machine::specs::Changes::apply, ks_machine::specs::Changes::rows_after, ks_machine::specs::Changes::ring_after, ks_machine::specs::Changes::ended_by))]
-    pub(crate) fn put_trust(&mut self, row: TrustRow) -> Result<(), Unmade>
-        requires { FitsWithRoom self.old (Change.PutTrust row) }
-        ensures { Makes self.old (Change.PutTrust row) result self.new }
+    pub(crate) fn put_trust(&mut self, row: TrustRow, most: usize) -> Result<(), Unmade>
+        requires { FitsWithRoom most self.old (Change.PutTrust row) }
+        ensures { Makes most self.old (Change.PutTrust row) result self.new }
     {
         let held = row.roles.copy()?;
         let standing = row.copy()?;
-        self.log.ready(0)?;
+        self.log.ready(most, 0)?;
         let moment = self.log.high();
         match self.trusts.create(standing, &held, moment) {
             Ok(()) => {}

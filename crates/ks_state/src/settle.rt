@@ -22,23 +22,24 @@ impl Identity {
     /// What becomes of a call of which this was planned.
     pub(crate) fn settle(
         &mut self,
-        _call: &Call,
+        call: &Call,
         _facts: &Facts,
         moment: u64,
         planned: Result<Plan, Halt>,
     ) -> Decision
-        requires fit { Fit _call.now }
-        requires moment { moment ≡ moment_of self.old.state.high _call.now.reading }
+        requires fit { Fit call.now }
+        requires moment { moment ≡ moment_of self.old.state.high call.now.reading }
         requires stands { (f : Front) × Stands self.old f }
         requires lawful { GoOn }
-        requires planned { (f : Front) → Stands self.old f → IsPlanned (told _facts.now) f _call.now planned }
-        ensures decided { (f : Front) → Stands self.old f → Decided f _call.now _facts.now result self.old self.new }
+        requires planned { (f : Front) → Stands self.old f → IsPlanned (told _facts.now) f call.now planned }
+        ensures decided { (f : Front) → Stands self.old f → Decided f call.now _facts.now result self.old self.new }
     {
         few_facts_suffice();
         match planned {
             Ok(plan) => {
                 self.raise(moment);
-                Decision::Done(self.carry_out(plan))
+                let most = call.command.event_limit();
+                Decision::Done(self.carry_out(plan, most))
             }
             Err(Halt::Refused(cause)) => {
                 self.raise(moment);
@@ -52,23 +53,24 @@ impl Identity {
         }
     }
 
-    /// Makes the change that was planned, if there is one, and tells what was planned.
-    fn carry_out(&mut self, plan: Plan) -> Reply
-        requires { IfSome plan.change (λ what. FitsWithRoom self.old what) }
-        ensures { CarriesOut plan.told plan.change self.old result self.new }
+    /// Makes the change that was planned, if there is one, where at most so many revocations are live then, and tells what
+    /// was planned.
+    fn carry_out(&mut self, plan: Plan, most: usize) -> Reply
+        requires { IfSome plan.change (λ what. FitsWithRoom most self.old what) }
+        ensures { CarriesOut plan.told plan.change most self.old result self.new }
     {
         let (told, change) = plan.into_parts();
-        self.make_and_tell(told, change)
+        self.make_and_tell(told, change, most)
     }
 
     /// Makes this change, if it is one, and tells this.
-    fn make_and_tell(&mut self, told: BodyOut, change: Option<Change>) -> Reply
-        requires { IfSome change (λ what. FitsWithRoom self.old what) }
-        ensures { CarriesOut told change self.old result self.new }
+    fn make_and_tell(&mut self, told: BodyOut, change: Option<Change>, most: usize) -> Reply
+        requires { IfSome change (λ what. FitsWithRoom most self.old what) }
+        ensures { CarriesOut told change most self.old result self.new }
     {
         match change {
             None => Reply::Ok(told),
-            Some(change) => told_if(self.make(change), told),
+            Some(change) => told_if(self.make(change, most), told),
         }
     }
 

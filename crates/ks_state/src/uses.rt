@@ -10,11 +10,11 @@ use ks_machine::Change;
 
 impl Identity {
     #[tactic(auto, unfolding(ks_machine::specs::Lawful::Fits, ks_machine::specs::Changes::apply, ks_machine::specs::Changes::rows_after, ks_machine::specs::Changes::ring_after, ks_machine::specs::Changes::ended_by))]
-    pub(crate) fn use_trust(&mut self, id: Id) -> Result<(), Unmade>
-        requires { FitsWithRoom self.old (Change.UseTrust id) }
-        ensures { Makes self.old (Change.UseTrust id) result self.new }
+    pub(crate) fn use_trust(&mut self, id: Id, most: usize) -> Result<(), Unmade>
+        requires { FitsWithRoom most self.old (Change.UseTrust id) }
+        ensures { Makes most self.old (Change.UseTrust id) result self.new }
     {
-        self.log.ready(0)?;
+        self.log.ready(most, 0)?;
         let Some(trust) = self.trusts.trust(&id) else {
             unreachable!()
         };
@@ -28,32 +28,32 @@ impl Identity {
     }
 
     #[tactic(auto, unfolding(ks_machine::specs::Changes::apply, ks_machine::specs::Changes::rows_after, ks_machine::specs::Changes::ring_after, ks_machine::specs::Changes::ended_by))]
-    pub(crate) fn revoke_token(&mut self, audit: [u8; 16]) -> Result<(), Unmade>
-        ensures { Makes self.old (Change.RevokeToken audit) result self.new }
+    pub(crate) fn revoke_token(&mut self, audit: [u8; 16], most: usize) -> Result<(), Unmade>
+        ensures { Makes most self.old (Change.RevokeToken audit) result self.new }
     {
-        self.log.ready(1)?;
+        self.log.ready(most, 1)?;
         self.log
             .write(&[Revoke::Audit(audit)], Change::RevokeToken(audit));
         Ok(())
     }
 
     #[tactic(auto, unfolding(ks_machine::specs::Lawful::Fits, ks_machine::specs::Changes::apply, ks_machine::specs::Changes::rows_after, ks_machine::specs::Changes::ring_after, ks_machine::specs::Changes::ended_by))]
-    pub(crate) fn rotate(&mut self, key: Key) -> Result<(), Unmade>
-        requires { FitsWithRoom self.old (Change.Rotate key) }
-        ensures { Makes self.old (Change.Rotate key) result self.new }
+    pub(crate) fn rotate(&mut self, key: Key, most: usize) -> Result<(), Unmade>
+        requires { FitsWithRoom most self.old (Change.Rotate key) }
+        ensures { Makes most self.old (Change.Rotate key) result self.new }
     {
-        self.log.ready(0)?;
+        self.log.ready(most, 0)?;
         self.ring.rotate(key, self.settings.max_keys);
         self.log.write(&[], Change::Rotate(key));
         Ok(())
     }
 
     #[tactic(auto, unfolding(ks_machine::specs::Lawful::Fits, ks_machine::specs::Changes::apply, ks_machine::specs::Changes::rows_after, ks_machine::specs::Changes::ring_after, ks_machine::specs::Changes::ended_by))]
-    pub(crate) fn load(&mut self, keys: KeyList) -> Result<(), Unmade>
-        requires { FitsWithRoom self.old (Change.Load keys) }
-        ensures { Makes self.old (Change.Load keys) result self.new }
+    pub(crate) fn load(&mut self, keys: KeyList, most: usize) -> Result<(), Unmade>
+        requires { FitsWithRoom most self.old (Change.Load keys) }
+        ensures { Makes most self.old (Change.Load keys) result self.new }
     {
-        self.log.ready(0)?;
+        self.log.ready(most, 0)?;
         let Ok(()) = self.ring.load(keys.as_slice()) else {
             return Err(Unmade::Memory);
         };

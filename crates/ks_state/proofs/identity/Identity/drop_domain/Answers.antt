@@ -25,9 +25,9 @@ returns c =
     ∙ ap (λ (v : Shown). trusts_after v.state.rows (change.DropDomain gone)) (sym c.self.view_is) ∙ ap (λ (d : Id). trusts_after before (change.DropDomain d)) same in
     let grants = c.drop_grants.ensures ∙ ap (λ (d : Id). grants_dropped d i.tree i.people i.grants) same in
     let people = c.drop_people.ensures ∙ ap (λ (d : Id). people_dropped d i.people) same in
-    let room = subst (λ (l : List Revoke). is_room i.log.revoked.events (length l) ≡ true) (c.as_slice.ensures ∙ sym c.as_slice-2.ensures) c.in_ok-ready.ensures.free in
-    subst (λ (v : Shown). HasRoom v what × (parts i.settings i.rules i.ring left c.write.new.self ≡ changed what v)) c.self.view_is
-    (made i.settings i.rules i.ring before left i.log c.ready.new.self c.write.new.self c.as_slice-2.result.now what c.in_ok-ready.ensures.same c.write.ensures things
+    let room = subst (λ (l : List Revoke). is_room c.args.most i.log.revoked.events (length l) ≡ true) (c.as_slice.ensures ∙ sym c.as_slice-2.ensures) c.in_ok-ready.ensures.free in
+    subst (λ (v : Shown). HasRoom c.args.most v what × (parts i.settings i.rules i.ring left c.write.new.self ≡ changed what v)) c.self.view_is
+    (made c.args.most i.settings i.rules i.ring before left i.log c.ready.new.self c.write.new.self c.as_slice-2.result.now what c.in_ok-ready.ensures.same c.write.ensures things
     (domain_rows i.tree c.drop_domain.new.self i.people c.drop_people.new.people i.roles i.grants c.drop_grants.new.grants i.trusts c.drop_all.new.self c.args.id
     c.in-Ok.ensures.decides.1 people grants trusts)
     refl room c.in_ok-ready.ensures.place.1)
