@@ -1,4 +1,5 @@
 pub mod EventLemmas
 pub mod CalledLemmas
-pub mod RoundLemmas
 pub mod FactLemmas
+pub mod LackLemmas
+pub mod RoundLemmas

@@ -1,5 +1,6 @@
 -- From a hold to its answer, and from round to round.
 use Rattle.std.proofs.Common.{◌≡◌, ℕ, ◌+◌, ◌-◌, ◌≤◌, ◌⊎◌, inl, inr, Bool, true, false, ◌++◌, length, Option, None, refl, sym, ap, subst, ◌∙◌, arith, append-nil}
+use Rattle.ks_auth.specs.Facts.{FactsState}
 use Rattle.ks_machine.specs.declared.call.Call.{Call}
 use Rattle.ks_machine.specs.declared.cause.Cause.TheVariants as cause
 use Rattle.ks_machine.specs.declared.change.Change.{Change}
@@ -152,6 +153,6 @@ called_waited p q r call said w c = record {
 pub answered_in : {F : Type 0} (p held q r : Passed) (call : Call) (said : Answer F) → Waited p held → q ≡ held → Called q r call said → Called p r call said
 answered_in p held q r call said w same c = called_waited p q r call said (subst (Waited p) (sym same) w) c
 
-pub replied_by : {S : Type 0} (means : S → Front → Type 0) (kept : S → ℕ) (f : Front) (call : Call) (came : Decision) (said : Reply) (value : S)
-    → came ≡ decision.Done said → Judged means kept f call came value → Replied means kept f call said value
-replied_by means kept f call came said value is what = subst (λ d. Judged means kept f call d value) is what
+pub replied_by : {S : Type 0} (means : S → Front → Type 0) (kept : S → ℕ) (f : Front) (call : Call) (facts : FactsState) (came : Decision) (said : Reply) (value : S)
+    → came ≡ decision.Done said → Judged means kept f call facts came value → Replied means kept f call said value
+replied_by means kept f call facts came said value is what = subst (λ d. Judged means kept f call facts d value) is what

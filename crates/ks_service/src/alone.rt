@@ -4,7 +4,7 @@ ghost use Rattle.ks_machine.specs.Fronts.{Front};
 ghost use Rattle.ks_machine.specs.Told.{IsTellable};
 ghost use Rattle.ks_state.specs.Decides.{Replied};
 
-use crate::rounds::ROUNDS;
+use crate::rounds::DECISIONS;
 use crate::work::work;
 use ks_auth::Facts;
 use ks_machine::{Call, Cause, Reply};
@@ -22,16 +22,16 @@ pub fn answer_alone<I: Decides>(alloc: Global, state: &mut I, call: &Call) -> Re
     ensures tellable { IsTellable result }
 {
     let mut facts = Facts::new(alloc);
-    for _ in 0..=ROUNDS {
+    for _ in 0..DECISIONS {
         match state.decide(call, &facts) {
             Decision::Done(reply) => return reply,
             Decision::Needs(needs) => {
-                if work(alloc, &needs, call, &mut facts, &Open).is_err() {
+                let Ok(()) = work(alloc, &needs, call, &mut facts, &Open) else {
                     return Reply::Refused(Cause::Memory);
-                }
+                };
             }
         }
     }
-    // No call asks for facts so often.
-    Reply::Refused(Cause::Memory)
+    // Each work found a fact that was lacking, and so the last decision lacked none.
+    unreachable!()
 }

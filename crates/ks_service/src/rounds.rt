@@ -12,6 +12,7 @@ ghost use Rattle.ks_state.specs.Decides.{CanBeTold, Replied};
 use crate::answer::Answer;
 use crate::work::work;
 use ks_auth::Facts;
+use ks_base::limits::KEYS;
 use ks_machine::{Call, Cause, Reply};
 use ks_outside::Open;
 use ks_state::{Decides, Decision, Kept, Needs};
@@ -23,6 +24,10 @@ use std::sync::Wait;
 /// for facts more often.
 pub(crate) const ROUNDS: u32 = 4;
 
+/// How many decisions a call takes at most while nothing changes: each but the last lacks a fact, of what a held key makes of
+/// one of three texts of tokens, or of what is derived of one of two passwords, and the work finds it.
+pub(crate) const DECISIONS: usize = 3 * KEYS + 3;
+
 /// Decides in a hold, and tells how many changes came before.
 fn judge<I: Decides, N: First>(held: &mut Held<I, N>, call: &Call, facts: &Facts) -> (u64, Decision)
     requires fit { Fit call.now }
@@ -30,7 +35,7 @@ fn judge<I: Decides, N: First>(held: &mut Held<I, N>, call: &Call, facts: &Facts
     ensures pass { held.new.pass ≡ held.old.pass }
     ensures count { result.0 ≡ length held.new.pass.seen.changes }
     ensures sound { IsSound held.new.pass.seen }
-    ensures judged { Judged I.stands I.kept held.new.pass.seen call.now result.1 held.new.value }
+    ensures judged { Judged I.stands I.kept held.new.pass.seen call.now facts.now result.1 held.new.value }
     ensures kept { held.new.pass.seen.kept ≤ I.kept held.new.value }
     ensures tellable { CanBeTold result.1 }
 {
@@ -126,16 +131,17 @@ pub(crate) fn last_round<I: Decides, N: First, R: Wait>(
     ensures { Called pass result.0 call.now result.1 }
 {
     let mut held = turn.hold(rt, pass);
-    for _ in rt.forever() {
+    for _ in 0..DECISIONS {
         let (changes, decision) = judge(&mut held, call, &facts);
         match decision {
             Decision::Done(reply) => return settle(turn, held, changes, reply),
             Decision::Needs(needs) => {
-                if work(alloc, &needs, call, &mut facts, &Open).is_err() {
+                let Ok(()) = work(alloc, &needs, call, &mut facts, &Open) else {
                     return without_memory(step_back(turn, held));
-                }
+                };
             }
         }
     }
+    // Each work found a fact that was lacking, and so the last decision lacked none.
     unreachable!()
 }

@@ -24,7 +24,8 @@ pub(crate) fn work<G: Gate>(
     gate: &G,
 ) -> Result<(), Memory>
     requires { AreDerivable needs.now }
-    ensures { OnOk result (IsDone needs.now call.now facts.new) }
+    ensures done { OnOk result (IsDone needs.now call.now facts.new) }
+    ensures kept { OnOk result (AreKept facts.old facts.new) }
 {
     let keys = needs.keys.as_slice();
     let secrets = Secrets::of(&call.command);
