@@ -3,14 +3,14 @@ use Rattle.std.proofs.Common.{◌≡◌, ℕ, ◌+◌, ◌<◌, ◌≤◌, true,
 use Rattle.ks_http.specs.declared.cause.HttpCause.{HttpCause}
 use Rattle.ks_http.specs.declared.ending.Ending.TheVariants as ending
 use Rattle.ks_http.specs.declared.request.Request.{Request}
-use Rattle.ks_http.specs.Next.{Ends, IsFirst, asked as asked_close, ended as ended_close, last as last_close}
+use Rattle.ks_http.specs.Next.{Ends, IsFirst, IsUnfinished, ReadsNeeded, asked as asked_close, ended as ended_close, last as last_close}
 use Rattle.ks_machine.specs.Fronts.{Front}
 use Rattle.ks_outside.specs.Counts.{Counts}
 use Rattle.ks_outside.specs.Desks.{DeskState}
 use Rattle.ks_outside.specs.Files.{DirState}
 use Rattle.ks_outside.specs.Streams.{OnlyReads, OnlyWrites, StreamState}
 use Rattle.ks_server.proofs.AnswerLemmas.{one_of}
-use Rattle.ks_server.proofs.EndLemmas.{asks_end, ends, fills_up, gives_up, moves_on, reads_short, refuses, starts, stops}
+use Rattle.ks_server.proofs.EndLemmas.{asks_end, ends, fills_up, gives_up, moves_on, reads_short, refuses, rests, starts, stops}
 use Rattle.ks_server.proofs.ProgressLemmas.{begun, exits, goes_on}
 use Rattle.ks_server.proofs.WorkLemmas.{works_none}
 use Rattle.ks_server.specs.declared.closed.Closed.{Closed}
@@ -29,11 +29,17 @@ numbers_of number request [] are = tt
 numbers_of number request (x ∷ []) are = (are.0, are.1, tt)
 numbers_of number request (x ∷ y ∷ xs) are = absurd are
 
+pub unrested : {F : Type 0} (why : Closed F) → IsUnwritten why → why ≡ closed.Rests → ⊥
+unrested why is same = subst IsUnwritten same is
+
 unread : {F : Type 0} (why : Closed F) → IsUnwritten why → why ≡ closed.ReadFault → ⊥
 unread why is same = subst IsUnwritten same is
 
 not_read : {F : Type 0} (journal : Front) (xs : List Exchange) (why : Closed F) → IsAnswered journal xs (Err why) → why ≡ closed.ReadFault → ⊥
 not_read journal xs why is same = subst (λ w. IsAnswered journal xs (Err w)) same is
+
+pub not_rested : {F : Type 0} (journal : Front) (xs : List Exchange) (result : Result (Unit {0}) (Closed F)) (why : Closed F) → IsAnswered journal xs result → result ≡ Err why → why ≡ closed.Rests → ⊥
+not_rested journal xs result why is ended same = subst (λ w. IsAnswered journal xs (Err w)) same (subst (λ r. IsAnswered journal xs r) ended is)
 
 abbrev HasReadFault : {F : Type 0} → Closed F → Type 0
 HasReadFault why = why ≡ closed.ReadFault
@@ -59,6 +65,12 @@ end_read F is = cc is
 end_write : (F : Type 0) → HasWriteFault {F = F} closed.End → ⊥
 end_write F is = cc is
 
+rests_read : (F : Type 0) → HasReadFault {F = F} closed.Rests → ⊥
+rests_read F is = cc is
+
+rests_write : (F : Type 0) → HasWriteFault {F = F} closed.Rests → ⊥
+rests_write F is = cc is
+
 read_write : (F : Type 0) → HasWriteFault {F = F} closed.ReadFault → ⊥
 read_write F is = cc is
 
@@ -75,6 +87,10 @@ module _ {F Link : Type 0} {old now new : Passed} {desk desk_now desk_new : Desk
   -- from what was held and left comes the request, and then this is held
   abbrev Came : List ℕ → Type 0
   Came held' = (left : List ℕ) → link_now.left ≡ Some left → (rest : List ℕ) × (link_read.left ≡ Some rest) × IsFirst (held ++ left) request (held' ++ rest)
+
+  -- and no more was read than had to be
+  abbrev Needed : Type 0
+  Needed = (left : List ℕ) → link_now.left ≡ Some left → ReadsNeeded IsUnfinished (held ++ left) left link_read.left
 
   abbrev number : RequestNumber
   number = record { connection = connection; request = count }
@@ -122,31 +138,33 @@ module _ {F Link : Type 0} {old now new : Passed} {desk desk_now desk_new : Desk
     wrote before is = subst (λ r. WritesAnswer new.seen count before link_new.written a.exchanges r) went (a.told before (reads.written ∙ is))
 
     -- and the connection ends with it
-    pub asked : (held' : List ℕ) → Came held' → request.close ≡ true → ServesLink {F = F} old new desk desk_new dir dir_new connection link link_new closed.Asked
-    asked held' came closes =
+    pub asked : (held' : List ℕ) → Came held' → Needed → request.close ≡ true → ServesLink {F = F} old new desk desk_new dir dir_new connection link link_new closed.Asked
+    asked held' came needed closes =
         exits h a.exchanges a.works closed.Asked numbered (read_counts (HasReadFault {F = F} closed.Asked) (asked_read F)) (write_counts (HasWriteFault {F = F} closed.Asked) (λ is. absurd (asked_write F is))) names
         (λ text before behind.
         let next = came behind.rest behind.left_is in
         let w = wrote (before ++ responses new.seen 0 h.exchanges) behind.written_is in
         let same = one_of number request a.exchanges w.0 w.1 a.are in
         subst (λ over. WroteAll new.seen text before link_new.left link_new.written (h.exchanges ++ over) asked_close) (sym w.1)
-        (asks_end behind count w.0 (held' ++ next.0) link_new.left link_new.written h.count_is (subst (λ r. IsFirst (held ++ behind.rest) r (held' ++ next.0)) (sym same) next.2)
+        (asks_end behind count w.0 held' next.0 link_new.left link_new.written h.count_is (a.writes.left ∙ next.1) (subst (λ r. IsFirst (held ++ behind.rest) r (held' ++ next.0)) (sym same) next.2)
+        (subst (λ left. ReadsNeeded IsUnfinished (held ++ behind.rest) behind.rest left) (sym a.writes.left) (needed behind.rest behind.left_is))
         (ap (λ (r : Request). r.close) same ∙ closes) w.2 w.3))
 
-    pub filled : (held' : List ℕ) → Came held' → request.close ≡ false → count + 1 ≡ 1000000 → ServesLink {F = F} old new desk desk_new dir dir_new connection link link_new closed.Last
-    filled held' came going full =
+    pub filled : (held' : List ℕ) → Came held' → Needed → request.close ≡ false → count + 1 ≡ 1000000 → ServesLink {F = F} old new desk desk_new dir dir_new connection link link_new closed.Last
+    filled held' came needed going full =
         exits h a.exchanges a.works closed.Last numbered (read_counts (HasReadFault {F = F} closed.Last) (last_read F)) (write_counts (HasWriteFault {F = F} closed.Last) (λ is. absurd (last_write F is))) names
         (λ text before behind.
         let next = came behind.rest behind.left_is in
         let w = wrote (before ++ responses new.seen 0 h.exchanges) behind.written_is in
         let same = one_of number request a.exchanges w.0 w.1 a.are in
         subst (λ over. WroteAll new.seen text before link_new.left link_new.written (h.exchanges ++ over) last_close) (sym w.1)
-        (fills_up behind count w.0 (held' ++ next.0) link_new.left link_new.written h.count_is (subst (λ r. IsFirst (held ++ behind.rest) r (held' ++ next.0)) (sym same) next.2)
+        (fills_up behind count w.0 held' next.0 link_new.left link_new.written h.count_is (a.writes.left ∙ next.1) (subst (λ r. IsFirst (held ++ behind.rest) r (held' ++ next.0)) (sym same) next.2)
+        (subst (λ left. ReadsNeeded IsUnfinished (held ++ behind.rest) behind.rest left) (sym a.writes.left) (needed behind.rest behind.left_is))
         (ap (λ (r : Request). r.close) same ∙ going) full w.2 w.3))
 
     -- and the connection goes on
-    pub moved : (held' : List ℕ) → Came held' → request.close ≡ false → count + 1 < 1000000 → Progress old new desk desk_new dir dir_new connection (count + 1) link link_new held'
-    moved held' came going few =
+    pub moved : (held' : List ℕ) → Came held' → Needed → request.close ≡ false → count + 1 < 1000000 → Progress old new desk desk_new dir dir_new connection (count + 1) link link_new held'
+    moved held' came needed going few =
         goes_on h a.exchanges a.works held' numbered (ap length one.1) read_more written_more names
         (λ text before behind.
         let next = came behind.rest behind.left_is in
@@ -154,15 +172,20 @@ module _ {F Link : Type 0} {old now new : Passed} {desk desk_now desk_new : Desk
         let same = one_of number request a.exchanges w.0 w.1 a.are in
         subst (λ over. StandsBehind new.seen text before held' link_new.left link_new.written (h.exchanges ++ over)) (sym w.1)
         (moves_on behind count w.0 held' next.0 link_new.left link_new.written h.count_is (a.writes.left ∙ next.1)
-        (subst (λ r. IsFirst (held ++ behind.rest) r (held' ++ next.0)) (sym same) next.2) (ap (λ (r : Request). r.close) same ∙ going) few w.2 w.3))
+        (subst (λ r. IsFirst (held ++ behind.rest) r (held' ++ next.0)) (sym same) next.2)
+        (subst (λ left. ReadsNeeded IsUnfinished (held ++ behind.rest) behind.rest left) (sym a.writes.left) (needed behind.rest behind.left_is)) (ap (λ (r : Request). r.close) same ∙ going) few w.2 w.3))
+
+-- no more was read than had to be
+abbrev NeededHere : List ℕ → StreamState → StreamState → Type 0
+NeededHere held link link_read = (left : List ℕ) → link.left ≡ Some left → ReadsNeeded IsUnfinished (held ++ left) left link_read.left
 
 -- no request came
 module _ {F Link : Type 0} {old now : Passed} {desk desk_now : DeskState Link} {dir dir_now : DirState} {connection count : ℕ} {link link_now link_read : StreamState} {held : List ℕ}
     (h : Progress old now desk desk_now dir dir_now connection count link link_now held)
     {failed : Type 0} (reads : OnlyReads failed link_now link_read) where
   -- the input ended
-  pub ended : ((left : List ℕ) → link_now.left ≡ Some left → Ends (held ++ left) link_read.left ending.End) → ServesLink {F = F} old now desk desk_now dir dir_now connection link link_read closed.End
-  ended ends_so =
+  pub ended : ((left : List ℕ) → link_now.left ≡ Some left → Ends (held ++ left) link_read.left ending.End) → NeededHere held link_now link_read → ServesLink {F = F} old now desk desk_now dir dir_now connection link link_read closed.End
+  ended ends_so needed =
       exits h [] (works_none now desk_now dir_now) closed.End tt
       (record { kept = reads.reads.kept; rose = λ is. absurd (end_read F is) })
       (stands (HasWriteFault {F = F} closed.End) link_now.write_faults link_read.write_faults reads.writes (end_write F))
@@ -170,7 +193,7 @@ module _ {F Link : Type 0} {old now : Passed} {desk desk_now : DeskState Link} {
       (λ text before behind.
       let e = ends_so behind.rest behind.left_is in
       subst (λ w. WroteAll now.seen text before link_read.left w (h.exchanges ++ []) ended_close) (sym reads.written)
-      (ends behind count link_read.left h.count_is e.0 e.1))
+      (ends behind count link_read.left h.count_is e.0 e.1 (needed behind.rest behind.left_is)))
 
   -- the input could not be read
   pub unreadable : ((left : List ℕ) → link_now.left ≡ Some left → Ends (held ++ left) link_read.left ending.ReadFault) → failed
@@ -197,15 +220,33 @@ module _ {F Link : Type 0} {old now : Passed} {desk desk_now : DeskState Link} {
   -- bytes came that are no request
   pub refused : {link_new : StreamState} (why : Closed F) (cause : HttpCause) → OnlyWrites (why ≡ closed.WriteFault) link_read link_new → (why ≡ closed.ReadFault → ⊥)
       → ((before : List ℕ) → link_read.written ≡ Some before → RefusesBytes cause before link_new.written why)
-      → ((left : List ℕ) → link_now.left ≡ Some left → Ends (held ++ left) link_read.left (ending.Bad cause)) → ServesLink old now desk desk_now dir dir_now connection link link_new why
-  refused {link_new} why cause writes others told bad_so =
+      → ((left : List ℕ) → link_now.left ≡ Some left → Ends (held ++ left) link_read.left (ending.Bad cause)) → NeededHere held link_now link_read → ServesLink old now desk desk_now dir dir_now connection link link_new why
+  refused {link_new} why cause writes others told bad_so needed =
       exits h [] (works_none now desk_now dir_now) why tt
       (record { kept = (let same = writes.reads in let more = reads.reads.kept in omega (arith, same, more)); rose = λ is. absurd (others is) })
       (record { kept = (let same = reads.writes in let more = writes.writes.kept in omega (arith, same, more)); rose = λ is. let same = reads.writes in let rose = writes.writes.rose is in omega (arith, same, rose) })
       (writes.names ∙ reads.names)
       (λ text before behind.
       refuses behind why count cause link_new.left link_new.written h.count_is (subst (λ left. Ends (held ++ behind.rest) left (ending.Bad cause)) (sym writes.left) (bad_so behind.rest behind.left_is))
+      (subst (λ left. ReadsNeeded IsUnfinished (held ++ behind.rest) behind.rest left) (sym writes.left) (needed behind.rest behind.left_is))
       (told (before ++ responses now.seen 0 h.exchanges) (reads.written ∙ behind.written_is)))
+
+-- whether the link rests was asked, and it stands as before
+pub after_asking : {Link : Type 0} {old now : Passed} {desk desk_now : DeskState Link} {dir dir_now : DirState} {connection count : ℕ} {link link_now link_new : StreamState} {held : List ℕ}
+    → Progress old now desk desk_now dir dir_now connection count link link_now held → link_new ≡ link_now → Progress old now desk desk_now dir dir_now connection count link link_new held
+after_asking {Link} {old} {now} {desk} {desk_now} {dir} {dir_now} {connection} {count} {link} {link_now} {link_new} {held} h same =
+    subst (λ l. Progress old now desk desk_now dir dir_now connection count link l held) (sym same) h
+
+-- and it rests
+pub rested : {F Link : Type 0} {old now : Passed} {desk desk_now : DeskState Link} {dir dir_now : DirState} {connection count : ℕ} {link link_now : StreamState} {held : List ℕ}
+    → Progress old now desk desk_now dir dir_now connection count link link_now held → held ≡ [] → 0 < count
+    → ServesLink {F = F} old now desk desk_now dir dir_now connection link link_now closed.Rests
+rested {F} {Link} {old} {now} {desk} {desk_now} {dir} {dir_now} {connection} {count} {link} {link_now} {held} h nothing some =
+    exits h [] (works_none now desk_now dir_now) closed.Rests tt
+    (stands (HasReadFault {F = F} closed.Rests) link_now.read_faults link_now.read_faults refl (rests_read F))
+    (stands (HasWriteFault {F = F} closed.Rests) link_now.write_faults link_now.write_faults refl (rests_write F))
+    refl
+    (λ text before behind. rests behind nothing (let count_is = h.count_is in omega (arith, count_is, some)))
 
 -- the connection begins
 pub started : {Link : Type 0} (p : Passed) (desk : DeskState Link) (dir : DirState) (connection : ℕ) (link : StreamState) → Progress p p desk desk dir dir connection 0 link link []

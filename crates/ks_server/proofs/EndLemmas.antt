@@ -1,12 +1,12 @@
 -- How a connection goes on from request to request, and how it ends: the bytes, all at one journal.
 use Rattle.std.proofs.Common.{◌≡◌, inl, inr, ℕ, ◌+◌, ◌<◌, true, false, List, [], ◌∷◌, ◌++◌, length, Option, Some, Err, refl, sym, ap, subst, ◌∙◌, arith, append_assoc, append-nil}
 use Rattle.std.proofs.lemmas.List.{map-append, length-map}
-use Rattle.ks_http.proofs.RequestLemmas.{first_more, first_then, first_read}
+use Rattle.ks_http.proofs.RequestLemmas.{behind_hand, first_more, first_then, first_read, followed_then, in_hand, piece_behind}
 use Rattle.ks_http.specs.declared.cause.HttpCause.{HttpCause}
 use Rattle.ks_http.specs.declared.ending.Ending.TheVariants as ending
 use Rattle.ks_http.specs.declared.request.Request.{Request}
-use Rattle.ks_http.specs.Next.{IsFirst, IsBegun, Ends, Requests, Close, asked, last, ended, bad, none, refused as refused_bytes, cut as cut_bytes, closes, fills}
-use Rattle.ks_http.specs.Requests.{AreFirst}
+use Rattle.ks_http.specs.Next.{IsFirst, IsBegun, IsUnfinished, Ends, ReadsNeeded, ReadsWhile, Requests, Close, asked, last, ended, bad, none, refused as refused_bytes, cut as cut_bytes, closes, fills}
+use Rattle.ks_http.specs.Requests.{AreFirst, AreFollowed}
 use Rattle.ks_http.specs.Responses.{memory_response}
 use Rattle.ks_machine.specs.Fronts.{Front}
 use Rattle.ks_outside.specs.Streams.{Begins}
@@ -17,7 +17,7 @@ use Rattle.ks_server.specs.declared.closed.Closed.{Closed}
 use Rattle.ks_server.specs.declared.closed.Closed.TheVariants as closed
 use Rattle.ks_server.specs.declared.number.RequestNumber.{RequestNumber}
 use Rattle.ks_server.specs.Exchanges.{Exchange, requests_of}
-use Rattle.ks_server.specs.Sessions.{AreTold, EndsSession, IsNextOf, IsNextWord, IsTold, RanOut, ReadShort, WroteAll, WroteShort, answered, cut, last_word, memory, refusal, response, responses}
+use Rattle.ks_server.specs.Sessions.{AreTold, EndsSession, IsNextOf, IsNextWord, IsTold, RanOut, ReadShort, Rested, WroteAll, WroteShort, answered, cut, last_word, memory, refusal, response, responses}
 use Rattle.ks_server.specs.steps.Answers.{AreOf, GivesUp, IsWord, RefusesBytes, WritesAnswer, answered as answered_word, memory as memory_word}
 use Rattle.ks_server.specs.steps.Progress.{StandsBehind}
 
@@ -100,6 +100,7 @@ module _ {journal : Front} {input before held : List ℕ} {left written : Option
   gives_up closed.Memory left' written' over next wrote = out written' over next wrote
   gives_up closed.WriteFault left' written' over next wrote = short written' over memory_response (memory over next) wrote.0 wrote.1 wrote.2
   gives_up closed.End left' written' over next wrote = absurd wrote
+  gives_up closed.Rests left' written' over next wrote = absurd wrote
   gives_up closed.Asked left' written' over next wrote = absurd wrote
   gives_up closed.Last left' written' over next wrote = absurd wrote
   gives_up closed.ReadFault left' written' over next wrote = absurd wrote
@@ -134,6 +135,7 @@ module _ {journal : Front} {input before held : List ℕ} {left written : Option
     written_is = wrote.3;
   }
   stops closed.End count number request rest count_is is left' written' over are wrote = absurd wrote
+  stops closed.Rests count number request rest count_is is left' written' over are wrote = absurd wrote
   stops closed.Asked count number request rest count_is is left' written' over are wrote = absurd wrote
   stops closed.Last count number request rest count_is is left' written' over are wrote = absurd wrote
   stops closed.ReadFault count number request rest count_is is left' written' over are wrote = absurd wrote
@@ -152,62 +154,86 @@ module _ {journal : Front} {input before held : List ℕ} {left written : Option
 
   -- the next request was answered, and another may follow
   pub moves_on : (count : ℕ) (x : Exchange) (held' rest : List ℕ) (left' written' : Option (List ℕ)) → length xs ≡ count → left' ≡ Some rest → IsFirst bytes x.request (held' ++ rest)
-      → x.request.close ≡ false → count + 1 < 1000000 → IsTold journal x → written' ≡ Some (so_far ++ response journal count x)
+      → ReadsNeeded IsUnfinished bytes h.rest left' → x.request.close ≡ false → count + 1 < 1000000 → IsTold journal x → written' ≡ Some (so_far ++ response journal count x)
       → StandsBehind journal input before held' left' written' (xs ++ x ∷ [])
-  moves_on count x held' rest left' written' count_is left_is is going few told wrote =
+  moves_on count x held' rest left' written' count_is left_is is needed going few told wrote =
       let same = counted count count_is in record {
         rest = rest;
         left_is = left_is;
+        short = piece_behind held h.rest held' rest left' x.request left_is is h.short needed;
         are = subst (λ l. AreFirst 0 input l (held' ++ rest)) (sym (requests_more x))
             (first_more 0 input (requests_of xs) bytes x.request (held' ++ rest) h.are is going (omega (arith, same, few)));
         told = all_both (λ y. IsTold journal y) xs (x ∷ []) h.told (told, tt);
         written_is = written_more count x written' count_is wrote;
       }
 
-  whole : (count : ℕ) (over : List Exchange) (close : Close) (left' written' : Option (List ℕ)) → length xs ≡ count → Requests count bytes (requests_of over) close → AreTold journal over
+  whole : (count : ℕ) (over : List Exchange) (close : Close) (left' written' : Option (List ℕ)) (behind : List ℕ) → length xs ≡ count → Requests count bytes (requests_of over) close → AreTold journal over
       → written' ≡ Some (before ++ (responses journal 0 (xs ++ over) ++ last_word close)) → (close ≡ ended → left' ≡ Some [])
-      → WroteAll journal input before left' written' (xs ++ over) close
-  whole count over close left' written' count_is are told wrote end = record {
+      → AreFollowed bytes (requests_of over) behind → ReadsWhile IsUnfinished behind left' → WroteAll journal input before left' written' (xs ++ over) close
+  whole count over close left' written' behind count_is are told wrote end followed needed = record {
     are = subst (λ l. Requests 0 input l close) (sym (map-append (λ (y : Exchange). y.request) xs over))
         (first_then 0 input (requests_of xs) bytes (requests_of over) close h.are (subst (λ n. Requests n bytes (requests_of over) close) (counted count count_is) are));
     told = all_both (λ y. IsTold journal y) xs over h.told told;
     written_is = wrote;
     whole = end;
+    behind = behind;
+    followed = subst (λ l. AreFollowed input l behind) (sym (map-append (λ (y : Exchange). y.request) xs over))
+        (followed_then 0 input (requests_of xs) bytes (requests_of over) behind h.are followed);
+    needed = needed;
   }
 
-  whole_more : (count : ℕ) (x : Exchange) (close : Close) (left' written' : Option (List ℕ)) → length xs ≡ count → Requests count bytes (x.request ∷ []) close → last_word close ≡ []
+  whole_more : (count : ℕ) (x : Exchange) (close : Close) (held' rest : List ℕ) (left' written' : Option (List ℕ)) → length xs ≡ count → left' ≡ Some rest
+      → IsFirst bytes x.request (held' ++ rest) → ReadsNeeded IsUnfinished bytes h.rest left' → Requests count bytes (x.request ∷ []) close → last_word close ≡ []
       → IsTold journal x → written' ≡ Some (so_far ++ response journal count x) → (close ≡ ended → left' ≡ Some [])
       → WroteAll journal input before left' written' (xs ++ x ∷ []) close
-  whole_more count x close left' written' count_is are word told wrote end =
-      whole count (x ∷ []) close left' written' count_is are (told, tt)
+  whole_more count x close held' rest left' written' count_is left_is is needed are word told wrote end =
+      whole count (x ∷ []) close left' written' (held' ++ rest) count_is are (told, tt)
       (written_more count x written' count_is wrote ∙ ap (λ l. Some (before ++ l)) (sym (append-nil (responses journal 0 (xs ++ x ∷ []))) ∙ ap (λ l. responses journal 0 (xs ++ x ∷ []) ++ l) (sym word)))
-      end
+      end (held' ++ rest, is, refl) (in_hand held' rest left' (piece_behind held h.rest held' rest left' x.request left_is is h.short needed) left_is)
 
   -- a request asked that the connection end
-  pub asks_end : (count : ℕ) (x : Exchange) (rest : List ℕ) (left' written' : Option (List ℕ)) → length xs ≡ count → IsFirst bytes x.request rest → x.request.close ≡ true
+  pub asks_end : (count : ℕ) (x : Exchange) (held' rest : List ℕ) (left' written' : Option (List ℕ)) → length xs ≡ count → left' ≡ Some rest → IsFirst bytes x.request (held' ++ rest)
+      → ReadsNeeded IsUnfinished bytes h.rest left' → x.request.close ≡ true
       → IsTold journal x → written' ≡ Some (so_far ++ response journal count x) → WroteAll journal input before left' written' (xs ++ x ∷ []) asked
-  asks_end count x rest left' written' count_is is close told wrote =
-      whole_more count x asked left' written' count_is (closes count bytes rest x.request is close) refl told wrote (λ e. absurd (asked_goes_on e))
+  asks_end count x held' rest left' written' count_is left_is is needed close told wrote =
+      whole_more count x asked held' rest left' written' count_is left_is is needed (closes count bytes (held' ++ rest) x.request is close) refl told wrote (λ e. absurd (asked_goes_on e))
 
   -- it was the last request of a connection
-  pub fills_up : (count : ℕ) (x : Exchange) (rest : List ℕ) (left' written' : Option (List ℕ)) → length xs ≡ count → IsFirst bytes x.request rest → x.request.close ≡ false
+  pub fills_up : (count : ℕ) (x : Exchange) (held' rest : List ℕ) (left' written' : Option (List ℕ)) → length xs ≡ count → left' ≡ Some rest → IsFirst bytes x.request (held' ++ rest)
+      → ReadsNeeded IsUnfinished bytes h.rest left' → x.request.close ≡ false
       → count + 1 ≡ 1000000 → IsTold journal x → written' ≡ Some (so_far ++ response journal count x) → WroteAll journal input before left' written' (xs ++ x ∷ []) last
-  fills_up count x rest left' written' count_is is going all told wrote =
-      whole_more count x last left' written' count_is (fills count bytes rest x.request is going all) refl told wrote (λ e. absurd (last_goes_on e))
+  fills_up count x held' rest left' written' count_is left_is is needed going all told wrote =
+      whole_more count x last held' rest left' written' count_is left_is is needed (fills count bytes (held' ++ rest) x.request is going all) refl told wrote (λ e. absurd (last_goes_on e))
 
   whole_none : (count : ℕ) (close : Close) (left' written' : Option (List ℕ)) → length xs ≡ count → Requests count bytes [] close
-      → written' ≡ Some (so_far ++ last_word close) → (close ≡ ended → left' ≡ Some []) → WroteAll journal input before left' written' (xs ++ []) close
-  whole_none count close left' written' count_is are wrote end =
-      whole count [] close left' written' count_is are tt
+      → written' ≡ Some (so_far ++ last_word close) → (close ≡ ended → left' ≡ Some []) → ReadsNeeded IsUnfinished bytes h.rest left'
+      → WroteAll journal input before left' written' (xs ++ []) close
+  whole_none count close left' written' count_is are wrote end needed =
+      whole count [] close left' written' bytes count_is are tt
       (wrote ∙ ap Some (append_assoc before (responses journal 0 xs) (last_word close)) ∙ ap (λ l. Some (before ++ (responses journal 0 l ++ last_word close))) (sym (append-nil xs)))
-      end
+      end refl (behind_hand held h.rest left' h.short needed)
 
   -- the input ended
-  pub ends : (count : ℕ) (left' : Option (List ℕ)) → length xs ≡ count → bytes ≡ [] → left' ≡ Some []
+  pub ends : (count : ℕ) (left' : Option (List ℕ)) → length xs ≡ count → bytes ≡ [] → left' ≡ Some [] → ReadsNeeded IsUnfinished bytes h.rest left'
       → WroteAll journal input before left' written (xs ++ []) ended
-  ends count left' count_is nothing end =
+  ends count left' count_is nothing end needed =
       whole_none count ended left' written count_is (subst (λ b. Requests count b [] ended) (sym nothing) (none count))
-      (h.written_is ∙ ap Some (sym (append-nil so_far))) (λ e. end)
+      (h.written_is ∙ ap Some (sym (append-nil so_far))) (λ e. end) needed
+
+  -- the link rests
+  pub rests : held ≡ [] → 0 < length xs → Rested journal input before left written (xs ++ [])
+  rests nothing some =
+      let front = first_read 0 input (requests_of xs) [] h.rest (subst (λ l. AreFirst 0 input (requests_of xs) (l ++ h.rest)) nothing h.are) in
+      subst (λ l. Rested journal input before left written l) (sym (append-nil xs)) (record {
+        read = front.0;
+        rest = h.rest;
+        input_is = front.1;
+        left_is = h.left_is;
+        are = front.2;
+        some = some;
+        told = h.told;
+        written_is = h.written_is;
+      })
 
   -- the bytes are no request
   bad_word : (count : ℕ) (cause : HttpCause) (left' : Option (List ℕ)) → Ends bytes left' (ending.Bad cause) → IsNextWord journal (length xs) bytes [] (wire_bad cause)
@@ -223,20 +249,21 @@ module _ {journal : Front} {input before held : List ℕ} {left written : Option
   ]
 
   pub refuses : {F : Type 0} (why : Closed F) (count : ℕ) (cause : HttpCause) (left' written' : Option (List ℕ)) → length xs ≡ count → Ends bytes left' (ending.Bad cause)
-      → RefusesBytes cause so_far written' why → EndsSession journal input before left' written' (xs ++ []) why
-  refuses (closed.BadHttp why) count cause left' written' count_is is wrote =
+      → ReadsNeeded IsUnfinished bytes h.rest left' → RefusesBytes cause so_far written' why → EndsSession journal input before left' written' (xs ++ []) why
+  refuses (closed.BadHttp why) count cause left' written' count_is is needed wrote =
       subst (λ c. WroteAll journal input before left' written' (xs ++ []) (bad c)) (sym wrote.0)
-      (whole_none count (bad cause) left' written' count_is (bad_requests count cause left' is) wrote.1 (λ e. absurd (bad_goes_on cause e)))
-  refuses closed.Memory count cause left' written' count_is is wrote = out written' [] tt wrote
-  refuses closed.WriteFault count cause left' written' count_is is wrote = elim wrote.1 [
+      (whole_none count (bad cause) left' written' count_is (bad_requests count cause left' is) wrote.1 (λ e. absurd (bad_goes_on cause e)) needed)
+  refuses closed.Memory count cause left' written' count_is is needed wrote = out written' [] tt wrote
+  refuses closed.WriteFault count cause left' written' count_is is needed wrote = elim wrote.1 [
     | inl begins ↦ short written' [] (wire_bad cause) (bad_word count cause left' is) wrote.0 begins wrote.2
     | inr begins ↦ short written' [] memory_response (memory [] tt) wrote.0 begins wrote.2
   ]
-  refuses closed.End count cause left' written' count_is is wrote = absurd wrote
-  refuses closed.Asked count cause left' written' count_is is wrote = absurd wrote
-  refuses closed.Last count cause left' written' count_is is wrote = absurd wrote
-  refuses closed.ReadFault count cause left' written' count_is is wrote = absurd wrote
-  refuses (closed.KeeperFault why) count cause left' written' count_is is wrote = absurd wrote
+  refuses closed.End count cause left' written' count_is is needed wrote = absurd wrote
+  refuses closed.Rests count cause left' written' count_is is needed wrote = absurd wrote
+  refuses closed.Asked count cause left' written' count_is is needed wrote = absurd wrote
+  refuses closed.Last count cause left' written' count_is is needed wrote = absurd wrote
+  refuses closed.ReadFault count cause left' written' count_is is needed wrote = absurd wrote
+  refuses (closed.KeeperFault why) count cause left' written' count_is is needed wrote = absurd wrote
 
   -- the input could not be read further
   pub reads_short : (left' : Option (List ℕ)) → IsBegun bytes left' → ReadShort journal input before left' written (xs ++ [])
@@ -261,6 +288,7 @@ starts journal text before left written left_is written_is = record {
   rest = text;
   left_is = left_is;
   are = refl;
+  short = omega arith;
   told = tt;
   written_is = written_is ∙ ap Some (sym (append-nil before) ∙ ap (λ l. before ++ l) (sym (responses_none journal 0)));
 }

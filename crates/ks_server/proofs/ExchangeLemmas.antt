@@ -20,7 +20,9 @@ use Rattle.ks_machine.specs.Fronts.{Front, IsSound, after, answer, change_of as 
 use Rattle.ks_machine.specs.Moment.{moment_of}
 use Rattle.ks_machine.specs.Outcomes.{bytes_in}
 use Rattle.ks_machine.specs.Steps.{step}
-use Rattle.ks_outside.specs.Desks.{DeskState, later_readings, next_reading}
+use Rattle.ks_outside.proofs.CallLemmas.{makes_both}
+use Rattle.ks_outside.specs.declared.desk_call.DeskCall.TheVariants as desk_call
+use Rattle.ks_outside.specs.Desks.{DeskState, Makes, later_readings, next_reading}
 use Rattle.ks_outside.specs.Files.{DirState, KeyFile}
 use Rattle.ks_outside.specs.Streams.{Appends}
 use Rattle.ks_routes.proofs.RangeLemmas.{commands_in_range}
@@ -36,9 +38,9 @@ use Rattle.ks_server.specs.declared.replied.Replied.TheVariants as replied
 use Rattle.ks_server.specs.Exchanges.{calls, refused, Exchange, bare, change_in, cut_at, front_after, left_by, reply_to}
 use Rattle.ks_server.specs.Orders.{AreBy, IsLate}
 use Rattle.ks_server.specs.Sessions.{AreKept}
-use Rattle.ks_server.specs.Ties.{Asks, IsAsked, IsDrawOf, IsPlain, IsReadFor, IsReadFrom, Rises, Tied, failed_draws, is_failed_draw, is_fault}
+use Rattle.ks_server.specs.Ties.{Asks, IsAsked, IsDrawOf, IsPlain, IsReadFor, IsReadFrom, Rises, Tied, calls_in, fills_for, is_failed_draw, is_fault}
 use Rattle.ks_server.specs.Work.{PassMoves}
-use Rattle.ks_server.specs.steps.Answers.{Exchanges, Refuses, Says, told_by, told_where}
+use Rattle.ks_server.specs.steps.Answers.{Exchanges, IsReadied, Refuses, Says, told_by, told_where}
 use Rattle.ks_service.specs.declared.answer.Answer.{Answer}
 use Rattle.ks_service.specs.Called.{Called, IsDecidedUnless, IsNextUnless, capped, is_memory, made_by, numbered}
 use Rattle.ks_state.specs.declared.decides.Kept.{Kept}
@@ -163,20 +165,6 @@ module _ {F : Type 0} (p q : Passed) (call : Call) (said : Answer F) (h : Called
 rises_once : (b : Bool) (before after : ℕ) → Rises (if b then 1 else 0) before after → Rises (0 + (if b then 1 else 0)) before after
 rises_once b before after h = subst (λ n. Rises n before after) (omega arith) h
 
--- only the room for receipts may have changed
-pub tied_after : {Link : Type 0} (old ready new : DeskState Link) (dir dir_after : DirState) (xs : List Exchange) → ready ≡ record old { receipt_room = ready.receipt_room }
-    → Tied ready new dir dir_after xs → Tied old new dir dir_after xs
-tied_after old ready new dir dir_after xs kept h = record {
-  asked = h.asked;
-  receipts = λ before told. h.receipts before (ap (λ d. d.receipts) kept ∙ told);
-  draws = λ bytes told. h.draws bytes (ap (λ d. d.random) kept ∙ told);
-  readings = λ given told. h.readings given (ap (λ d. d.readings) kept ∙ told);
-  failed_draws = subst (λ n. Rises (failed_draws xs) n new.fill_faults) (ap (λ d. d.fill_faults) kept) h.failed_draws;
-  failed_folders = h.failed_folders;
-  folder = h.folder;
-  files = h.files;
-}
-
 -- the call of a command, with the tokens of its request
 abbrev pub call_for : Request → Command → ℕ → Drawn → FolderRead → Call
 call_for request command reading drawn read = record { command = command; caller = request.auth; subject = request.subject; reading = reading; draw = drawn; folder = read }
@@ -190,7 +178,7 @@ pub record HasInputs (request : Request) (command : Command) (draws loads : Bool
   pub read_is : IsReadFor loads read
 
 -- the steps of a call, from one state of the desk to the next
-pub record Steps {F Link : Type 0} (p q : Passed) (desk desk_read desk_drawn desk_noted : DeskState Link) (dir dir_read : DirState) (number : RequestNumber) (request : Request) (command : Command) (reading : ℕ) (drawn : Drawn) (read : FolderRead) (call : Call) (said : Answer F) (failed memory : Bool) : Type 0 where
+pub record Steps {F Link : Type 0} (p q : Passed) (desk desk_ready desk_read desk_drawn desk_noted : DeskState Link) (dir dir_read : DirState) (number : RequestNumber) (request : Request) (command : Command) (reading : ℕ) (drawn : Drawn) (read : FolderRead) (call : Call) (said : Answer F) (failed memory : Bool) : Type 0 where
   pub draws : Bool
   pub loads : Bool
   pub inputs : HasInputs request command draws loads drawn read
@@ -201,16 +189,20 @@ pub record Steps {F Link : Type 0} (p q : Passed) (desk desk_read desk_drawn des
   pub folder : (files : List KeyFile) → dir.files ≡ Some files → IsReadFrom files read
   pub folder_faults : Rises (if is_fault read then 1 else 0) dir.faults dir_read.faults
   pub files : dir_read.files ≡ dir.files
-  pub read_told : (readings : List ℕ) → desk.readings ≡ Some readings → (reading ≡ next_reading readings) × (desk_read.readings ≡ Some (later_readings readings))
-  pub read_kept : desk_read ≡ record desk { readings = desk_read.readings }
+  pub ready : IsReadied desk desk_ready
+  pub read_told : (readings : List ℕ) → desk_ready.readings ≡ Some readings → (reading ≡ next_reading readings) × (desk_read.readings ≡ Some (later_readings readings))
+  pub read_kept : desk_read ≡ record desk_ready { readings = desk_read.readings; calls = desk_read.calls }
+  pub read_calls : Makes (desk_call.Reading ∷ []) desk_ready.calls desk_read.calls
   pub drawn_told : (bytes : List ℕ) → desk_read.random ≡ Some bytes → (rest : List ℕ) × (bytes ≡ bytes_in drawn ++ rest) × (desk_drawn.random ≡ Some rest)
   pub drawn_faults : Rises (if is_failed_draw drawn then 1 else 0) desk_read.fill_faults desk_drawn.fill_faults
-  pub drawn_kept : desk_drawn ≡ record desk_read { random = desk_drawn.random; fill_faults = desk_drawn.fill_faults }
+  pub drawn_kept : desk_drawn ≡ record desk_read { random = desk_drawn.random; fill_faults = desk_drawn.fill_faults; calls = desk_drawn.calls }
+  pub drawn_calls : Makes (fills_for drawn) desk_read.calls desk_drawn.calls
   pub noted_told : Appends (receipt_of number said.changes said.moment drawn failed memory ∷ []) desk_drawn.receipts desk_noted.receipts
-  pub noted_kept : desk_noted ≡ record desk_drawn { receipts = desk_noted.receipts; receipt_room = desk_noted.receipt_room }
+  pub noted_kept : desk_noted ≡ record desk_drawn { receipts = desk_noted.receipts; receipt_room = desk_noted.receipt_room; calls = desk_noted.calls }
+  pub noted_calls : Makes (desk_call.Note ∷ []) desk_drawn.calls desk_noted.calls
 
-module _ {F Link : Type 0} {p q : Passed} {desk desk_read desk_drawn desk_noted : DeskState Link} {dir dir_read : DirState} {number : RequestNumber} {request : Request} {command : Command} {reading : ℕ} {drawn : Drawn} {read : FolderRead} {call : Call} {said : Answer F} {failed memory : Bool}
-    (h : Steps p q desk desk_read desk_drawn desk_noted dir dir_read number request command reading drawn read call said failed memory) where
+module _ {F Link : Type 0} {p q : Passed} {desk desk_ready desk_read desk_drawn desk_noted : DeskState Link} {dir dir_read : DirState} {number : RequestNumber} {request : Request} {command : Command} {reading : ℕ} {drawn : Drawn} {read : FolderRead} {call : Call} {said : Answer F} {failed memory : Bool}
+    (h : Steps p q desk desk_ready desk_read desk_drawn desk_noted dir dir_read number request command reading drawn read call said failed memory) where
   called_for : Called p q (call_for request command reading drawn read) said
   called_for = subst (λ made. Called p q made said) h.call_is h.called
 
@@ -231,18 +223,27 @@ module _ {F Link : Type 0} {p q : Passed} {desk desk_read desk_drawn desk_noted 
   noted : Appends (made_exchange.receipt ∷ []) desk_drawn.receipts desk_noted.receipts
   noted = subst (λ b. Appends (receipt_of number said.changes said.moment drawn failed b ∷ []) desk_drawn.receipts desk_noted.receipts) h.memory_is h.noted_told
 
+  calls_made : Makes (calls_in made_exchange) desk.calls desk_noted.calls
+  calls_made =
+      let decided = makes_both (fills_for drawn) (desk_call.Note ∷ []) desk_read.calls desk_drawn.calls desk_noted.calls h.drawn_calls h.noted_calls in
+      let read = makes_both (desk_call.Reading ∷ []) (fills_for drawn ++ desk_call.Note ∷ []) desk_ready.calls desk_read.calls desk_noted.calls h.read_calls decided in
+      makes_both (desk_call.Ready ∷ []) (desk_call.Reading ∷ (fills_for drawn ++ desk_call.Note ∷ [])) desk.calls desk_ready.calls desk_noted.calls h.ready.calls read
+
   called_tied : Tied desk desk_noted dir dir_read (made_exchange ∷ [])
   called_tied = record {
     asked = (asks, tt);
-    receipts = λ before told. noted before (ap (λ d. d.receipts) h.drawn_kept ∙ ap (λ d. d.receipts) h.read_kept ∙ told);
+    receipts = λ before told. noted before (ap (λ d. d.receipts) h.drawn_kept ∙ ap (λ d. d.receipts) h.read_kept ∙ ap (λ d. d.receipts) h.ready.kept ∙ told);
     draws = λ bytes told.
-        let given = h.drawn_told bytes (ap (λ d. d.random) h.read_kept ∙ told) in
+        let given = h.drawn_told bytes (ap (λ d. d.random) h.read_kept ∙ ap (λ d. d.random) h.ready.kept ∙ told) in
         (given.0, given.1 ∙ ap (λ l. l ++ given.0) (sym (append-nil (bytes_in drawn))), ap (λ d. d.random) h.noted_kept ∙ given.2);
     readings = λ given told.
-        let came = h.read_told given told in
+        let came = h.read_told given (ap (λ d. d.readings) h.ready.kept ∙ told) in
         (later_readings given, (came.0, refl), ap (λ d. d.readings) h.noted_kept ∙ ap (λ d. d.readings) h.drawn_kept ∙ came.1);
+    called = calls_in made_exchange;
+    in_turn = (0, [], sym (append-nil (calls_in made_exchange)), (0, refl));
+    calls = calls_made;
     failed_draws =
-        subst (λ n. Rises (0 + (if is_failed_draw drawn then 1 else 0)) n desk_noted.fill_faults) (ap (λ d. d.fill_faults) h.read_kept)
+        subst (λ n. Rises (0 + (if is_failed_draw drawn then 1 else 0)) n desk_noted.fill_faults) (ap (λ d. d.fill_faults) h.read_kept ∙ ap (λ d. d.fill_faults) h.ready.kept)
         (subst (λ n. Rises (0 + (if is_failed_draw drawn then 1 else 0)) desk_read.fill_faults n) (sym (ap (λ d. d.fill_faults) h.noted_kept))
         (rises_once (is_failed_draw drawn) desk_read.fill_faults desk_drawn.fill_faults h.drawn_faults));
     failed_folders =
@@ -281,18 +282,21 @@ call_fits request command draws loads reading drawn read call inputs is = subst 
 
 -- no exchange was made: there was no memory
 pub none_made : {F Link : Type 0} (p : Passed) (desk desk_after : DeskState Link) (dir dir_after : DirState) (number : RequestNumber) (request : Request)
-    → desk_after ≡ record desk { receipt_room = desk_after.receipt_room } → dir.faults ≤ dir_after.faults → dir_after.files ≡ dir.files
+    → IsReadied desk desk_after → dir.faults ≤ dir_after.faults → dir_after.files ≡ dir.files
     → Exchanges {F = F} p p desk desk_after dir dir_after number request replied.Memory
-none_made p desk desk_after dir dir_after number request kept faults files = record {
+none_made p desk desk_after dir dir_after number request ready faults files = record {
   exchanges = [];
   works = record {
     moves = moves_none p;
     tied = record {
       asked = tt;
-      receipts = λ before told. ap (λ d. d.receipts) kept ∙ told ∙ ap Some (sym (append-nil before));
-      draws = λ bytes told. (bytes, refl, ap (λ d. d.random) kept ∙ told);
-      readings = λ given told. (given, refl, ap (λ d. d.readings) kept ∙ told);
-      failed_draws = subst (λ n. Rises 0 desk.fill_faults n) (sym (ap (λ d. d.fill_faults) kept)) (rises_none desk.fill_faults);
+      receipts = λ before told. ap (λ d. d.receipts) ready.kept ∙ told ∙ ap Some (sym (append-nil before));
+      draws = λ bytes told. (bytes, refl, ap (λ d. d.random) ready.kept ∙ told);
+      readings = λ given told. (given, refl, ap (λ d. d.readings) ready.kept ∙ told);
+      called = desk_call.Ready ∷ [];
+      in_turn = (1, refl);
+      calls = ready.calls;
+      failed_draws = subst (λ n. Rises 0 desk.fill_faults n) (sym (ap (λ d. d.fill_faults) ready.kept)) (rises_none desk.fill_faults);
       failed_folders = record { kept = faults; rose = omega (arith, faults) };
       folder = λ told_files told. tt;
       files = files;
@@ -311,12 +315,13 @@ refused_asks routed.NoRoute request why receipt is plain = (is, plain)
 refused_asks (routed.NoMethod methods) request why receipt is plain = (is, plain)
 refused_asks routed.Memory request why receipt is plain = absurd is
 
-pub refused_exchanges : {F Link : Type 0} (p : Passed) (desk desk_noted : DeskState Link) (dir : DirState) (number : RequestNumber) (request : Request) (why : Cause) (changes moment : ℕ)
+pub refused_exchanges : {F Link : Type 0} (p : Passed) (desk desk_ready desk_noted : DeskState Link) (dir : DirState) (number : RequestNumber) (request : Request) (why : Cause) (changes moment : ℕ)
     → Refuses (command_of request) why → IsSound p.seen → changes ≡ length p.seen.changes → moment ≡ p.seen.high
-    → Appends (receipt_of number changes moment Unused false false ∷ []) desk.receipts desk_noted.receipts
-    → desk_noted ≡ record desk { receipts = desk_noted.receipts; receipt_room = desk_noted.receipt_room }
+    → IsReadied desk desk_ready → Appends (receipt_of number changes moment Unused false false ∷ []) desk_ready.receipts desk_noted.receipts
+    → desk_noted ≡ record desk_ready { receipts = desk_noted.receipts; receipt_room = desk_noted.receipt_room; calls = desk_noted.calls }
+    → Makes (desk_call.Note ∷ []) desk_ready.calls desk_noted.calls
     → Exchanges {F = F} p p desk desk_noted dir dir number request (replied.Reply (reply.Refused why))
-refused_exchanges p desk desk_noted dir number request why changes moment is sound count last noted kept =
+refused_exchanges p desk desk_ready desk_noted dir number request why changes moment is sound count last ready appended kept made_calls =
     let receipt : Receipt = receipt_of number changes moment Unused false false in
     let x : Exchange = record { request = request; asked = refused why; receipt = receipt } in
     let whole : cut_at p.seen receipt ≡ bare p.seen
@@ -343,10 +348,13 @@ refused_exchanges p desk desk_noted dir number request why changes moment is sou
         };
         tied = record {
           asked = (refused_asks (command_of request) request why receipt is (record { draw = refl; folder = refl; memory = refl }), tt);
-          receipts = noted;
-          draws = λ bytes told. (bytes, refl, ap (λ d. d.random) kept ∙ told);
-          readings = λ given told. (given, (tt, refl), ap (λ d. d.readings) kept ∙ told);
-          failed_draws = subst (λ n. Rises 0 desk.fill_faults n) (sym (ap (λ d. d.fill_faults) kept)) (rises_none desk.fill_faults);
+          receipts = λ before told. appended before (ap (λ d. d.receipts) ready.kept ∙ told);
+          draws = λ bytes told. (bytes, refl, ap (λ d. d.random) kept ∙ ap (λ d. d.random) ready.kept ∙ told);
+          readings = λ given told. (given, (tt, refl), ap (λ d. d.readings) kept ∙ ap (λ d. d.readings) ready.kept ∙ told);
+          called = calls_in x;
+          in_turn = (0, [], sym (append-nil (calls_in x)), (0, refl));
+          calls = makes_both (desk_call.Ready ∷ []) (desk_call.Note ∷ []) desk.calls desk_ready.calls desk_noted.calls ready.calls made_calls;
+          failed_draws = subst (λ n. Rises 0 desk.fill_faults n) (sym (ap (λ d. d.fill_faults) kept ∙ ap (λ d. d.fill_faults) ready.kept)) (rises_none desk.fill_faults);
           failed_folders = rises_none dir.faults;
           folder = λ files told. (tt, tt);
           files = refl;
@@ -355,13 +363,3 @@ refused_exchanges p desk desk_noted dir number request why changes moment is sou
       are = (refl, refl, refl);
       says = (x, refl, record { decided = refl; kept = tt }, refl, tt);
     }
-
--- the desk was made ready first
-pub exchanges_after : {F Link : Type 0} {p q : Passed} (old ready new : DeskState Link) {dir dir_after : DirState} {number : RequestNumber} {request : Request} {said : Replied F}
-    → ready ≡ record old { receipt_room = ready.receipt_room } → Exchanges p q ready new dir dir_after number request said → Exchanges p q old new dir dir_after number request said
-exchanges_after {F} {Link} {p} {q} old ready new {dir} {dir_after} {number} {request} {said} kept h = record {
-  exchanges = h.exchanges;
-  works = record { moves = h.works.moves; tied = tied_after old ready new dir dir_after h.exchanges kept h.works.tied };
-  are = h.are;
-  says = h.says;
-}

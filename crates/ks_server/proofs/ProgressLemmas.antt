@@ -25,6 +25,7 @@ stands_kept f g on input before held left written xs within h = record {
   rest = h.rest;
   left_is = h.left_is;
   are = h.are;
+  short = h.short;
   told = told_kept f g on xs within h.told;
   written_is = h.written_is ∙ ap (λ l. Some (before ++ l)) (sym (responses_kept f g on 0 xs within));
 }

@@ -65,6 +65,9 @@ whole_kept f g on input before left written xs close within h = record {
   told = told_kept f g on xs within h.told;
   written_is = h.written_is ∙ ap (λ l. Some (before ++ (l ++ last_word close))) (sym (responses_kept f g on 0 xs within));
   whole = h.whole;
+  behind = h.behind;
+  followed = h.followed;
+  needed = h.needed;
 }
 
 -- how a connection ended reads the same off each later journal
@@ -74,6 +77,16 @@ ends_kept closed.End f g on input before left written xs within h = whole_kept f
 ends_kept closed.Asked f g on input before left written xs within h = whole_kept f g on input before left written xs asked within h
 ends_kept closed.Last f g on input before left written xs within h = whole_kept f g on input before left written xs last within h
 ends_kept (closed.BadHttp why) f g on input before left written xs within h = whole_kept f g on input before left written xs (bad why) within h
+ends_kept closed.Rests f g on input before left written xs within h = record {
+  read = h.read;
+  rest = h.rest;
+  input_is = h.input_is;
+  left_is = h.left_is;
+  are = h.are;
+  some = h.some;
+  told = told_kept f g on xs within h.told;
+  written_is = h.written_is ∙ ap (λ l. Some (before ++ l)) (sym (responses_kept f g on 0 xs within));
+}
 ends_kept closed.ReadFault f g on input before left written xs within h = record {
   read = h.read;
   rest = h.rest;

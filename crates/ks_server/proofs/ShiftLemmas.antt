@@ -4,7 +4,7 @@ use Rattle.std.proofs.lemmas.List.{map-append, length_push}
 use Rattle.std.proofs.lemmas.List.Concat.{flat_map-append}
 use Rattle.ks_machine.specs.Fronts.{Front, ◌⊑◌}
 use Rattle.ks_outside.specs.Counts.{Counts}
-use Rattle.ks_outside.specs.Desks.{DeskState}
+use Rattle.ks_outside.specs.Desks.{DeskState, Makes}
 use Rattle.ks_outside.specs.Files.{DirState}
 use Rattle.ks_outside.specs.Streams.{Appends, StreamState}
 use Rattle.ks_server.proofs.LawLemmas.{moves_in_order}
@@ -66,6 +66,7 @@ pub record KeepsRest {Link : Type 0} (old new : DeskState Link) : Type 0 where
   pub readings : new.readings ≡ old.readings
   pub random : new.random ≡ old.random
   pub receipts : new.receipts ≡ old.receipts
+  pub calls : new.calls ≡ old.calls
   pub fill_faults : new.fill_faults ≡ old.fill_faults
 
 tied_from : {Link : Type 0} (a b c : DeskState Link) (d e : DirState) (xs : List Exchange) → KeepsRest a b → Tied b c d e xs → Tied a c d e xs
@@ -74,6 +75,9 @@ tied_from a b c d e xs keeps h = record {
   receipts = λ before told. h.receipts before (keeps.receipts ∙ told);
   draws = λ bytes told. h.draws bytes (keeps.random ∙ told);
   readings = λ given told. h.readings given (keeps.readings ∙ told);
+  called = h.called;
+  in_turn = h.in_turn;
+  calls = subst (λ calls. Makes h.called calls c.calls) keeps.calls h.calls;
   failed_draws = let same = keeps.fill_faults in let rises = h.failed_draws in record { kept = omega (arith, same, rises.kept); rose = omega (arith, same, rises.rose) };
   failed_folders = h.failed_folders;
   folder = h.folder;
@@ -86,6 +90,9 @@ tied_to a b c d e xs h keeps = record {
   receipts = λ before told. keeps.receipts ∙ h.receipts before told;
   draws = λ bytes told. let then = h.draws bytes told in (then.0, then.1, keeps.random ∙ then.2);
   readings = λ given told. let then = h.readings given told in (then.0, then.1, keeps.readings ∙ then.2);
+  called = h.called;
+  in_turn = h.in_turn;
+  calls = subst (λ calls. Makes h.called a.calls calls) (sym keeps.calls) h.calls;
   failed_draws = let same = keeps.fill_faults in let rises = h.failed_draws in record { kept = omega (arith, same, rises.kept); rose = omega (arith, same, rises.rose) };
   failed_folders = h.failed_folders;
   folder = h.folder;
@@ -100,7 +107,7 @@ pub record Accepted {Link : Type 0} (old new : DeskState Link) : Type 0 where
 
 pub accepted_by : {Link : Type 0} (old new : DeskState Link) → new ≡ record old { coming = new.coming; link_room = new.link_room; accept_faults = new.accept_faults } → Accepted old new
 accepted_by old new kept = record {
-  rest = record { readings = ap (λ d. d.readings) kept; random = ap (λ d. d.random) kept; receipts = ap (λ d. d.receipts) kept; fill_faults = ap (λ d. d.fill_faults) kept };
+  rest = record { readings = ap (λ d. d.readings) kept; random = ap (λ d. d.random) kept; receipts = ap (λ d. d.receipts) kept; calls = ap (λ d. d.calls) kept; fill_faults = ap (λ d. d.fill_faults) kept };
   returned = ap (λ d. d.returned) kept;
 }
 
@@ -111,7 +118,7 @@ pub record GivenBack {Link : Type 0} (old new : DeskState Link) : Type 0 where
 
 pub given_back_by : {Link : Type 0} (old new : DeskState Link) → new ≡ record old { returned = new.returned; link_room = new.link_room } → GivenBack old new
 given_back_by old new kept = record {
-  rest = record { readings = ap (λ d. d.readings) kept; random = ap (λ d. d.random) kept; receipts = ap (λ d. d.receipts) kept; fill_faults = ap (λ d. d.fill_faults) kept };
+  rest = record { readings = ap (λ d. d.readings) kept; random = ap (λ d. d.random) kept; receipts = ap (λ d. d.receipts) kept; calls = ap (λ d. d.calls) kept; fill_faults = ap (λ d. d.fill_faults) kept };
   coming = ap (λ d. d.coming) kept;
   accepts = ap (λ d. d.accept_faults) kept;
 }
@@ -269,6 +276,7 @@ one_more number count connections is few word other = omega (arith, is, few, wor
 
 pub without_fault : {F : Type 0} (why : Closed F) → ((fault : F) → why ≡ closed.KeeperFault fault → ⊥) → HasNoKeeperFault why
 without_fault closed.End other = tt
+without_fault closed.Rests other = tt
 without_fault closed.Asked other = tt
 without_fault closed.Last other = tt
 without_fault closed.ReadFault other = tt

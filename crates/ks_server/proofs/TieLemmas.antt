@@ -1,14 +1,17 @@
 -- Ties to a desk and its folder compose.
-use Rattle.std.proofs.Common.{◌≡◌, ℕ, ◌+◌, Bool, List, [], ◌∷◌, ◌++◌, length, Some, refl, sym, ap, subst, ◌∙◌, arith, append_assoc, append-nil}
+use Rattle.std.proofs.Common.{◌≡◌, ℕ, ◌+◌, Bool, List, [], ◌∷◌, ◌++◌, length, replicate, Some, refl, sym, ap, subst, ◌∙◌, arith, append_assoc, append-nil}
 use Rattle.std.specs.List.{AllByRecursion, count_by}
-use Rattle.std.proofs.lemmas.List.{map-append}
+use Rattle.std.proofs.lemmas.List.{map-append, replicate-append-replicate}
 use Rattle.std.proofs.lemmas.List.Concat.{flat_map-append}
 use Rattle.std.proofs.lemmas.List.Sums.{sum_by-append}
 use Rattle.ks_machine.specs.Outcomes.{bytes_in}
+use Rattle.ks_outside.proofs.CallLemmas.{makes_both, makes_none}
+use Rattle.ks_outside.specs.declared.desk_call.DeskCall.{DeskCall}
+use Rattle.ks_outside.specs.declared.desk_call.DeskCall.TheVariants as desk_call
 use Rattle.ks_outside.specs.Desks.{DeskState}
 use Rattle.ks_outside.specs.Files.{DirState}
 use Rattle.ks_server.specs.Exchanges.{Exchange, receipts_of}
-use Rattle.ks_server.specs.Ties.{AreNumbered, HasFolder, HaveReadings, IsAsked, Rises, Tied, drawn_by, is_failed_draw, readings_after}
+use Rattle.ks_server.specs.Ties.{AreCallsIn, AreNumbered, HasFolder, HaveReadings, IsAsked, Rises, Tied, calls_in, drawn_by, given_up, is_failed_draw, readings_after}
 
 pub all_both : (P : Exchange → Type 0) (xs ys : List Exchange) → AllByRecursion P xs → AllByRecursion P ys → AllByRecursion P (xs ++ ys)
 all_both P [] ys one other = other
@@ -35,6 +38,31 @@ readings_both : (given mid rest : List ℕ) (xs ys : List Exchange) → HaveRead
 readings_both given mid rest [] ys one other = subst (λ l. HaveReadings l ys rest) (sym one) other
 readings_both given mid rest (x ∷ xs) ys one other = (one.0, readings_both (readings_after x.asked given) mid rest xs ys one.1 other)
 
+-- calls
+
+more_given_up : (m n : ℕ) → given_up m ++ given_up n ≡ given_up (m + n)
+more_given_up m n = replicate-append-replicate m n desk_call.Ready
+
+given_up_first : (m : ℕ) (xs : List Exchange) (called : List DeskCall) → AreCallsIn xs called → AreCallsIn xs (given_up m ++ called)
+given_up_first m [] called h = (m + h.0, ap (λ l. given_up m ++ l) h.1 ∙ more_given_up m h.0)
+given_up_first m (x ∷ xs) called h = (
+  m + h.0,
+  h.1,
+  ap (λ l. given_up m ++ l) h.2 ∙ sym (append_assoc (given_up m) (given_up h.0) (calls_in x ++ h.1)) ∙ ap (λ l. l ++ (calls_in x ++ h.1)) (more_given_up m h.0),
+  h.3,
+)
+
+calls_both : (xs ys : List Exchange) (one other : List DeskCall) → AreCallsIn xs one → AreCallsIn ys other → AreCallsIn (xs ++ ys) (one ++ other)
+calls_both [] ys one other first second =
+    subst (λ l. AreCallsIn ys (l ++ other)) (sym first.1) (given_up_first first.0 ys other second)
+calls_both (x ∷ xs) ys one other first second = (
+  first.0,
+  first.1 ++ other,
+  ap (λ l. l ++ other) first.2 ∙ append_assoc (given_up first.0) (calls_in x ++ first.1) other
+      ∙ ap (λ l. given_up first.0 ++ l) (append_assoc (calls_in x) first.1 other),
+  calls_both xs ys first.1 other first.3 second,
+)
+
 -- ties
 
 pub tied_none : {Link : Type 0} (desk : DeskState Link) (dir : DirState) → Tied desk desk dir dir []
@@ -43,6 +71,9 @@ tied_none desk dir = record {
   receipts = λ before told. told ∙ ap Some (sym (append-nil before));
   draws = λ bytes told. (bytes, refl, told);
   readings = λ given told. (given, refl, told);
+  called = [];
+  in_turn = (0, refl);
+  calls = makes_none desk.calls;
   failed_draws = rises_none desk.fill_faults;
   failed_folders = rises_none dir.faults;
   folder = λ files told. tt;
@@ -67,6 +98,9 @@ tied_both a b c d e f xs ys one other = record {
       let first = one.readings given told in
       let then = other.readings first.0 first.2 in
       (then.0, readings_both given first.0 then.0 xs ys first.1 then.1, then.2);
+  called = one.called ++ other.called;
+  in_turn = calls_both xs ys one.called other.called one.in_turn other.in_turn;
+  calls = makes_both one.called other.called a.calls b.calls c.calls one.calls other.calls;
   failed_draws = rises_counted (λ x. is_failed_draw x.receipt.draw) xs ys a.fill_faults b.fill_faults c.fill_faults one.failed_draws other.failed_draws;
   failed_folders = rises_counted (λ x. x.receipt.folder) xs ys d.faults e.faults f.faults one.failed_folders other.failed_folders;
   folder = λ files told. all_both (λ x. HasFolder files x.asked) xs ys (one.folder files told) (other.folder files (one.files ∙ told));

@@ -1,5 +1,5 @@
 -- The session of a connection: the responses to its requests, and how it ends (RFC 9112).
-use Rattle.std.specs.Prelude.{◌≡◌, ◌⊎◌, ℕ, ◌+◌, ◌≤◌, ◌==◌, Bool, true, false, ◌||◌, List, [], ◌∷◌, ◌++◌, length, Option, Some}
+use Rattle.std.specs.Prelude.{◌≡◌, ℕ, ◌+◌, ◌<◌, ◌≤◌, ◌==◌, Bool, true, false, ◌||◌, List, [], ◌∷◌, ◌++◌, length, Option, Some}
 use Rattle.std.specs.List.{AllByRecursion}
 use Rattle.ks_base.specs.declared.limits.TheConstants.{CONNECTION_REQUESTS}
 use Rattle.ks_base.specs.declared.method.Method.{Method}
@@ -7,8 +7,8 @@ use Rattle.ks_base.specs.declared.method.Method.TheVariants as method
 use Rattle.ks_http.specs.declared.cause.HttpCause.{HttpCause}
 use Rattle.ks_http.specs.declared.cause.HttpCause.TheVariants.{Malformed}
 use Rattle.ks_http.specs.declared.request.Request.{Request}
-use Rattle.ks_http.specs.Next.{IsFirst, IsRefused, IsCut, Requests, Close, asked, last, ended, bad}
-use Rattle.ks_http.specs.Requests.{AreFirst}
+use Rattle.ks_http.specs.Next.{IsFirst, IsRefused, IsCut, IsUnfinished, ReadsWhile, Requests, Close, asked, last, ended, bad}
+use Rattle.ks_http.specs.Requests.{AreFirst, AreFollowed}
 use Rattle.ks_http.specs.Responses.{memory_response}
 use Rattle.ks_machine.specs.Fronts.{Front}
 use Rattle.ks_outside.specs.Streams.{Begins}
@@ -68,6 +68,21 @@ pub record WroteAll (journal : Front) (input before : List ℕ) (left written : 
   pub told : AreTold journal xs
   pub written_is : written ≡ Some (before ++ session journal xs close)
   pub whole : close ≡ ended → left ≡ Some []
+  -- of what follows the requests no more was read than had to be
+  pub behind : List ℕ
+  pub followed : AreFollowed input (requests_of xs) behind
+  pub needed : ReadsWhile IsUnfinished behind left
+
+-- the link rests between two requests: those that were read, one at least, have their responses, and no byte more was read
+pub record Rested (journal : Front) (input before : List ℕ) (left written : Option (List ℕ)) (xs : List Exchange) : Type 0 where
+  pub read : List ℕ
+  pub rest : List ℕ
+  pub input_is : input ≡ read ++ rest
+  pub left_is : left ≡ Some rest
+  pub are : AreFirst 0 read (requests_of xs) []
+  pub some : 0 < length xs
+  pub told : AreTold journal xs
+  pub written_is : written ≡ Some (before ++ responses journal 0 xs)
 
 -- the input could not be read further: the responses to the requests that were read whole were written
 pub record ReadShort (journal : Front) (input before : List ℕ) (left written : Option (List ℕ)) (xs : List Exchange) : Type 0 where
@@ -77,7 +92,7 @@ pub record ReadShort (journal : Front) (input before : List ℕ) (left written :
   pub left_is : left ≡ Some rest
   pub behind : List ℕ
   pub are : AreFirst 0 read (requests_of xs) behind
-  pub begun : (behind ≡ []) ⊎ IsCut behind
+  pub begun : IsUnfinished behind
   pub told : AreTold journal xs
   pub written_is : written ≡ Some (before ++ responses journal 0 xs)
 
@@ -139,6 +154,7 @@ pub record LeftOut (journal : Front) (input before : List ℕ) (written : Option
 -- how a connection over an input ends, and what it then has written behind what was there before
 abbrev pub EndsSession : {F : Type 0} → Front → List ℕ → List ℕ → Option (List ℕ) → Option (List ℕ) → List Exchange → Closed F → Type 0
 EndsSession journal input before left written xs closed.End = WroteAll journal input before left written xs ended
+EndsSession journal input before left written xs closed.Rests = Rested journal input before left written xs
 EndsSession journal input before left written xs closed.Asked = WroteAll journal input before left written xs asked
 EndsSession journal input before left written xs closed.Last = WroteAll journal input before left written xs last
 EndsSession journal input before left written xs (closed.BadHttp why) = WroteAll journal input before left written xs (bad why)

@@ -1,5 +1,5 @@
 -- What ties exchanges to the desk and the folder of a worker: the receipts that were noted, and what was read and drawn for them.
-use Rattle.std.specs.Prelude.{◌≡◌, ℕ, ◌+◌, ◌-◌, ◌^◌, ◌≤◌, min, Bool, true, false, List, [], ◌∷◌, ◌++◌, Some, Ok, Err, count_by, flat_map}
+use Rattle.std.specs.Prelude.{◌≡◌, ℕ, ◌+◌, ◌-◌, ◌^◌, ◌≤◌, min, Bool, true, false, List, [], ◌∷◌, ◌++◌, Some, Ok, Err, count_by, flat_map, replicate}
 use Rattle.std.specs.List.{AllByRecursion}
 use Rattle.ks_base.specs.declared.faults.KeysFault.TheVariants as keys
 use Rattle.ks_base.specs.declared.receipt.Drawn.{Drawn}
@@ -15,7 +15,9 @@ use Rattle.ks_machine.specs.declared.command.Command.{Command}
 use Rattle.ks_machine.specs.Actions.{requirements}
 use Rattle.ks_machine.specs.Fit.{IsDraw, IsFolder}
 use Rattle.ks_machine.specs.Outcomes.{bytes_in}
-use Rattle.ks_outside.specs.Desks.{DeskState, later_readings, next_reading}
+use Rattle.ks_outside.specs.declared.desk_call.DeskCall.{DeskCall}
+use Rattle.ks_outside.specs.declared.desk_call.DeskCall.TheVariants as desk_call
+use Rattle.ks_outside.specs.Desks.{DeskState, Makes, later_readings, next_reading}
 use Rattle.ks_outside.specs.Files.{DirState, KeyFile}
 use Rattle.ks_routes.specs.declared.routed.Routed.{Routed}
 use Rattle.ks_routes.specs.declared.routed.Routed.TheVariants as routed
@@ -128,6 +130,33 @@ abbrev pub HasFolder : List KeyFile → Asked → Type 0
 HasFolder files (calls call) = IsReadFrom files call.folder
 HasFolder files (refused why) = Unit {0}
 
+-- the order of its calls
+
+-- the one fill of a command that draws, also where it failed
+abbrev pub fills_for : Drawn → List DeskCall
+fills_for Unused = []
+fills_for (Bytes bytes) = desk_call.Fill 64 ∷ []
+fills_for Failed = desk_call.Fill 64 ∷ []
+
+-- what is asked of a desk for a decision; nothing is for a request that is refused before any call
+abbrev pub calls_for : Asked → Drawn → List DeskCall
+calls_for (calls call) drawn = desk_call.Reading ∷ fills_for drawn
+calls_for (refused why) drawn = []
+
+-- the room for the receipt first, then what the decision takes, and the receipt last
+abbrev pub calls_in : Exchange → List DeskCall
+calls_in x = desk_call.Ready ∷ (calls_for x.asked x.receipt.draw ++ desk_call.Note ∷ [])
+
+-- so many requests for which there was no memory: room for a receipt was asked for, and no more
+abbrev pub given_up : ℕ → List DeskCall
+given_up count = replicate count desk_call.Ready
+
+-- the calls in these exchanges one after the other, and those of requests without one before each and behind the last
+abbrev pub AreCallsIn : List Exchange → List DeskCall → Type 0
+AreCallsIn [] called = (count : ℕ) × (called ≡ given_up count)
+AreCallsIn (x ∷ xs) called =
+    (count : ℕ) × (rest : List DeskCall) × (called ≡ given_up count ++ (calls_in x ++ rest)) × AreCallsIn xs rest
+
 -- from one state of a desk and its folder to another these exchanges were made
 pub record Tied {Link : Type 0} (old new : DeskState Link) (old_dir new_dir : DirState) (xs : List Exchange) : Type 0 where
   -- each asks what its request says
@@ -137,6 +166,10 @@ pub record Tied {Link : Type 0} (old new : DeskState Link) (old_dir new_dir : Di
   -- they have all the bytes and all the readings that the desk gave
   pub draws : (bytes : List ℕ) → old.random ≡ Some bytes → (rest : List ℕ) × (bytes ≡ drawn_by xs ++ rest) × (new.random ≡ Some rest)
   pub readings : (given : List ℕ) → old.readings ≡ Some given → (rest : List ℕ) × HaveReadings given xs rest × (new.readings ≡ Some rest)
+  -- the desk was called for them in this order
+  pub called : List DeskCall
+  pub in_turn : AreCallsIn xs called
+  pub calls : Makes called old.calls new.calls
   -- what they say failed, failed
   pub failed_draws : Rises (failed_draws xs) old.fill_faults new.fill_faults
   pub failed_folders : Rises (failed_folders xs) old_dir.faults new_dir.faults

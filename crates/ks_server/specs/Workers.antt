@@ -69,6 +69,7 @@ AreVisited state journal count (visit ∷ visits) =
 -- a connection did not end since changes could not be kept
 abbrev pub HasNoKeeperFault : {F : Type 0} → Closed F → Type 0
 HasNoKeeperFault closed.End = Unit {0}
+HasNoKeeperFault closed.Rests = Unit {0}
 HasNoKeeperFault closed.Asked = Unit {0}
 HasNoKeeperFault closed.Last = Unit {0}
 HasNoKeeperFault closed.ReadFault = Unit {0}

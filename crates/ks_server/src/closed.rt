@@ -5,6 +5,8 @@ use ks_http::HttpCause;
 pub enum Closed<F> {
     /// The input ended between requests.
     End,
+    /// It rests between two requests, where it may: no byte of a further one was read. Its link is as good as before.
+    Rests,
     /// A request asked for it.
     Asked,
     /// It had 1,000,000 requests.

@@ -12,10 +12,12 @@ mod requests;
 mod respond;
 mod seats;
 mod server;
+mod service;
 mod worker;
 mod workers;
 
 pub use closed::Closed;
 pub use connection::serve_connection;
 pub use laws::{exchanges_are_in_order, sessions_stay, workers_are_placed};
+pub use service::Service;
 pub use workers::{Served, serve};

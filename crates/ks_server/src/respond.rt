@@ -40,6 +40,7 @@ pub fn refuse_bytes<K: Sink, F: Drop>(alloc: Global, cause: HttpCause, sink: &mu
     ensures told { (before : List ℕ) → (K.stream sink.old).written ≡ Some before → RefusesBytes cause before (K.stream sink.new).written result }
     ensures writes { OnlyWrites (result ≡ Closed.WriteFault) (K.stream sink.old) (K.stream sink.new) }
     ensures reads { result ≢ Closed.ReadFault }
+    ensures rests { result ≢ Closed.Rests }
 {
     let Ok(response) = render_bad(alloc, &cause) else {
         return give_up(sink);

@@ -1,10 +1,11 @@
 ghost use Rattle.std.specs.Prelude.{◌≡◌, ◌<◌};
 ghost use Rattle.ks_base.specs.declared.limits.TheConstants.{CONNECTION_REQUESTS};
+ghost use Rattle.ks_outside.specs.Desks.{DeskState};
 ghost use Rattle.ks_outside.specs.Files.{DirState};
 ghost use Rattle.ks_routes.specs.declared.routed.Routed.TheVariants as routed;
 ghost use Rattle.ks_routes.specs.Routes.{command_of};
 ghost use Rattle.ks_server.specs.Ties.{KeepsLinks};
-ghost use Rattle.ks_server.specs.steps.Answers.{Answers, Exchanges, Refuses};
+ghost use Rattle.ks_server.specs.steps.Answers.{Answers, Exchanges, IsReadied, Refuses};
 
 use crate::closed::Closed;
 use crate::draws::draw;
@@ -114,7 +115,7 @@ impl<I: Decides, N: First, R: Wait, G: Gate> Server<'_, I, N, R, G> {
         requires room { 0 < (P.desk desk.old).receipt_room }
         requires is { command_of request ≡ routed.Command command }
         ensures links { KeepsLinks (P.desk desk.old) (P.desk desk.new) }
-        ensures exchanges { Exchanges pass result.0 (P.desk desk.old) (P.desk desk.new) (D.dir dir.old) (D.dir dir.new) number request result.1 }
+        ensures exchanges { (before : DeskState P.Link) → IsReadied before (P.desk desk.old) → Exchanges pass result.0 before (P.desk desk.new) (D.dir dir.old) (D.dir dir.new) number request result.1 }
     {
         let asked = required(&command);
         let Ok(folder) = read_folder(asked.loads, dir) else {
@@ -160,7 +161,7 @@ fn refuse<N: First, P: Desk, F: Drop>(
     requires room { 0 < (P.desk desk.old).receipt_room }
     requires refused { Refuses (command_of request) why }
     ensures links { KeepsLinks (P.desk desk.old) (P.desk desk.new) }
-    ensures exchanges { (dir : DirState) → Exchanges pass result.0 (P.desk desk.old) (P.desk desk.new) dir dir number request result.1 }
+    ensures exchanges { (before : DeskState P.Link) (dir : DirState) → IsReadied before (P.desk desk.old) → Exchanges pass result.0 before (P.desk desk.new) dir dir number request result.1 }
 {
     drop(request);
     let (changes, moment) = pass.front();

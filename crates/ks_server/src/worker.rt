@@ -4,6 +4,7 @@ ghost use Rattle.ks_server.specs.steps.Shifts.{IsWorked};
 use crate::closed::Closed;
 use crate::connection::serve_connection;
 use crate::server::Server;
+use crate::service::Service;
 use ks_outside::{Desk, Gate, KeyDir};
 use ks_state::Decides;
 use ks_turn::{First, Pass};
@@ -65,6 +66,7 @@ impl<I: Decides, N: First, R: Wait, G: Gate> Server<'_, I, N, R, G> {
                 dir,
                 number,
                 &mut link,
+                Service::UntilRest,
                 self.gate,
                 self.routes,
                 self.url,

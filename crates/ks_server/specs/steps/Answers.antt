@@ -8,7 +8,8 @@ use Rattle.ks_machine.specs.declared.cause.Cause.TheVariants as cause
 use Rattle.ks_machine.specs.declared.reply.Reply.{Reply}
 use Rattle.ks_machine.specs.Fronts.{Front}
 use Rattle.ks_machine.specs.Told.{IsTellable}
-use Rattle.ks_outside.specs.Desks.{DeskState}
+use Rattle.ks_outside.specs.declared.desk_call.DeskCall.TheVariants as desk_call
+use Rattle.ks_outside.specs.Desks.{DeskState, Makes}
 use Rattle.ks_outside.specs.Files.{DirState}
 use Rattle.ks_outside.specs.Streams.{Begins, OnlyWrites, StreamState}
 use Rattle.ks_render.specs.Answers.{wire_bad}
@@ -26,6 +27,11 @@ use Rattle.ks_service.specs.Called.{is_memory}
 use Rattle.ks_state.specs.declared.decides.Kept.{Kept}
 use Rattle.ks_state.specs.declared.decides.Kept.TheVariants as keeping
 use Rattle.ks_turn.specs.Passes.{Passed}
+
+-- a desk was asked for room for a receipt
+pub record IsReadied {Link : Type 0} (old new : DeskState Link) : Type 0 where
+  pub kept : new ≡ record old { receipt_room = new.receipt_room; calls = new.calls }
+  pub calls : Makes (desk_call.Ready ∷ []) old.calls new.calls
 
 -- one exchange at most, for this request
 abbrev pub AreOf : RequestNumber → Request → List Exchange → Type 0
@@ -90,6 +96,7 @@ abbrev pub IsUnwritten : {F : Type 0} → Closed F → Type 0
 IsUnwritten closed.WriteFault = Unit {0}
 IsUnwritten closed.Memory = Unit {0}
 IsUnwritten closed.End = ⊥
+IsUnwritten closed.Rests = ⊥
 IsUnwritten closed.Asked = ⊥
 IsUnwritten closed.Last = ⊥
 IsUnwritten closed.ReadFault = ⊥

@@ -1,5 +1,6 @@
 -- How far a connection has come.
 use Rattle.std.specs.Prelude.{◌≡◌, ℕ, ◌≤◌, List, ◌++◌, length, Option, Some}
+use Rattle.ks_http.specs.declared.buffer.TheConstants.{PIECE_BYTES}
 use Rattle.ks_http.specs.Requests.{AreFirst}
 use Rattle.ks_machine.specs.Fronts.{Front}
 use Rattle.ks_outside.specs.Desks.{DeskState}
@@ -11,11 +12,12 @@ use Rattle.ks_server.specs.Ties.{AreNumbered}
 use Rattle.ks_server.specs.Work.{Works}
 use Rattle.ks_turn.specs.Passes.{Passed}
 
--- these requests were answered, and these bytes are next
+-- these requests were answered, and these bytes are next, of which at most a piece was read
 pub record StandsBehind (journal : Front) (input before held : List ℕ) (left written : Option (List ℕ)) (xs : List Exchange) : Type 0 where
   pub rest : List ℕ
   pub left_is : left ≡ Some rest
   pub are : AreFirst 0 input (requests_of xs) (held ++ rest)
+  pub short : length held ≤ PIECE_BYTES
   pub told : AreTold journal xs
   pub written_is : written ≡ Some (before ++ responses journal 0 xs)
 

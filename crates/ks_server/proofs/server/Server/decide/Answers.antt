@@ -3,8 +3,8 @@ use Rattle.ks_server.proofs.ExchangeLemmas.{HasInputs, Steps, call_fits, called_
 use Rattle.ks_server.proofs.server.Server.decide.Goals as goal
 
 pub returns-in_default-clause-exchanges : goal.returns-in_default-clause-exchanges
-returns-in_default-clause-exchanges g c =
-    none_made c.args.pass _ _ _ _ c.args.number c.args.request refl c.read_folder.ensures.kept c.read_folder.ensures.files
+returns-in_default-clause-exchanges g c before ready =
+    none_made c.args.pass _ _ _ _ c.args.number c.args.request ready c.read_folder.ensures.kept c.read_folder.ensures.files
 
 pub call-pass-requires-clause-fit : goal.call-pass-requires-clause-fit
 call-pass-requires-clause-fit g c =
@@ -19,8 +19,8 @@ call-pass-requires-clause-fit g c =
     c.call_of-call.result inputs c.call_of-call.ensures
 
 pub returns-clause-exchanges : goal.returns-clause-exchanges
-returns-clause-exchanges g c =
-    let steps : Steps c.args.pass c.call-pass.result.0 (g.P.Desk.desk c.args.desk.now) (g.P.Desk.desk c.reading-reading.new.self) (g.P.Desk.desk c.draw-draw.new.desk)
+returns-clause-exchanges g c before ready =
+    let steps : Steps c.args.pass c.call-pass.result.0 before (g.P.Desk.desk c.args.desk.now) (g.P.Desk.desk c.reading-reading.new.self) (g.P.Desk.desk c.draw-draw.new.desk)
     (g.P.Desk.desk c.note.new.self) (g.D.KeyDir.dir c.args.dir.now) (g.D.KeyDir.dir c.read_folder.new.dir) c.args.number c.args.request c.args.command
     c.reading-reading.result c.draw-draw.result c.in-Ok.folder c.call_of-call.result c.call-pass.result.1 c.has_failed-failed.result c.is_memory.result = record {
       draws = c.required-asked.result.draws;
@@ -39,12 +39,16 @@ returns-clause-exchanges g c =
       folder = c.in-Ok.ensures.told;
       folder_faults = c.in-Ok.ensures.faults;
       files = c.read_folder.ensures.files;
+      ready = ready;
       read_told = c.reading-reading.ensures.told;
       read_kept = c.reading-reading.ensures.kept;
+      read_calls = c.reading-reading.ensures.calls;
       drawn_told = c.draw-draw.ensures.told;
       drawn_faults = c.draw-draw.ensures.faults;
       drawn_kept = c.draw-draw.ensures.kept;
+      drawn_calls = c.draw-draw.ensures.calls;
       noted_told = c.note.ensures.told;
       noted_kept = c.note.ensures.kept;
+      noted_calls = c.note.ensures.calls;
     } in
     called_exchanges steps c.of.result c.of.ensures
