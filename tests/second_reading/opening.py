@@ -1,6 +1,7 @@
 """The ring of keys (Keystone's administration guide, Fernet keys) and the opening file."""
 
 import hashlib
+import re
 
 from second_reading.words import OpeningRefused
 from second_reading.ciphers import key_of
@@ -68,11 +69,18 @@ def derived(password, salt, rounds):
     return (salt, rounds, hashlib.pbkdf2_hmac("sha256", password.encode(), salt, rounds, 32))
 
 
+def url_text(path, value):
+    """A URL that stands in fields of responses: visible ASCII behind the scheme."""
+    text = any_text(path, value)
+    range_unless(len(text) <= 1024 and re.fullmatch(r"https?://[!-~]*", text), path)
+    return text
+
+
 def settings_in(root):
     """The settings of an opening file."""
     place = (at(root, "settings")[0], optional(at(root, "settings"), an_object, {}))
     return {
-        "url": optional(at(place, "url"), any_text, "http://127.0.0.1:5000"),
+        "url": optional(at(place, "url"), url_text, "http://127.0.0.1:5000"),
         "life": optional(at(place, "life"), whole(60, 604800), 3600),
         "rounds": optional(at(place, "rounds"), whole(1, 100000), 10000),
         "max_active_keys": optional(at(place, "max_active_keys"), whole(2, 32), 3),

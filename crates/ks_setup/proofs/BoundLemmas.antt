@@ -21,7 +21,7 @@ use Rattle.ks_setup.specs.declared.written.KeysFrom.TheVariants.{Folder, File}
 use Rattle.ks_setup.specs.declared.written.Written.{Written}
 use Rattle.ks_setup.specs.Entries.{Entry, entries, entries_from, listed}
 use Rattle.ks_setup.specs.Steps.{AreFew}
-use Rattle.ks_setup.specs.Written.{default_settings, document_of, domain_in, file_of, folder_named, folder_text, grant_in, group_in, implication_in, key_in, key_texts, keys_from, keys_of, listed_or_named, member_in, project_in, role_in, settings_at, settings_in, settings_of, user_in, written_in}
+use Rattle.ks_setup.specs.Written.{default_settings, document_of, domain_in, file_of, folder_named, folder_text, grant_in, group_in, implication_in, key_in, key_texts, keys_from, keys_of, listed_or_named, member_in, project_in, role_in, settings_at, settings_in, settings_of, url_text, user_in, written_in}
 
 -- what was read in two parts was read in each
 parts : {A B F : Type 0} (r : Result A F) (f : A → Result B F) (b : B) → (r >>= f) ≡ Ok b → (a : A) × (r ≡ Ok a) × (f a ≡ Ok b)
@@ -82,7 +82,7 @@ settings_rounds : (place : Place) (settings : Settings) → settings_at place �
 unfolding settings_at
 settings_rounds place settings h =
     let P : Settings → Type 0 = λ s. IsRounds s.rounds in
-    let url = parts (optional any_text (names (codes "url")) place) _ settings h in
+    let url = parts (optional url_text (names (codes "url")) place) _ settings h in
     let life = parts (optional (whole 60 604800) (names (codes "life")) place) _ settings url.2 in
     let rounds = parts (optional (whole 1 100000) (names (codes "rounds")) place) _ settings life.2 in
     let most = parts (optional (whole 2 32) (names (codes "max_active_keys")) place) _ settings rounds.2 in

@@ -1,5 +1,5 @@
 -- How the answers of the steps make the answer of the whole.
-use Rattle.std.proofs.Common.{◌≡◌, ℕ, List, Ok, Err, ap, ◌∙◌}
+use Rattle.std.proofs.Common.{◌≡◌, ℕ, List, [], Ok, Err, refl, ap, ◌∙◌}
 use Rattle.std.specs.Prelude.{Result}
 use Rattle.serde_json.specs.Data.{Data}
 use Rattle.ks_base.specs.declared.key.Key.{Key}
@@ -12,6 +12,7 @@ use Rattle.ks_policy.specs.declared.fault.PolicyFault.{PolicyFault}
 use Rattle.ks_policy.specs.declared.fault.PolicyFault.TheVariants as policy
 use Rattle.ks_shape.specs.Bodies.{whole_document}
 use Rattle.ks_shape.specs.Readings.{ReadsBy}
+use Rattle.ks_setup.proofs.DrawLemmas.{drew_nothing}
 use Rattle.ks_setup.specs.declared.derive.DeriveFault.{DeriveFault}
 use Rattle.ks_setup.specs.declared.derive.DeriveFault.TheVariants as derive
 use Rattle.ks_setup.specs.declared.keys.RingFault.TheVariants as keys
@@ -57,6 +58,19 @@ document_checks (Err Random) text file held is h = absurd h
 document_checks (Err Memory) text file held is h = tt
 
 -- the opening
+
+-- what is refused before any password is derived leaves the desk
+pub unchecked_answers : {Link : Type 0} (e : OpeningFault) (text : List ℕ) (held : List (ℕ × Key)) (desk : DeskState Link)
+    → Checks text held (Err e) → AnswersOpening text held desk desk (Err e)
+unchecked_answers (Shape fault) text held desk h = (h, refl)
+unchecked_answers (Policy policy.NotObject) text held desk h = (h.0, h.1, refl)
+unchecked_answers (Policy (policy.NotText name)) text held desk h = (h.0, h.1, refl)
+unchecked_answers (Policy (policy.Cycle name)) text held desk h = (h.0, h.1, refl)
+unchecked_answers (Policy policy.TooMany) text held desk h = (h.0, h.1, refl)
+unchecked_answers (Policy policy.Memory) text held desk h = absurd h
+unchecked_answers (BadKey path) text held desk h = (h.0, h.1, refl)
+unchecked_answers Random text held desk h = absurd h
+unchecked_answers Memory text held desk h = ([], drew_nothing desk)
 
 pub no_opening_answers : {Link : Type 0} (e : DeriveFault) (checked : Checked) (text : List ℕ) (held : List (ℕ × Key)) (old new : DeskState Link)
     → Checks text held (Ok checked) → Assembles checked old new (Err e) → AnswersOpening text held old new (Err (of_derive e))

@@ -12,7 +12,7 @@ use Rattle.ks_shape.specs.declared.misfit.Misfit.TheVariants as misfit
 use Rattle.ks_shape.specs.Bodies.{whole_document}
 use Rattle.ks_shape.specs.Fields.{needed, optional, optional_value}
 use Rattle.ks_shape.specs.Places.{Place, entry_at, names}
-use Rattle.ks_shape.specs.Types.{any_text, description_text, id_text, list_of, name_text, password_text, truth, whole}
+use Rattle.ks_shape.specs.Types.{description_text, id_text, list_of, name_text, password_text, truth, whole}
 use Rattle.ks_shape.proofs.PropertyLemmas.{If, needed_in, optional_in, skip, step}
 use Rattle.ks_shape.proofs.RangeLemmas.{name_in, description_in, whole_in}
 use Rattle.ks_setup.specs.declared.written.Written.{Written}
@@ -20,7 +20,7 @@ use Rattle.ks_setup.specs.declared.written.WrittenUser.{WrittenUser}
 use Rattle.ks_setup.specs.Entries.{Entry, entries, entries_from, if_listed, listed}
 use Rattle.ks_setup.specs.Openings.{password_row, users_from}
 use Rattle.ks_setup.specs.Ranges.{OpensInRange}
-use Rattle.ks_setup.specs.Written.{default_domain, default_settings, document_of, domain_in, file_of, grant_in, group_in, implication_in, is_folder, keys_of, member_in, project_in, role_in, settings_at, settings_in, settings_of, user_in, written_in}
+use Rattle.ks_setup.specs.Written.{default_domain, default_settings, document_of, domain_in, file_of, grant_in, group_in, implication_in, is_folder, keys_of, member_in, project_in, role_in, settings_at, settings_in, settings_of, url_text, user_in, written_in}
 
 -- fields
 
@@ -43,7 +43,7 @@ default_in = record {
 settings_in_range : (place : Place) → IfOk (settings_at place) IsSettings
 unfolding settings_at
 settings_in_range place =
-    skip IsSettings (optional any_text (names (codes "url")) place) _ (λ url.
+    skip IsSettings (optional url_text (names (codes "url")) place) _ (λ url.
     step IsSettings (If (IsInRange 60 604800)) (optional (whole 60 604800) (names (codes "life")) place) _
     (optional_in (IsInRange 60 604800) (whole 60 604800) (whole_in 60 604800) (names (codes "life")) place) (λ life is_life.
     step IsSettings (If (IsInRange 1 100000)) (optional (whole 1 100000) (names (codes "rounds")) place) _

@@ -44,11 +44,14 @@ field_wanted path =
     (if ends path (codes ".enabled") then codes "true or false" else
     (if ends path (codes ".inherited") then codes "true or false" else id_wanted path))))
 
+abbrev pub url_wanted : List ℕ
+url_wanted = codes "a URL of at most 1024 visible characters that begins with http:// or https://"
+
 abbrev pub setting_wanted : List ℕ → List ℕ
 setting_wanted path =
     if ends path (codes ".life") then codes "a whole number from 60 to 604800" else
     (if ends path (codes ".rounds") then codes "a whole number from 1 to 100000" else
-    (if ends path (codes ".max_active_keys") then codes "a whole number from 2 to 32" else codes "a text"))
+    (if ends path (codes ".max_active_keys") then codes "a whole number from 2 to 32" else url_wanted))
 
 -- of the file itself, its members and their entries
 abbrev pub member_wanted : List ℕ → List ℕ

@@ -1,5 +1,5 @@
 -- What an opening file opens with. Its form is tested first, then its policy, then its keys; then the passwords are derived.
-use Rattle.std.specs.Prelude.{◌≡◌, ◌⊎◌, ◌≤◌, ◌<◌, ℕ, suc, ◌*◌, Bool, if◌then◌else◌, List, [], ◌∷◌, ◌++◌, length, take, drop, Option, Some, None, is_some, Result, Ok, Err, unwrap_or, codes, decimal}
+use Rattle.std.specs.Prelude.{◌≡◌, ◌⊎◌, ◌≤◌, ◌<◌, ℕ, suc, ◌+◌, ◌*◌, Bool, if◌then◌else◌, List, [], ◌∷◌, ◌++◌, length, take, drop, replicate, Option, Some, None, is_some, Result, Ok, Err, unwrap_or, codes, decimal}
 use Rattle.serde_json.specs.Data.{Data, object, no_members}
 use Rattle.serde_json.specs.Find.{get}
 use Rattle.ks_base.specs.declared.key.Key.{Key}
@@ -8,7 +8,9 @@ use Rattle.ks_base.specs.declared.users.UserRow.{UserRow}
 use Rattle.ks_hmac.specs.Pbkdf2.{pbkdf2_of}
 use Rattle.ks_fernet.specs.KeyText.{key_of}
 use Rattle.ks_outside.specs.Counts.{Rose}
-use Rattle.ks_outside.specs.Desks.{DeskState}
+use Rattle.ks_outside.specs.declared.desk_call.DeskCall.{DeskCall}
+use Rattle.ks_outside.specs.declared.desk_call.DeskCall.TheVariants as call
+use Rattle.ks_outside.specs.Desks.{DeskState, Makes}
 use Rattle.ks_machine.specs.Openings.{NamedRule, PlainOpening}
 use Rattle.ks_policy.specs.declared.fault.PolicyFault.{PolicyFault}
 use Rattle.ks_policy.specs.declared.fault.PolicyFault.TheVariants as policy
@@ -103,11 +105,19 @@ pub record Opens (text : List ℕ) (held : List (ℕ × Key)) (drawn : List ℕ)
   pub implications : opening.implications ≡ written.implications
   pub assignments : opening.assignments ≡ written.assignments
 
--- from a desk these bytes were drawn, and nothing else of it changed but that its fills may have failed
-pub record Drew {Link : Type 0} (old new : DeskState Link) (drawn : List ℕ) : Type 0 where
+-- so many calls for the 16 bytes of a salt
+abbrev pub salt_calls : ℕ → List DeskCall
+salt_calls count = replicate count (call.Fill 16)
+
+-- from a desk these bytes were drawn, each 16 of them by a fill of their own, and so many fills more failed. No other call was made,
+-- and nothing else of it changed
+pub record Drew {Link : Type 0} (old new : DeskState Link) (drawn : List ℕ) (failed : ℕ) : Type 0 where
   pub told : (bytes : List ℕ) → old.random ≡ Some bytes → (rest : List ℕ) × (bytes ≡ drawn ++ rest) × (new.random ≡ Some rest)
-  pub kept : new ≡ record old { random = new.random; fill_faults = new.fill_faults }
+  pub kept : new ≡ record old { random = new.random; fill_faults = new.fill_faults; calls = new.calls }
   pub count : old.fill_faults ≤ new.fill_faults
+  pub salts : ℕ
+  pub whole : length drawn ≡ 16 * salts
+  pub calls : Makes (salt_calls (salts + failed)) old.calls new.calls
 
 -- the form is right
 abbrev pub IsFormed : List ℕ → Type 0
@@ -133,14 +143,14 @@ LacksBytes text held drawn =
 
 -- what a reading of the file answers, and what it leaves of the desk; of want of memory the desk alone is said
 abbrev pub AnswersOpening : {Link : Type 0} → List ℕ → List (ℕ × Key) → DeskState Link → DeskState Link → Result Opening OpeningFault → Type 0
-AnswersOpening text held old new (Ok opening) = (drawn : List ℕ) × Opens text held drawn (plain opening) × Drew old new drawn
+AnswersOpening text held old new (Ok opening) = (drawn : List ℕ) × Opens text held drawn (plain opening) × Drew old new drawn 0
 AnswersOpening text held old new (Err (Shape fault)) = (file_of text ≡ Err fault) × (new ≡ old)
 AnswersOpening text held old new (Err (Policy policy.Memory)) = ⊥
 AnswersOpening text held old new (Err (Policy fault)) = IsFormed text × LoadsPolicy text (Err fault) × (new ≡ old)
 AnswersOpening text held old new (Err (BadKey path)) = HasPolicy text × HasBadKey text path × (new ≡ old)
 AnswersOpening text held old new (Err Random) =
-    HasPolicy text × ((drawn : List ℕ) × LacksBytes text held drawn × Drew old new drawn × Rose old.fill_faults new.fill_faults)
-AnswersOpening text held old new (Err Memory) = (drawn : List ℕ) × Drew old new drawn
+    HasPolicy text × ((drawn : List ℕ) × LacksBytes text held drawn × Drew old new drawn 1 × Rose old.fill_faults new.fill_faults)
+AnswersOpening text held old new (Err Memory) = (drawn : List ℕ) × Drew old new drawn 0
 
 -- whether a file takes its keys from the folder; it is refused for its form alone
 abbrev pub AnswersFolder : List ℕ → Result Bool OpeningFault → Type 0

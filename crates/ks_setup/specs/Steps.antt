@@ -103,17 +103,17 @@ bytes_for (Some password) = 16
 abbrev pub derived_row : ℕ → List ℕ → List ℕ → PasswordRow
 derived_row rounds password salt = record { salt = salt; rounds = rounds; digest = pbkdf2_of password salt rounds }
 
--- so many bytes were drawn, and this was made of them; or a fill failed, and none were drawn
+-- so many bytes were drawn, and this was made of them; or the one fill failed, and none were drawn
 abbrev pub Draws : {Link A F : Type 0} → ℕ → (List ℕ → A) → DeskState Link → DeskState Link → Result A F → Type 0
-Draws count made old new (Ok a) = (drawn : List ℕ) × (length drawn ≡ count) × (a ≡ made drawn) × Drew old new drawn
-Draws count made old new (Err fault) = (0 < count) × Drew old new [] × Rose old.fill_faults new.fill_faults
+Draws count made old new (Ok a) = (drawn : List ℕ) × (length drawn ≡ count) × (a ≡ made drawn) × Drew old new drawn 0
+Draws count made old new (Err fault) = (0 < count) × Drew old new [] 1 × Rose old.fill_faults new.fill_faults
 
 abbrev pub Derives : {Link : Type 0} → ℕ → List WrittenUser → DeskState Link → DeskState Link → Result (List UserRow) DeriveFault → Type 0
 Derives rounds users old new (Ok rows) =
-    (drawn : List ℕ) × (length drawn ≡ 16 * passwords users) × (rows ≡ users_from rounds users drawn) × Drew old new drawn
+    (drawn : List ℕ) × (length drawn ≡ 16 * passwords users) × (rows ≡ users_from rounds users drawn) × Drew old new drawn 0
 Derives rounds users old new (Err derive.Random) =
-    (drawn : List ℕ) × FallsShort users drawn × Drew old new drawn × Rose old.fill_faults new.fill_faults
-Derives rounds users old new (Err derive.Memory) = (drawn : List ℕ) × Drew old new drawn
+    (drawn : List ℕ) × FallsShort users drawn × Drew old new drawn 1 × Rose old.fill_faults new.fill_faults
+Derives rounds users old new (Err derive.Memory) = (drawn : List ℕ) × Drew old new drawn 0
 
 -- the opening, once the file is checked
 
@@ -136,8 +136,8 @@ opened checked users = record {
 abbrev pub Assembles : {Link : Type 0} → Checked → DeskState Link → DeskState Link → Result Opening DeriveFault → Type 0
 Assembles checked old new (Ok opening) =
     (drawn : List ℕ) × (length drawn ≡ 16 * passwords checked.written.users)
-    × (opening ≡ opened checked (users_from checked.written.settings.rounds checked.written.users drawn)) × Drew old new drawn
+    × (opening ≡ opened checked (users_from checked.written.settings.rounds checked.written.users drawn)) × Drew old new drawn 0
 Assembles checked old new (Err derive.Random) =
-    (drawn : List ℕ) × FallsShort checked.written.users drawn × Drew old new drawn
+    (drawn : List ℕ) × FallsShort checked.written.users drawn × Drew old new drawn 1
     × Rose old.fill_faults new.fill_faults
-Assembles checked old new (Err derive.Memory) = (drawn : List ℕ) × Drew old new drawn
+Assembles checked old new (Err derive.Memory) = (drawn : List ℕ) × Drew old new drawn 0

@@ -1,7 +1,8 @@
 -- What an opening file says, apart from its policy. Its members, the entries of each list and the fields of each entry are
 -- read in the order in which they stand here, and the first fault is the file's. Null counts as absent for a member of the
 -- file and for a field that is not needed.
-use Rattle.std.specs.Prelude.{ℕ, Bool, true, false, nat_lt, nat_le, List, [], ◌∷◌, length, Option, Some, None, Result, Ok, Err, codes, unwrap_or}
+use Rattle.std.specs.Prelude.{ℕ, ◌==◌, ◌&&◌, ◌||◌, Bool, true, false, nat_lt, nat_le, List, [], ◌∷◌, length, Option, Some, None, Result, Ok, Err, codes, unwrap_or}
+use Rattle.std.specs.List.{list_all, starts_with}
 use Rattle.std.specs.Str.{bytes_eq}
 use Rattle.serde_json.specs.Data.{Data, Items}
 use Rattle.serde_json.specs.Find.{as_array}
@@ -9,7 +10,7 @@ use Rattle.ks_base.specs.declared.grants.Actor.TheVariants as actor
 use Rattle.ks_base.specs.declared.grants.Target.TheVariants as target
 use Rattle.ks_base.specs.declared.grants.GrantRow.{GrantRow}
 use Rattle.ks_base.specs.declared.grants.ImplyRow.{ImplyRow}
-use Rattle.ks_base.specs.declared.limits.TheConstants.{DEFAULT_KEYS, DEFAULT_LIFE, DEFAULT_ROUNDS, FEWEST_KEYS, KEYS, LONGEST_LIFE, OPENING_BYTES, ROUNDS, SHORTEST_LIFE}
+use Rattle.ks_base.specs.declared.limits.TheConstants.{DEFAULT_KEYS, DEFAULT_LIFE, DEFAULT_ROUNDS, FEWEST_KEYS, KEYS, LONGEST_LIFE, OPENING_BYTES, ROUNDS, SHORTEST_LIFE, URL_BYTES}
 use Rattle.ks_base.specs.declared.rows.DomainRow.{DomainRow}
 use Rattle.ks_base.specs.declared.rows.GroupRow.{GroupRow}
 use Rattle.ks_base.specs.declared.rows.ProjectRow.{ProjectRow}
@@ -23,7 +24,7 @@ use Rattle.ks_shape.specs.declared.misfit.Misfit.TheVariants as misfit
 use Rattle.ks_shape.specs.Bodies.{document, whole_document}
 use Rattle.ks_shape.specs.Fields.{FieldType, needed, optional, optional_value}
 use Rattle.ks_shape.specs.Places.{Place, names, path_at}
-use Rattle.ks_shape.specs.Types.{any_text, count_of, description_text, id_text, list_of, name_text, password_text, truth, whole}
+use Rattle.ks_shape.specs.Types.{any_text, count_of, description_text, id_text, list_of, name_text, password_text, text_of, truth, whole}
 use Rattle.ks_setup.specs.declared.written.KeysFrom.{KeysFrom}
 use Rattle.ks_setup.specs.declared.written.KeysFrom.TheVariants as keys
 use Rattle.ks_setup.specs.declared.written.Written.{Written}
@@ -35,10 +36,24 @@ use Rattle.ks_setup.specs.Entries.{Entry, entries, entries_from, listed}
 abbrev pub default_settings : Settings
 default_settings = record { url = codes "http://127.0.0.1:5000"; life = DEFAULT_LIFE; rounds = DEFAULT_ROUNDS; max_keys = DEFAULT_KEYS; folder = true }
 
--- the URL has no limit
+-- a visible character of ASCII
+abbrev pub is_visible : ℕ → Bool
+is_visible b = nat_lt 32 b && nat_lt b 127
+
+-- one line of visible ASCII that begins with the scheme of HTTP: it stands in fields of responses, where a line's end would begin another
+abbrev pub is_url : List ℕ → Bool
+is_url text = list_all is_visible text
+    && (starts_with (λ a b. a == b) text (codes "http://") || starts_with (λ a b. a == b) text (codes "https://"))
+
+unfoldable pub url_text : FieldType (List ℕ)
+url_text value = do
+  text ← text_of 1 URL_BYTES value
+  _ ← need (is_url text) misfit.Range
+  Ok text
+
 unfoldable pub settings_at : Place → Result Settings ShapeFault
 settings_at place = do
-  url ← optional any_text (names (codes "url")) place
+  url ← optional url_text (names (codes "url")) place
   life ← optional (whole SHORTEST_LIFE LONGEST_LIFE) (names (codes "life")) place
   rounds ← optional (whole 1 ROUNDS) (names (codes "rounds")) place
   most ← optional (whole FEWEST_KEYS KEYS) (names (codes "max_active_keys")) place

@@ -1,13 +1,15 @@
-ghost use Rattle.std.specs.Prelude.{◌≡◌, IfOk};
+ghost use Rattle.std.specs.Prelude.{◌≡◌, ◌==◌, IfOk};
+ghost use Rattle.std.specs.List.{list_all, starts_with};
 ghost use Rattle.ks_shape.specs.Places.{place_of};
 ghost use Rattle.ks_shape.specs.Readings.{Reads};
 ghost use Rattle.ks_shape.specs.Types.{whole};
-ghost use Rattle.ks_setup.specs.Written.{default_settings, settings_at, settings_of};
+ghost use Rattle.ks_setup.specs.Written.{default_settings, is_url, is_visible, settings_at, settings_of, url_text};
 
 use crate::rows::text_or;
+use ks_base::limits::URL_BYTES;
 use ks_base::{Memory, ShapeRefusal, Text};
 use ks_machine::Settings;
-use ks_shape::{AnyText, FieldType, Misfit, Node, Unread, Whole};
+use ks_shape::{FieldType, Misfit, Node, TextOf, Unread, Whole};
 use serde_json::Value;
 use std::alloc::Global;
 
@@ -52,6 +54,54 @@ impl FieldType for Count {
     }
 }
 
+/// The public URL, which stands in fields of responses: one line of visible ASCII with the scheme of HTTP in front.
+#[derive(Clone, Copy)]
+pub(crate) struct UrlText;
+
+fn is_visible(byte: u8) -> bool
+    ensures { result ≡ is_visible byte }
+{
+    32 < byte && byte < 127
+}
+
+fn are_visible(text: &[u8]) -> bool
+    ensures { result ≡ list_all is_visible text.now }
+{
+    text.iter().all(|byte| is_visible(*byte))
+}
+
+fn begins(text: &[u8], scheme: &[u8]) -> bool
+    ensures { result ≡ starts_with (λ a b. a == b) text.now scheme.now }
+{
+    text.starts_with(scheme)
+}
+
+/// Whether the text is one line of visible ASCII that begins with `http://` or `https://`.
+fn is_url(text: &[u8]) -> bool
+    ensures { result ≡ is_url text.now }
+{
+    are_visible(text) && (begins(text, b"http://") || begins(text, b"https://"))
+}
+
+impl FieldType for UrlText {
+    type Field = Text;
+
+    ghost reads = { λ _. url_text };
+
+    #[tactic(auto, unfolding(crate::specs::Written::url_text))]
+    fn read(&self, alloc: Global, value: &Value) -> Result<Text, Unread> {
+        let limits = TextOf {
+            least: 1,
+            most: URL_BYTES,
+        };
+        let text = limits.read(alloc, value)?;
+        if is_url(text.as_slice()) {
+            return Ok(text);
+        }
+        Err(Unread::Misfit(Misfit::Range))
+    }
+}
+
 fn default_settings(alloc: Global) -> Result<Settings, Memory>
     ensures { IfOk result (λ made. made ≡ default_settings) }
 {
@@ -69,7 +119,7 @@ fn default_settings(alloc: Global) -> Result<Settings, Memory>
 fn settings_at(alloc: Global, place: &Node) -> Result<Settings, ShapeRefusal>
     ensures { Reads result (settings_at (place_of place.now)) }
 {
-    let url = place.optional(&["url"], &AnyText)?;
+    let url = place.optional(&["url"], &UrlText)?;
     let life = place.optional(&["life"], &LIFE)?;
     let rounds = place.optional(&["rounds"], &ROUNDS)?;
     let max_keys = place.optional(&["max_active_keys"], &MAX_KEYS)?;

@@ -96,7 +96,7 @@ fn setting_wanted(path: &[u8]) -> &'static str
     if ends(path, b".max_active_keys") {
         return "a whole number from 2 to 32";
     }
-    "a text"
+    "a URL of at most 1024 visible characters that begins with http:// or https://"
 }
 
 /// What is wanted of the file, of its members and of their entries.

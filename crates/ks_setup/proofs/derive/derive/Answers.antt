@@ -12,5 +12,5 @@ returns g c =
       search rules,
       ap row (c.digest.ensures.digest ∙ ap digest_of c.of-derived.ensures),
       drew_piece (g.P.Desk.desk c.args.desk.now) (g.P.Desk.desk c.fill.new.self) c.fill.new.into c.in_ok-fill.ensures.told
-          c.fill.ensures.kept c.fill.ensures.faults.kept,
+          c.fill.ensures.kept c.fill.ensures.faults.kept (search rules) c.fill.ensures.calls,
     )

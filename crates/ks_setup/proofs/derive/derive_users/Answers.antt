@@ -1,8 +1,13 @@
-use Rattle.std.proofs.Common.{◌∙◌, sym}
+use Rattle.std.proofs.Common.{[], ◌∙◌, sym}
 use Rattle.std.specs.Vec.Iter.{into_iter_items}
 use Rattle.std.proofs.lemmas.Result.{err_from_is_err_and}
-use Rattle.ks_setup.proofs.DrawLemmas.{deriving_none, deriving_more, deriving_end, deriving_failed, drew_row}
+use Rattle.ks_setup.proofs.DrawLemmas.{drew_nothing, deriving_none, deriving_more, deriving_end, deriving_failed, drew_row}
 use Rattle.ks_setup.proofs.derive.derive_users.Goals as goal
+
+pub returns-in_err-rows : goal.returns-in_err-rows
+returns-in_err-rows g c =
+    let p = err_from_is_err_and c.from_residual.result c.from_residual.ensures.1 in
+    rw (p.1, p.2) ([], drew_nothing (g.P.Desk.desk c.args.desk.now))
 
 pub loop-user-init : goal.loop-user-init
 loop-user-init g c =
