@@ -5,7 +5,7 @@ use Rattle.std.specs.List.{AllZip}
 use Rattle.std.specs.declared.convert.Infallible.{Infallible}
 use Rattle.ks_base.specs.declared.faults.KeysFault.TheVariants as keys
 use Rattle.ks_machine.specs.Fronts.{Front, first_front}
-use Rattle.ks_outside.specs.Counts.{Rose}
+use Rattle.ks_outside.specs.Counts.{Counts, Rose}
 use Rattle.ks_outside.specs.Desks.{DeskState}
 use Rattle.ks_outside.specs.Files.{DirState}
 use Rattle.ks_outside.specs.Streams.{StreamState}
@@ -20,7 +20,7 @@ use Rattle.ks_state.specs.Shown.{Shown}
 use Rattle.ks_top.specs.declared.fault.Fault.{Fault}
 use Rattle.ks_top.specs.declared.fault.Fault.TheVariants as fault
 use Rattle.ks_top.specs.Identities.{Opened, Stopped}
-use Rattle.ks_top.specs.Laws.{CommandsComplete, DeskFaultsAreCounted, EndsUnfailed, IsCounted, IsUnfailed, NothingFailed, SomeAcceptRose, StoodStill, TalksComplete, places_of}
+use Rattle.ks_top.specs.Laws.{CommandsComplete, ConnectionsComplete, DeskFaultsAreCounted, EndsUnfailed, IsCounted, IsUnfailed, NothingFailed, SomeAcceptRose, StoodStill, places_of}
 use Rattle.ks_top.specs.Runs.{ChangesKeys, Checks, Does, Runs}
 use Rattle.ks_top.specs.Serve.{desk_fault, serving}
 use Rattle.ks_top.specs.Serve as serve
@@ -90,17 +90,23 @@ stopped_unfailed view old new fault.Usage stopped nothing = absurd stopped.stops
 stopped_unfailed view old new fault.Write stopped nothing = absurd stopped.stops
 stopped_unfailed view old new (fault.BadLine n) stopped nothing = absurd stopped.stops
 
--- `talk`
+-- connections
 
-pub talks_complete : (Link Seat : Type 0) → TalksComplete Link Seat
-talks_complete Link Seat old new opening opened journal xs closed.End talked reads writes = tt
-talks_complete Link Seat old new opening opened journal xs closed.Asked talked reads writes = tt
-talks_complete Link Seat old new opening opened journal xs closed.Last talked reads writes = tt
-talks_complete Link Seat old new opening opened journal xs (closed.BadHttp why) talked reads writes = tt
-talks_complete Link Seat old new opening opened journal xs closed.Memory talked reads writes = tt
-talks_complete Link Seat old new opening opened journal xs closed.ReadFault talked reads writes = absurd (reads (talked.reads.rose refl))
-talks_complete Link Seat old new opening opened journal xs closed.WriteFault talked reads writes = absurd (writes (talked.writes.rose refl))
-talks_complete Link Seat old new opening opened journal xs (closed.KeeperFault never) talked reads writes = elim never [ ]
+closes_unfailed : (reads reads_after writes writes_after : ℕ) (why : Closed Infallible) → Counts (why ≡ closed.ReadFault) reads reads_after → Counts (why ≡ closed.WriteFault) writes writes_after
+    → StoodStill reads reads_after → StoodStill writes writes_after → IsUnfailed why
+closes_unfailed reads reads_after writes writes_after closed.End read wrote still stayed = tt
+closes_unfailed reads reads_after writes writes_after closed.Asked read wrote still stayed = tt
+closes_unfailed reads reads_after writes writes_after closed.Last read wrote still stayed = tt
+closes_unfailed reads reads_after writes writes_after (closed.BadHttp why) read wrote still stayed = tt
+closes_unfailed reads reads_after writes writes_after closed.Memory read wrote still stayed = tt
+closes_unfailed reads reads_after writes writes_after closed.Rests read wrote still stayed = tt
+closes_unfailed reads reads_after writes writes_after closed.ReadFault read wrote still stayed = absurd (still (read.rose refl))
+closes_unfailed reads reads_after writes writes_after closed.WriteFault read wrote still stayed = absurd (stayed (wrote.rose refl))
+closes_unfailed reads reads_after writes writes_after (closed.KeeperFault never) read wrote still stayed = elim never [ ]
+
+pub connections_complete : ConnectionsComplete
+connections_complete journal number visit visited still stayed =
+    closes_unfailed visit.accepted.read_faults visit.returned.read_faults visit.accepted.write_faults visit.returned.write_faults visit.why visited.reads visited.writes still stayed
 
 ending_unfailed : (why : Closed Infallible) (f : Option Fault) → ending why f → IsUnfailed why → EndsUnfailed f
 ending_unfailed closed.End f is unfailed = unfailed_as f None is tt
@@ -108,15 +114,16 @@ ending_unfailed closed.Asked f is unfailed = unfailed_as f None is tt
 ending_unfailed closed.Last f is unfailed = unfailed_as f None is tt
 ending_unfailed (closed.BadHttp why) f is unfailed = unfailed_as f None is tt
 ending_unfailed closed.Memory f is unfailed = unfailed_as f (Some fault.Memory) is (inl refl)
+ending_unfailed closed.Rests f is unfailed = absurd is
 ending_unfailed closed.ReadFault f is unfailed = absurd unfailed
 ending_unfailed closed.WriteFault f is unfailed = absurd unfailed
 ending_unfailed (closed.KeeperFault never) f is unfailed = absurd unfailed
 
 talked_unfailed : {Link Seat : Type 0} (view : Seat → Place Link) (old new : World Link Seat) (f : Option Fault) (state : Shown)
     → (opened : Opened (λ opening desk. ServedOne old new f opening desk state) old new) → NothingFailed view old new → EndsUnfailed f
-talked_unfailed {Link} {Seat} view old new f state opened nothing =
+talked_unfailed view old new f state opened nothing =
     elim opened.done as (λ _. EndsUnfailed f) [
-      | inl s ↦ ending_unfailed s.why f s.ends (talks_complete Link Seat old new opened.opening opened.desk s.journal s.exchanges s.why s.talked nothing.input nothing.output)
+      | inl s ↦ ending_unfailed s.why f s.ends (closes_unfailed old.input.read_faults new.input.read_faults old.output.write_faults new.output.write_faults s.why s.talked.reads s.talked.writes nothing.input nothing.output)
       | inr h ↦ unfailed_as f (Some fault.Memory) h.memory (inl refl)
     ]
 
@@ -148,7 +155,7 @@ abbrev StillAccepts : {Link : Type 0} → Place Link → Place Link → Type 0
 StillAccepts before after = StoodStill before.desk.accept_faults after.desk.accept_faults
 
 -- the opening accepts nothing
-accepted_first : {Link : Type 0} (old opened : DeskState Link) (count : ℕ) → opened ≡ record old { random = opened.random; fill_faults = opened.fill_faults }
+accepted_first : {Link : Type 0} (old opened : DeskState Link) (count : ℕ) → opened ≡ record old { random = opened.random; fill_faults = opened.fill_faults; calls = opened.calls }
     → StoodStill old.accept_faults count → StoodStill opened.accept_faults count
 accepted_first old opened count kept still = subst (λ n. StoodStill n count) (sym (ap (λ (d : DeskState _). d.accept_faults) kept)) still
 
@@ -207,6 +214,7 @@ ending_is_none closed.Asked is = cc is
 ending_is_none closed.Last is = cc is
 ending_is_none (closed.BadHttp why) is = cc is
 ending_is_none closed.Memory is = cc is
+ending_is_none closed.Rests is = is
 ending_is_none closed.ReadFault is = cc is
 ending_is_none closed.WriteFault is = cc is
 ending_is_none (closed.KeeperFault never) is = is
@@ -245,7 +253,7 @@ rose_in_all view (suc count) (x ∷ xs) (y ∷ ys) rose =
     ]
 
 rose_of_first : {Link Seat : Type 0} (view : Seat → Place Link) (count : ℕ) (old opened : DeskState Link) (new : Place Link) (dir : DirState) (xs ys : List Seat)
-    → opened ≡ record old { random = opened.random; fill_faults = opened.fill_faults }
+    → opened ≡ record old { random = opened.random; fill_faults = opened.fill_faults; calls = opened.calls }
     → SomeAcceptRose (record { desk = opened; dir = dir } ∷ map view (take count xs)) (new ∷ map view (take count ys)) → SomeAcceptRose (record { desk = old; dir = dir } ∷ map view xs) (new ∷ map view ys)
 rose_of_first view count old opened new dir xs ys kept rose =
     elim rose as (λ _. Rose old.accept_faults new.desk.accept_faults ⊎ SomeAcceptRose (map view xs) (map view ys)) [

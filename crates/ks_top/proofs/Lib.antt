@@ -7,4 +7,5 @@ pub mod TalkLemmas
 pub mod RunLemmas
 pub mod ServeLemmas
 pub mod LawLemmas
-pub mod JournalLemmas
+pub mod HeadlineLemmas
+pub mod DeterminedLemmas

@@ -10,6 +10,7 @@ use Rattle.ks_base.specs.declared.key.Key.{Key}
 use Rattle.ks_base.specs.declared.limits.TheConstants.{OPENING_BYTES}
 use Rattle.ks_base.specs.declared.shapes.ShapeFault.{ShapeFault}
 use Rattle.ks_base.specs.declared.shapes.ShapeFault.TheVariants as shape
+use Rattle.ks_outside.proofs.CallLemmas.{makes_none}
 use Rattle.ks_outside.specs.Desks.{DeskState}
 use Rattle.ks_outside.specs.Files.{DirState}
 use Rattle.ks_outside.specs.Streams.{StreamState, Takes}
@@ -23,11 +24,24 @@ use Rattle.ks_setup.specs.Written.{document_of, file_of, folder_wanted}
 use Rattle.ks_top.specs.declared.fault.Fault.{Fault}
 use Rattle.ks_top.specs.declared.fault.Fault.TheVariants as fault
 use Rattle.ks_top.specs.Opened.{AreHeld, IsOpening, IsText, RefusesFolder, RefusesForm, StopsOpening}
-use Rattle.ks_top.specs.steps.Openings.{HasRead, IsRead, IsWhole, RefusesKeys, StopsHeld, of_opening}
+use Rattle.ks_top.specs.steps.Openings.{HasRead, IsRead, IsReadFault, IsWhole, RefusesKeys, StopsHeld, of_opening}
 
 -- a desk from which nothing was drawn
-pub drew_none : {Link : Type 0} (desk : DeskState Link) → Drew desk desk []
-drew_none desk = record { told = λ bytes is. (bytes, refl, is); kept = refl; count = omega arith }
+pub drew_none : {Link : Type 0} (desk : DeskState Link) → Drew desk desk [] 0
+drew_none desk = record { told = λ bytes is. (bytes, refl, is); kept = refl; count = omega arith; salts = 0; whole = refl; calls = makes_none desk.calls }
+
+-- why the file could not be read stops an opening that has drawn nothing
+pub read_stops : {Link : Type 0} (file : StreamState) (dir : DirState) (desk : DeskState Link) (f : Fault) → IsReadFault f → StopsOpening file dir desk desk f
+read_stops file dir desk fault.Read is = refl
+read_stops file dir desk fault.Memory is = ([], drew_none desk)
+read_stops file dir desk fault.Usage is = absurd is
+read_stops file dir desk fault.Write is = absurd is
+read_stops file dir desk (fault.BadLine n) is = absurd is
+read_stops file dir desk fault.Folder is = absurd is
+read_stops file dir desk (fault.Keys reason) is = absurd is
+read_stops file dir desk fault.Desk is = absurd is
+read_stops file dir desk (fault.Opening reason) is = absurd is
+read_stops file dir desk (fault.State reason) is = absurd is
 
 -- reading the file
 

@@ -1,7 +1,9 @@
 -- What each command does, as what the program does by its words.
-use Rattle.std.proofs.Common.{◌≡◌, ℕ, inl, List, Option, Some, Result, Ok, Err, IfErr, IfSome, refl, sym, subst}
+use Rattle.std.proofs.Common.{◌≡◌, ℕ, inl, List, [], ◌∷◌, Option, Some, Result, Ok, Err, IfErr, IfSome, refl, sym, subst}
 use Rattle.ks_base.specs.Refusals.{fault_in}
+use Rattle.ks_outside.specs.declared.desk_call.DeskCall.TheVariants as desk_call
 use Rattle.ks_outside.specs.Counts.{Counts}
+use Rattle.ks_outside.specs.Desks.{Makes}
 use Rattle.ks_outside.specs.Files.{KeyFile}
 use Rattle.ks_outside.specs.Streams.{OnlyReads, OnlyWrites, StreamState}
 use Rattle.ks_server.specs.Workers.{Place}
@@ -82,10 +84,12 @@ TellsSetup old new r =
     (random before : List ℕ) (files : List KeyFile) → old.desk.random ≡ Some random → old.dir.files ≡ Some files → old.output.written ≡ Some before
     → EndsSetup random files before (outside new) r
 
-pub sets_up : {Link Seat : Type 0} (old new : World Link Seat) (r : Result (Unit {0}) Fault) (f : Option Fault) → f ≡ fault_in r → TellsSetup old new r → Keeps old new r → SetsUp old new f
-sets_up old new r f is told keeps = subst (SetsUp old new) (sym is) (record {
+pub sets_up : {Link Seat : Type 0} (old new : World Link Seat) (r : Result (Unit {0}) Fault) (f : Option Fault) → f ≡ fault_in r → TellsSetup old new r → Keeps old new r
+    → Makes (desk_call.Fill 64 ∷ []) old.desk.calls new.desk.calls → SetsUp old new f
+sets_up old new r f is told keeps fills = subst (SetsUp old new) (sym is) (record {
   told = λ random before files drawn stood written. subst (EndsSetup random files before (outside new)) (sym (same_result r)) (told random before files drawn stood written);
   changes = changes_keys old new r keeps;
+  fills = fills;
 })
 
 abbrev TellsRotation : {Link Seat : Type 0} → ℕ → World Link Seat → World Link Seat → Result (Unit {0}) Fault → Type 0
@@ -93,8 +97,10 @@ TellsRotation max old new r =
     (random before : List ℕ) (files : List KeyFile) → old.desk.random ≡ Some random → old.dir.files ≡ Some files → old.output.written ≡ Some before
     → EndsRotation max random files before (outside new) r
 
-pub rotates : {Link Seat : Type 0} (max : ℕ) (old new : World Link Seat) (r : Result (Unit {0}) Fault) (f : Option Fault) → f ≡ fault_in r → TellsRotation max old new r → Keeps old new r → Rotates max old new f
-rotates max old new r f is told keeps = subst (Rotates max old new) (sym is) (record {
+pub rotates : {Link Seat : Type 0} (max : ℕ) (old new : World Link Seat) (r : Result (Unit {0}) Fault) (f : Option Fault) → f ≡ fault_in r → TellsRotation max old new r → Keeps old new r
+    → Makes (desk_call.Fill 32 ∷ []) old.desk.calls new.desk.calls → Rotates max old new f
+rotates max old new r f is told keeps fills = subst (Rotates max old new) (sym is) (record {
   told = λ random before files drawn stood written. subst (EndsRotation max random files before (outside new)) (sym (same_result r)) (told random before files drawn stood written);
   changes = changes_keys old new r keeps;
+  fills = fills;
 })

@@ -114,7 +114,7 @@ reached_all stream connections seen journal (old ∷ olds) (new ∷ news) (shift
 
 -- the highest moment
 
-high_of : (first : Front) (after : Passed) (xs : List Exchange) → first.high ≡ 0 → Ends first after → (after.top ≡ 0) ⊎ IsReadingAmong after.top xs
+pub high_of : (first : Front) (after : Passed) (xs : List Exchange) → first.high ≡ 0 → Ends first after → (after.top ≡ 0) ⊎ IsReadingAmong after.top xs
     → (after.seen.high ≡ 0) ⊎ IsReadingAmong after.seen.high xs
 high_of first after xs none ends top = elim ends.high as (λ _. (after.seen.high ≡ 0) ⊎ IsReadingAmong after.seen.high xs) [
   | inl is ↦ inl (is ∙ none)

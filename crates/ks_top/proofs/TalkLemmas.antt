@@ -1,5 +1,5 @@
 -- A talk, from an opening to the end of its connection.
-use Rattle.std.proofs.Common.{◌≡◌, ℕ, ◌+◌, ◌⊎◌, inl, inr, List, length, Option, Some, Result, Err, refl, sym, ap, ◌∙◌, subst, arith}
+use Rattle.std.proofs.Common.{◌≡◌, ℕ, ◌⊎◌, inl, inr, List, Option, Some, Result, Err, refl, sym, ap, ◌∙◌, subst}
 use Rattle.std.specs.declared.convert.Infallible.{Infallible}
 use Rattle.ks_machine.specs.declared.settings.OpenFault.{OpenFault}
 use Rattle.ks_machine.specs.declared.settings.OpenFault.TheVariants as state
@@ -12,7 +12,7 @@ use Rattle.ks_outside.specs.Files.{DirState, OnlyLooks}
 use Rattle.ks_outside.specs.Streams.{OnlyReads, StreamState}
 use Rattle.ks_server.specs.declared.closed.Closed.{Closed}
 use Rattle.ks_server.specs.declared.closed.Closed.TheVariants as closed
-use Rattle.ks_server.specs.Exchanges.{Exchange, made}
+use Rattle.ks_server.specs.Exchanges.{Exchange}
 use Rattle.ks_server.specs.Sessions.{EndsSession}
 use Rattle.ks_server.specs.Ties.{KeepsLinks}
 use Rattle.ks_server.specs.Work.{PassMoves}
@@ -26,9 +26,8 @@ use Rattle.ks_top.specs.Opened.{IsOpening, StopsOpening}
 use Rattle.ks_top.specs.Talk.{ServedOne, Talked, ending}
 use Rattle.ks_top.specs.World.{World}
 use Rattle.ks_top.specs.steps.Openings.{of_state}
-use Rattle.ks_top.proofs.ServeLemmas.{below_none}
+use Rattle.ks_top.proofs.ServeLemmas.{high_of, made_once}
 use Rattle.ks_turn.specs.Passes.{Ends, Passed, first_pass}
-use Rattle.ks_turn.specs.Sums.{below, times}
 
 -- counts
 
@@ -45,16 +44,6 @@ reads_for P Q old new from reads = record {
 
 pub looks_for : (P Q : Type 0) (old new : DirState) → (Q → P) → OnlyLooks P old new → OnlyLooks Q old new
 looks_for P Q old new from looks = record { files = looks.files; faults = counts_for P Q old.faults new.faults from looks.faults }
-
--- the changes that were made
-
-made_once : (opening : PlainOpening) (pass after : Passed) (xs : List Exchange) → PassMoves (first_pass pass.turn (first_front opening)) after xs → Ends (first_front opening) after
-    → (n : ℕ) → times n (made after.seen xs) ≡ below n (length after.seen.changes)
-made_once opening pass after xs moves ends n =
-    let own : times n after.own ≡ times n (made after.seen xs) = ap (times n) moves.own in
-    let whole : times n after.own + below n 0 ≡ below n (length after.seen.changes) = ends.own n in
-    let none = below_none n in
-    omega (arith, own, whole, none)
 
 -- the first pass of a turn, by the turn that it is of
 pub first_is : (turn : _) (pass : Passed) (named front : Front) → pass ≡ first_pass turn named → named ≡ front → pass ≡ first_pass pass.turn front
@@ -87,18 +76,20 @@ pub talked : {Link Seat : Type 0} (old new : World Link Seat) (opening : PlainOp
     → pass ≡ first_pass pass.turn (first_front opening)
     → (serves : work.ServesLink pass after opened new.desk old.place new.place 0 link link_after why)
     → KeepsLinks opened new.desk → Ends (first_front opening) after
-    → IsLink link old.input old.output → IsLink link_after new.input new.output
+    → IsLink link old.input old.output → IsLink link_after new.input new.output → (why ≡ closed.Rests → ⊥)
     → Talked old new opening opened after.seen serves.exchanges why
-talked old new opening opened pass after why link link_after first serves links ends is is_after =
+talked old new opening opened pass after why link link_after first serves links ends is is_after to_end =
     let moves : PassMoves (first_pass pass.turn (first_front opening)) after serves.exchanges = subst (λ p. PassMoves p after serves.exchanges) first serves.works.moves in
     record {
       numbered = serves.numbered;
       in_order = moves.in_order;
       alone = moves.alone refl;
-      made = made_once opening pass after serves.exchanges moves ends;
+      made = made_once opening after serves.exchanges moves.own ends;
+      high = high_of (first_front opening) after serves.exchanges refl ends moves.top;
       tied = serves.works.tied;
       links = links;
       told = told_by old new link link_after after.seen serves.exchanges why is is_after serves.told;
+      to_end = to_end;
       reads = counts_at (why ≡ closed.ReadFault) link.read_faults link_after.read_faults old.input.read_faults new.input.read_faults is.reads is_after.reads serves.reads;
       writes = counts_at (why ≡ closed.WriteFault) link.write_faults link_after.write_faults old.output.write_faults new.output.write_faults is.writes is_after.writes serves.writes;
     }
@@ -108,14 +99,17 @@ pub served : {Link Seat : Type 0} {link link_after : StreamState} (old new : Wor
     → (serves : work.ServesLink pass after opened new.desk old.place new.place 0 link link_after why)
     → KeepsLinks opened new.desk → Ends (first_front opening) after
     → IsLink link old.input old.output → IsLink link_after new.input new.output
-    → StandsWithAllKept state after.seen → ending why f → ServedOne old new f opening opened state
-served {link} {link_after} old new opening opened pass after why f state first serves links ends is is_after stands ended = inl (record {
+    → StandsWithAllKept state after.seen → ending why f
+    → new ≡ record old { input = new.input; file = new.file; output = new.output; dir = new.dir; desk = new.desk; place = new.place }
+    → ServedOne old new f opening opened state
+served {link} {link_after} old new opening opened pass after why f state first serves links ends is is_after stands ended others = inl (record {
   journal = after.seen;
   exchanges = serves.exchanges;
   why = why;
   stands = stands;
-  talked = talked old new opening opened pass after why link link_after first serves links ends is is_after;
+  talked = talked old new opening opened pass after why link link_after first serves links ends is is_after (λ rests. subst (λ w. ending w f) rests ended);
   ends = ended;
+  others = others;
 })
 
 -- an identity that is opened stands for the first front, in which nothing is to be kept

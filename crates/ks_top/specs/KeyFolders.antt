@@ -36,9 +36,9 @@ pub record Outside : Type 0 where
   pub files : Option (List KeyFile)
   pub written : Option (List ℕ)
 
--- nothing of a desk changes but that bytes were drawn, or a fill failed
+-- nothing of a desk changes but that bytes were drawn, or a fill failed, and what it tells of its calls
 abbrev pub OnlyDraws : {Link : Type 0} → DeskState Link → DeskState Link → Type 0
-OnlyDraws old new = new ≡ record old { random = new.random; fill_faults = new.fill_faults }
+OnlyDraws old new = new ≡ record old { random = new.random; fill_faults = new.fill_faults; calls = new.calls }
 
 -- so many random bytes were drawn
 abbrev pub HasDrawn : ℕ → List ℕ → Option (List ℕ) → Type 0

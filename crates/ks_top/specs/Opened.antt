@@ -38,7 +38,7 @@ pub record IsOpening {Link : Type 0} (file : StreamState) (dir : DirState) (desk
   pub is_text : IsText text file
   pub are_held : AreHeld (folder_wanted text) dir held
   pub opens : Opens text held drawn opening
-  pub drew : Drew desk after drawn
+  pub drew : Drew desk after drawn 0
 
 -- the file takes its keys from the folder, which is refused for this
 pub record RefusesFolder (file : StreamState) (dir : DirState) (reason : KeysFault) : Type 0 where
@@ -76,7 +76,7 @@ pub record RefusesState {Link : Type 0} (file : StreamState) (dir : DirState) (o
 -- why a server does not open, and what is left of the desk; of want of memory the desk alone is said
 abbrev pub StopsOpening : {Link : Type 0} → StreamState → DirState → DeskState Link → DeskState Link → Fault → Type 0
 StopsOpening file dir old new fault.Read = new ≡ old
-StopsOpening file dir old new fault.Memory = (drawn : List ℕ) × Drew old new drawn
+StopsOpening file dir old new fault.Memory = (drawn : List ℕ) × Drew old new drawn 0
 StopsOpening file dir old new (fault.Opening (refusal.Shape reason)) = RefusesForm file reason × (new ≡ old)
 StopsOpening file dir old new (fault.Opening (refusal.Policy reason)) = RefusesFile file dir old new (refusal.Policy reason)
 StopsOpening file dir old new (fault.Opening (refusal.BadKey path)) = RefusesFile file dir old new (refusal.BadKey path)

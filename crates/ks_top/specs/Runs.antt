@@ -1,6 +1,8 @@
 -- What the program does by its words.
-use Rattle.std.specs.Prelude.{◌≡◌, ◌⊎◌, ℕ, List, Option, Some, None, IfSome}
+use Rattle.std.specs.Prelude.{◌≡◌, ◌⊎◌, ℕ, List, [], ◌∷◌, Option, Some, None, IfSome}
+use Rattle.ks_outside.specs.declared.desk_call.DeskCall.TheVariants as desk_call
 use Rattle.ks_outside.specs.Counts.{Counts}
+use Rattle.ks_outside.specs.Desks.{Makes}
 use Rattle.ks_outside.specs.Files.{KeyFile}
 use Rattle.ks_outside.specs.Streams.{OnlyReads, OnlyWrites, StreamState}
 use Rattle.ks_server.specs.Workers.{Place}
@@ -42,11 +44,14 @@ pub record SetsUp {Link Seat : Type 0} (old new : World Link Seat) (f : Option F
   pub told : (random before : List ℕ) (files : List KeyFile) → old.desk.random ≡ Some random → old.dir.files ≡ Some files → old.output.written ≡ Some before
       → EndsSetup random files before (outside new) (result_of f)
   pub changes : ChangesKeys old new f
+  -- all its bytes at once
+  pub fills : Makes (desk_call.Fill 64 ∷ []) old.desk.calls new.desk.calls
 
 pub record Rotates {Link Seat : Type 0} (max : ℕ) (old new : World Link Seat) (f : Option Fault) : Type 0 where
   pub told : (random before : List ℕ) (files : List KeyFile) → old.desk.random ≡ Some random → old.dir.files ≡ Some files → old.output.written ≡ Some before
       → EndsRotation max random files before (outside new) (result_of f)
   pub changes : ChangesKeys old new f
+  pub fills : Makes (desk_call.Fill 32 ∷ []) old.desk.calls new.desk.calls
 
 -- a command does this, and `talk` and `serve` alone have an identity at their end
 unfoldable pub Does : {Link Seat : Type 0} → (Seat → Place Link) → (Link → StreamState) → Words → World Link Seat → World Link Seat → Option Fault → Option Shown → Type 0

@@ -1,5 +1,5 @@
 -- What the program stands over.
-use Rattle.std.specs.Prelude.{List}
+use Rattle.std.specs.Prelude.{List, []}
 use Rattle.ks_outside.specs.Desks.{DeskState}
 use Rattle.ks_outside.specs.Files.{DirState}
 use Rattle.ks_outside.specs.Streams.{StreamState}
@@ -14,3 +14,13 @@ pub record World (Link Seat : Type 0) : Type 0 where
   pub desk : DeskState Link
   pub place : DirState
   pub others : List Seat
+
+-- a link over the input and the output
+abbrev pub link_of : {Link Seat : Type 0} → World Link Seat → StreamState
+link_of world = record {
+  left = world.input.left;
+  written = world.output.written;
+  read_faults = world.input.read_faults;
+  write_faults = world.output.write_faults;
+  names = [];
+}

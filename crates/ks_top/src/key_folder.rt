@@ -1,9 +1,10 @@
 //! The commands on a folder of keys. Both take their random bytes first, then change the folder, and say at
 //! last which indices it has.
-ghost use Rattle.std.specs.Prelude.{◌≡◌, ◌≤◌, ℕ, List, Some, length, IfOk, IfErr, string_bytes};
+ghost use Rattle.std.specs.Prelude.{◌≡◌, ◌≤◌, ◌∷◌, [], ℕ, List, Some, length, IfOk, IfErr, string_bytes};
 ghost use Rattle.ks_base.specs.declared.limits.TheConstants.{FEWEST_KEYS, KEYS};
 ghost use Rattle.ks_outside.specs.Counts.{Counts};
-ghost use Rattle.ks_outside.specs.Desks.{Fills};
+ghost use Rattle.ks_outside.specs.declared.desk_call.DeskCall.TheVariants as desk_call;
+ghost use Rattle.ks_outside.specs.Desks.{Fills, Makes};
 ghost use Rattle.ks_outside.specs.Files.{KeyFile};
 ghost use Rattle.ks_outside.specs.Streams.{OnlyWrites};
 ghost use Rattle.ks_top.specs.KeyFolders.{EndsRotation, EndsSetup, IsFolderFault, OnlyDraws, key_from, keys_line};
@@ -30,6 +31,7 @@ pub fn set_up<D: KeyDir, P: Desk, K: Sink>(
     ensures folder { Counts (result ≡ Err Fault.Folder) (D.dir dir.old).faults (D.dir dir.new).faults }
     ensures draws { Counts (result ≡ Err Fault.Desk) (P.desk desk.old).fill_faults (P.desk desk.new).fill_faults }
     ensures kept { OnlyDraws (P.desk desk.old) (P.desk desk.new) }
+    ensures fills { Makes (desk_call.Fill 64 ∷ []) (P.desk desk.old).calls (P.desk desk.new).calls }
     ensures writes { OnlyWrites (result ≡ Err Fault.Write) (K.stream output.old) (K.stream output.new) }
 {
     let mut bytes = [0u8; 64];
@@ -58,6 +60,7 @@ pub fn rotate<D: KeyDir, P: Desk, K: Sink>(
     ensures folder { Counts (result ≡ Err Fault.Folder) (D.dir dir.old).faults (D.dir dir.new).faults }
     ensures draws { Counts (result ≡ Err Fault.Desk) (P.desk desk.old).fill_faults (P.desk desk.new).fill_faults }
     ensures kept { OnlyDraws (P.desk desk.old) (P.desk desk.new) }
+    ensures fills { Makes (desk_call.Fill 32 ∷ []) (P.desk desk.old).calls (P.desk desk.new).calls }
     ensures writes { OnlyWrites (result ≡ Err Fault.Write) (K.stream output.old) (K.stream output.new) }
 {
     let mut bytes = [0u8; 32];
@@ -72,6 +75,7 @@ pub fn rotate<D: KeyDir, P: Desk, K: Sink>(
 fn draw<P: Desk>(desk: &mut P, into: &mut [u8]) -> Result<(), Fault>
     ensures told { (bytes : List ℕ) → (P.desk desk.old).random ≡ Some bytes → Fills bytes (P.desk desk.new).random into.new result }
     ensures kept { OnlyDraws (P.desk desk.old) (P.desk desk.new) }
+    ensures fills { Makes (desk_call.Fill (length into.old) ∷ []) (P.desk desk.old).calls (P.desk desk.new).calls }
     ensures cause { IfErr result (λ fault. fault ≡ Fault.Desk) }
     ensures faults { Counts (result ≡ Err Fault.Desk) (P.desk desk.old).fill_faults (P.desk desk.new).fill_faults }
 {

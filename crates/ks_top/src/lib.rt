@@ -18,6 +18,7 @@ mod talk;
 
 pub use fault::Fault;
 pub use laws::{
-    commands_complete, desk_faults_are_counted, replies_are_of_one_journal, talks_complete,
+    changes_are_determined, commands_complete, connections_complete, desk_faults_are_counted,
+    requests_complete,
 };
 pub use program::{Ended, run};

@@ -1,10 +1,16 @@
-ghost use Rattle.std.specs.Prelude.{◌≡◌, ◌<◌, ◌∷◌, List, length};
+ghost use Rattle.std.specs.Prelude.{◌≡◌, ◌<◌, ◌∷◌, List, length, IfSome};
+ghost use Rattle.ks_setup.specs.Words.{words_of};
 ghost use Rattle.ks_top.specs.Ending.{status_of};
+ghost use Rattle.ks_top.specs.Headline.{Headline};
 ghost use Rattle.ks_top.specs.Runs.{Runs};
 
 use crate::check::check;
 use crate::fault::Fault;
 use crate::key_folder::{rotate, set_up};
+use crate::laws::{
+    changes_are_determined, commands_complete, connections_complete, desk_faults_are_counted,
+    requests_complete,
+};
 use crate::outcome::Outcome;
 use crate::serve::serve;
 use crate::talk::talk;
@@ -12,6 +18,7 @@ use ks_base::Text;
 use ks_outside::{Desk, KeyDir, Sink, Source};
 use ks_setup::{Words, read_words};
 use ks_state::Identity;
+use ks_tokens::{ended_tokens_stay_refused, tokens_validate_exactly};
 use std::sync::Wait;
 use std::thread::Threads;
 
@@ -27,6 +34,9 @@ pub struct Ended<P, D> {
 
 /// Does what the words say, on an input, an opening file and an output, a folder of keys, and desks, each with a
 /// folder of its own. All desks come back in their order; of a command other than `serve` all but the first as they are.
+///
+/// Wherever an identity was opened, all that its clients were told is told by one journal (clause `headline`). What follows
+/// from the contract alone is said by the laws that the body calls.
 ///
 /// `check` reads a Fernet key and lines of a moment and a token, and answers which tokens are refused.
 /// `talk FILE FOLDER` opens an identity from the file, which may take its keys from the folder `dir`, and serves one
@@ -65,12 +75,25 @@ where
     P::Link: Send,
     requires { 0 < length desks.items }
     ensures status { result.status ≡ status_of result.fault }
+    ensures headline { (first : P × D) (others : List (P × D)) → desks.items ≡ first ∷ others → (after : P × D) × (rest : List (P × D)) × (result.desks.items ≡ after ∷ rest)
+        × IfSome result.state (Headline (λ (d : P × D). record { desk = P.desk d.0; dir = D.dir d.1 }) P.Link.stream (words_of words.now)
+        (record { input = S.stream input.old; file = F.stream file.old; output = K.stream output.old; dir = D.dir dir.old; desk = P.desk first.0; place = D.dir first.1; others = others })
+        (record { input = S.stream input.new; file = F.stream file.new; output = K.stream output.new; dir = D.dir dir.new; desk = P.desk after.0; place = D.dir after.1; others = rest })
+        result.fault) }
     ensures runs { (first : P × D) (others : List (P × D)) → desks.items ≡ first ∷ others → (after : P × D) × (rest : List (P × D)) × (result.desks.items ≡ after ∷ rest)
         × Runs (λ (d : P × D). record { desk = P.desk d.0; dir = D.dir d.1 }) P.Link.stream words.now
         (record { input = S.stream input.old; file = F.stream file.old; output = K.stream output.old; dir = D.dir dir.old; desk = P.desk first.0; place = D.dir first.1; others = others })
         (record { input = S.stream input.new; file = F.stream file.new; output = K.stream output.new; dir = D.dir dir.new; desk = P.desk after.0; place = D.dir after.1; others = rest })
         result.fault result.state }
 {
+    // What holds of all that the contract says.
+    commands_complete::<P::Link, (P, D)>();
+    connections_complete();
+    desk_faults_are_counted::<P::Link, (P, D)>();
+    changes_are_determined::<P::Link, (P, D)>();
+    requests_complete();
+    tokens_validate_exactly();
+    ended_tokens_stay_refused();
     let (Outcome { fault, state }, desks) = run_command(rt, words, input, file, output, dir, desks);
     Ended {
         status: status(&fault),

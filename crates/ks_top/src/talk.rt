@@ -1,5 +1,5 @@
 //! One connection, served by an identity that an opening file gives.
-ghost use Rattle.std.specs.Prelude.{◌≡◌, ◌⊎◌, Some, List};
+ghost use Rattle.std.specs.Prelude.{◌≡◌, ◌≢◌, ◌⊎◌, Some, List};
 ghost use Rattle.ks_outside.specs.Desks.{DeskState};
 ghost use Rattle.ks_outside.specs.Files.{DirState};
 ghost use Rattle.ks_outside.specs.Streams.{StreamState};
@@ -12,7 +12,7 @@ use crate::fault::Fault;
 use crate::opened::{Opened, open};
 use crate::outcome::Outcome;
 use ks_outside::{Desk, KeyDir, Open, Pair, Sink, Source};
-use ks_server::{Closed, serve_connection};
+use ks_server::{Closed, Service, serve_connection};
 use ks_state::Identity;
 use ks_turn::{First, NoRoom, Turn};
 use std::convert::Infallible;
@@ -89,6 +89,7 @@ fn serve_one<N: First, R: AllocGlobal + Wait, S: Source, K: Sink, D: KeyDir, P: 
         place,
         0,
         &mut link,
+        Service::ToEnd,
         &Open,
         &routes,
         &url,
@@ -98,10 +99,12 @@ fn serve_one<N: First, R: AllocGlobal + Wait, S: Source, K: Sink, D: KeyDir, P: 
 
 /// The fault that an end of the connection is, if it is one.
 fn ending(closed: Closed<Infallible>) -> Option<Fault>
+    requires { closed ≢ Closed.Rests }
     ensures { ending closed result }
 {
     match closed {
         Closed::End | Closed::Asked | Closed::Last | Closed::BadHttp(_) => None,
+        Closed::Rests => unreachable!(),
         Closed::ReadFault => Some(Fault::Read),
         Closed::WriteFault => Some(Fault::Write),
         Closed::Memory => Some(Fault::Memory),

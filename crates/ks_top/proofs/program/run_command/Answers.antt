@@ -45,7 +45,7 @@ returns-in-Ok-Setup g c first others e =
           writes = c.set_up.ensures.writes;
           desk = c.set_up.ensures.kept;
           others = refl;
-        }),
+        }) c.set_up.ensures.fills,
         c.of-outcome.ensures.state,
       ),
     )
@@ -67,7 +67,7 @@ returns-in-Ok-Rotate g c first others e =
           writes = c.rotate.ensures.writes;
           desk = c.rotate.ensures.kept;
           others = refl;
-        }),
+        }) c.rotate.ensures.fills,
         c.of-outcome-in-Ok-Rotate.ensures.state,
       ),
     )
