@@ -80,6 +80,11 @@ fn try_commands<R: Files + Print + AllocGlobal + Threads + Wait + Sync>(
         "serves",
         |_alloc, case| serves::serves(rt, &outside, known, case),
     )?;
+    try_table(
+        rt,
+        "talk_desks",
+        |_alloc, case| serves::talk_desks(rt, &outside, known, case),
+    )?;
     try_table(rt, "folders", |_alloc, case| folders::folders(rt, case))
 }
 

@@ -1,6 +1,7 @@
-//! The table of `serve`.
+//! The tables of `serve`, and of `talk` over two desks.
 
-use crate::run::{Outside, ROOM, WHOLE, desk_of, folder, run_over};
+use crate::run::{End, Outside, ROOM, WHOLE, desk_of, folder, run_over};
+use crate::session::TALK;
 use crate::talks::names;
 use anyhow::Result;
 use ks_outside::{MemoryDesk, MemoryDir, MemoryLink, MemorySink, MemorySource};
@@ -23,6 +24,38 @@ pub fn serves<R: AllocGlobal + Threads + Wait + Sync>(
     let desks = desks(alloc, *outside, case)?;
     let end = run_over(rt, command.as_str(), outside, &mut dir, desks)?;
     said(alloc, known, end.status, end.desks.as_slice())
+}
+
+/// Of the links of two desks and the input of a `talk`: the responses to that, and what a `serve` with the same desks then
+/// answers on their links, which the talk left to come.
+pub fn talk_desks<R: AllocGlobal + Threads + Wait + Sync>(
+    rt: &R,
+    outside: &Outside<'_>,
+    known: &[Row],
+    case: &Case,
+) -> Result<String> {
+    let alloc = rt.alloc();
+    // Both openings draw from the first desk.
+    let mut random = Vec::from_slice(alloc, outside.random)?;
+    random.extend_from_slice(outside.random)?;
+    let outside = Outside {
+        input: case.bytes(2),
+        random: random.as_slice(),
+        ..*outside
+    };
+    let mut dir = folder(alloc, "", 0)?;
+    let desks = desks(alloc, outside, case)?;
+    let End {
+        status,
+        written,
+        desks,
+        fault: _fault,
+    } = run_over(rt, TALK, &outside, &mut dir, desks)?;
+    let told = names(alloc, known, written.as_slice())?;
+    let command = "serve o1.json keys 127.0.0.1:0";
+    let end = run_over(rt, command, &outside, &mut dir, desks)?;
+    let served = said(alloc, known, end.status, end.desks.as_slice())?;
+    Ok(format!(in alloc; "{status}: {told}, then {served}")?)
 }
 
 /// The two desks of a case.

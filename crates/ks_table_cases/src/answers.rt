@@ -10,6 +10,8 @@ pub enum Answer {
     Stands,
     Full(Kind),
     Absent(Kind),
+    /// So many ids are listed.
+    Listed(usize),
     NameTaken,
     IdTaken,
     /// Any other refusal.

@@ -45,6 +45,7 @@ fn called(alloc: Global, tables: &mut Tables, case: &Case) -> Result<Answer> {
     match call {
         "add" => tables.add(kind, &pair),
         "remove" => tables.remove(kind, &pair),
+        "list" => tables.list(kind, &pair),
         _ => bail!("no call {call}"),
     }
 }
@@ -64,11 +65,16 @@ fn kind(word: &str) -> Result<Kind> {
     }
 }
 
-/// Adds so many rows of the kind, by their numbers from 0, and stops at the first that is refused or stands.
+/// Adds so many rows of the kind, by their numbers from 0, and stops at the first that is refused or stands. Memberships
+/// come in one go, with users and groups of their own.
 fn fill(alloc: Global, tables: &mut Tables, kind: Kind, count: u64) -> Result<Answer> {
+    if matches!(kind, Kind::Member) {
+        tables.gather(count)?;
+        return Ok(Answer::Done);
+    }
     for number in 0..count {
         let pair = match kind {
-            Kind::Member | Kind::Implication | Kind::Grant => Pair::related(alloc, number)?,
+            Kind::Implication | Kind::Grant => Pair::related(alloc, number)?,
             _ => Pair::numbered(alloc, number)?,
         };
         let answer = tables.add(kind, &pair)?;

@@ -9,7 +9,7 @@ use ks_base::{
 use std::alloc::Global;
 
 /// How many members a group has, implications a role, and grants a user, of those that are made by number.
-const EACH: u64 = 512;
+pub const EACH: u64 = 512;
 
 /// The two words of a row. A domain, a user, a group and a role has an id and a name; a membership a group and a user; an
 /// implication the prior role and the implied one; a grant a user and a role; a trust an id and a role; and a revocation a

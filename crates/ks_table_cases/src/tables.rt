@@ -2,10 +2,10 @@
 
 use crate::answers::{Answer, of_event, of_new, of_row, of_tree, of_trust};
 use crate::events::Events;
-use crate::rows::{Pair, listed};
+use crate::rows::{EACH, Pair, listed};
 use anyhow::{Result, bail};
 use ks_assign::Grants;
-use ks_base::{Kind, Revoke};
+use ks_base::{Kind, MemberRow, Revoke, RowSet, Table};
 use ks_people::People;
 use ks_roles::Roles;
 use ks_tree::Tree;
@@ -71,6 +71,21 @@ impl Tables {
         }
     }
 
+    /// Makes people anew, with so many memberships by their numbers from 0, as an opening makes them: one by one they
+    /// would move the rows behind them each time.
+    pub fn gather(&mut self, count: u64) -> Result<()> {
+        let mut users = Table::new(self.alloc);
+        let mut groups = Table::new(self.alloc);
+        for number in 0..=EACH {
+            let pair = Pair::numbered(self.alloc, number)?;
+            users.put(pair.user(self.alloc)?)?;
+            groups.put(pair.group(self.alloc)?)?;
+        }
+        let members = memberships(self.alloc, count)?;
+        self.people = People::from_tables(self.alloc, users, groups, members)?;
+        Ok(())
+    }
+
     /// A trust of somebody who has all roles.
     fn trust(&mut self, pair: &Pair) -> Result<Answer> {
         let row = pair.trust(self.alloc)?;
@@ -100,8 +115,33 @@ impl Tables {
         Ok(Answer::Done)
     }
 
+    /// Lists the ids of all domains, or of the trusts that are the first or have the second as role.
+    pub fn list(&self, kind: Kind, pair: &Pair) -> Result<Answer> {
+        let listed = match kind {
+            Kind::Domain => self.tree.domain_ids(),
+            Kind::Trust => {
+                let named = Revoke::Trust(pair.first);
+                self.trusts.touching(&named, Some(&pair.second))
+            }
+            _ => bail!("none of these is listed"),
+        };
+        match listed {
+            Ok(ids) => Ok(Answer::Listed(ids.as_slice().len())),
+            Err(_) => bail!("out of memory"),
+        }
+    }
+
     /// Moves the greatest moment on.
     pub fn advance(&mut self, moment: u64) {
         self.events.advance(moment);
     }
+}
+
+/// So many memberships, by their numbers from 0.
+fn memberships(alloc: Global, count: u64) -> Result<RowSet<MemberRow>> {
+    let mut members = RowSet::new(alloc);
+    for number in 0..count {
+        members.add(Pair::related(alloc, number)?.member())?;
+    }
+    Ok(members)
 }

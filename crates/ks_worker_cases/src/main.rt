@@ -4,6 +4,7 @@
 #![tactic(auto)]
 
 mod aged_token;
+mod alone;
 mod calls;
 mod cases;
 mod desks;
@@ -26,11 +27,18 @@ const CASES: [Case; 5] = [
 
 fn main(rt: HostRuntime) -> Result<()> {
     let world = World::read(&rt)?;
+    tell(&rt, "alone", alone::try_case(&rt, &world))?;
     for case in CASES {
-        match cases::try_case(&rt, &world, case) {
-            Ok(()) => println!(rt; "{}: held", case.name())?,
-            Err(error) => println!(rt; "{}: {error}", case.name())?,
-        }
+        tell(&rt, case.name(), cases::try_case(&rt, &world, case))?;
+    }
+    Ok(())
+}
+
+/// Prints what came of a case.
+fn tell<R: Print>(rt: &R, name: &str, came: Result<()>) -> Result<()> {
+    match came {
+        Ok(()) => println!(rt; "{name}: held")?,
+        Err(error) => println!(rt; "{name}: {error}")?,
     }
     Ok(())
 }
