@@ -1,11 +1,12 @@
 #!/usr/bin/env python3
-"""Keeps 64 clients at `ks serve` for some minutes, half of which cut their connections, and sees that each token is what it may be.
+"""Keeps 500 clients at `ks serve` for some minutes, half of which cut their connections, beside slow and deaf ones, and sees that each
+token is what it may be.
 
     tests/soak.py [SECONDS [KS]]
 
 Each client is a user of its own, who logs in, validates, revokes tokens and changes the own password, and every fourth one also
 makes, changes and drops groups, while the keys rotate. Every second client closes or resets some connections behind a random byte
-of a request. A client notes of each token that it got whether it has to be valid, has to be refused, or may be either, as where a
+of a request. Beside them are clients that send a head or a body byte by byte, and clients that ask on and on and never read. A client notes of each token that it got whether it has to be valid, has to be refused, or may be either, as where a
 revocation was cut off behind its last byte. Each answer has to agree with that, and at the end each token is validated once more.
 It also prints how much memory was resident at first and at last, which may grow by the rows and the remembered changes alone.
 
@@ -28,9 +29,11 @@ import threading
 import time
 
 sys.dont_write_bytecode = True
+from crowd import Harm
 from served import Connection, Failure, Server, exchange, login, main_of, program_of, project_scope, request, require, run
 
-CLIENTS, PROCESSES, WORKERS = 64, 8, 32
+CLIENTS, PROCESSES, WORKERS = 500, 8, 4
+SLOW_HEADS, SLOW_BODIES, NEVER_READ = 60, 60, 10
 ROUNDS = 200
 PROJECT, ADMIN, MEMBER = "a" * 32, "b" * 32, "c" * 32
 
@@ -40,8 +43,8 @@ IDLE = 3
 # How many seconds a request that was sent whole, and then cut off, may still be answered.
 SETTLED = 60
 
-# How many tokens all clients together revoke at most: an identity holds 262,144 live revocations.
-MOST_REVOKED = 200_000
+# How many tokens all clients together revoke at most: for what users do for themselves there is room for 131,072 live revocations.
+MOST_REVOKED = 120_000
 
 # At most so many KiB are taken for each row and each remembered change, and for what the workers use.
 ROW, CHANGE, SPARE = 2, 2, 16_384
@@ -105,7 +108,7 @@ class Client:
     # Connections.
 
     def close(self):
-        """Closes the connection, so that its worker can serve another client."""
+        """Closes the connection."""
         if self.connection is not None:
             self.connection.close()
         self.connection = None
@@ -317,9 +320,11 @@ class Keeper:
         self.rotations += 1
 
     def keep(self, until):
-        """Rotates until then."""
+        """Rotates until then, each time beside other clients that mean harm."""
         while time.time() + self.pause < until:
+            harm = Harm(self.server.port, self.token, SLOW_HEADS, SLOW_BODIES, NEVER_READ)
             time.sleep(self.pause)
+            harm.end()
             require(self.server.process.poll() is None, f"the server ended with status {self.server.process.poll()}")
             self.rotate()
 
