@@ -23,9 +23,10 @@ def opening(users, grants, members):
     with open(talk.O1, encoding="utf-8") as file:
         told = json.load(file)
     admin, role = told["users"][0]["id"], told["roles"][1]["id"]
-    ids = [f"{number:032x}" for number in range(users - len(told["users"]))]
-    projects = [f"{number:032x}" for number in range(PROJECTS)]
-    groups = [f"{number:032x}" for number in range(PROJECTS)] if members else []
+    # Short ids, so that the largest opening is one that may be.
+    ids = [f"u{number}" for number in range(users - len(told["users"]))]
+    projects = [f"p{number}" for number in range(PROJECTS)]
+    groups = [f"g{number}" for number in range(PROJECTS)] if members else []
     told["users"] += [{"id": id, "domain_id": "default", "name": f"user{number}"} for number, id in enumerate(ids)]
     # The user of the logins.
     told["users"][-1]["password"] = "a secret"
@@ -120,7 +121,7 @@ def main(ks, count, sizes):
     for users, grants, members in sizes:
         told, *rest = opening(users, grants, members)
         with tempfile.NamedTemporaryFile("w", suffix=".json", encoding="utf-8") as file:
-            json.dump(told, file)
+            json.dump(told, file, separators=(",", ":"))
             file.flush()
             rows.append(measured(ks, file.name, told, *rest, count))
     print("| Microseconds of a core | " + " | ".join(f"{u:,} users, {g:,} grants, {m:,} members" for u, g, m in sizes) + " |")
