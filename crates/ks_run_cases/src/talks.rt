@@ -8,8 +8,11 @@ use std::alloc::Global;
 use std::sync::Wait;
 use std::thread::Threads;
 
-/// Inputs that are longer are given whole alone.
-const SHORT: usize = 1_000;
+/// The lengths of pieces in which inputs are given too.
+const PIECES: [usize; 3] = [1, 2, 16_384];
+
+/// In at most so many.
+const MOST_PIECES: usize = 1_000;
 
 /// The most responses that are named.
 const MOST: u32 = 2_000;
@@ -71,7 +74,7 @@ pub fn names(alloc: Global, known: &[Row], bytes: &[u8]) -> Result<String> {
     bail!("more responses")
 }
 
-/// Of an input: the names of the responses, which are the same in single bytes.
+/// Of an input: the names of the responses, which are the same in pieces of any of these lengths.
 pub fn talks<R: AllocGlobal + Threads + Wait + Sync>(
     rt: &R,
     outside: &Outside<'_>,
@@ -80,12 +83,14 @@ pub fn talks<R: AllocGlobal + Threads + Wait + Sync>(
 ) -> Result<String> {
     let input = case.bytes(0);
     let whole = talk(rt, outside, input, WHOLE)?;
-    if input.len() < SHORT {
-        let single = talk(rt, outside, input, 1)?;
-        ensure!(
-            single.as_slice() == whole.as_slice(),
-            "in single bytes otherwise"
-        );
+    for longest in PIECES {
+        if input.len() < MOST_PIECES.saturating_mul(longest) {
+            let pieces = talk(rt, outside, input, longest)?;
+            ensure!(
+                pieces.as_slice() == whole.as_slice(),
+                "otherwise in pieces of {longest}"
+            );
+        }
     }
     names(rt.alloc(), known, whole.as_slice())
 }
