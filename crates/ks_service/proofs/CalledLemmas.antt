@@ -66,11 +66,15 @@ module _ {F : Type 0} (p : Passed) (call : Call) (moment kept : ℕ) (change : O
   abbrev pub Keeps : Type 0
   Keeps = keeps ≡ keeping.Yes → (event p.seen moment change kept).kept ≡ length (event p.seen moment change kept).changes
 
-  called_at : Happened p call moment kept → IsSound (event p.seen moment change kept) → Keeps
+  -- and there was no event where the moment is below the reading
+  abbrev pub KeepsNone : Type 0
+  KeepsNone = moment < capped call.reading → keeps ≡ keeping.Memory
+
+  called_at : Happened p call moment kept → IsSound (event p.seen moment change kept) → Keeps → KeepsNone
       → IsDecidedUnless (is_memory said) p after_event call (place p.seen moment kept) (answered p moment said keeps)
       → IsNextUnless (is_memory said) p.seen call moment → IsTellable said
       → Called p after_event call (answered p moment said keeps)
-  called_at h sound all decided next tellable =
+  called_at h sound all none decided next tellable =
       let high = not_before p call moment kept h in
       let at = sym (cut_event p.seen moment kept change) in record {
         turn = refl;
@@ -85,6 +89,7 @@ module _ {F : Type 0} (p : Passed) (call : Call) (moment kept : ℕ) (change : O
         weight = refl;
         alone = λ _. (refl, next);
         kept = all;
+        unkept = none;
       }
 
   -- a pass that made no change
@@ -95,11 +100,11 @@ module _ {F : Type 0} (p : Passed) (call : Call) (moment kept : ℕ) (change : O
   }
 
   -- without memory nothing changed
-  pub called_memory : said ≡ reply.Refused cause.Memory → change ≡ None → Happened p call moment kept → IsSound (event p.seen moment change kept) → Keeps
+  pub called_memory : said ≡ reply.Refused cause.Memory → change ≡ None → Happened p call moment kept → IsSound (event p.seen moment change kept) → Keeps → KeepsNone
       → Called p after_event call (answered p moment said keeps)
-  called_memory memory none h sound all =
+  called_memory memory none h sound all unkept =
       let is : is_memory said ≡ true = ap is_memory memory in
-      called_at h sound all
+      called_at h sound all unkept
       (subst (λ b. IsDecidedUnless b p after_event call (place p.seen moment kept) (answered p moment said keeps)) (sym is) (undecided none sound))
       (subst (λ b. IsNextUnless b p.seen call moment) (sym is) h.moment_is) (subst IsTellable (sym memory) tt)
 
@@ -132,6 +137,7 @@ module _ {F : Type 0} (p : Passed) (call : Call) (kept : ℕ) (said : Reply) (ke
       → Called p (released p (event p.seen at_call made kept)) call (answered p at_call said keeps)
   called_decided replied tellable sound more sound' all =
       called_at p call at_call kept made said keeps (record { sound = sound; moment_is = inl refl; more = more }) sound' all
+      (λ (below : at_call < capped call.reading). absurd (omega (arith, below)))
       (decided_by (is_memory said) refl replied sound') (next_by (is_memory said)) tellable
 
 -- the answer says these numbers

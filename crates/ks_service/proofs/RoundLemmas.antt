@@ -1,40 +1,41 @@
 -- From a hold to its answer, and from round to round.
-use Rattle.std.proofs.Common.{◌≡◌, ℕ, ◌+◌, ◌-◌, ◌≤◌, ◌⊎◌, inl, inr, Bool, true, false, ◌++◌, length, Option, None, refl, sym, ap, subst, ◌∙◌, arith, append-nil}
-use Rattle.ks_auth.specs.Facts.{FactsState}
+use Rattle.std.proofs.Common.{◌≡◌, ℕ, ◌+◌, ◌-◌, ◌<◌, ◌≤◌, ◌⊎◌, inl, inr, Bool, true, false, ◌++◌, length, Option, None, refl, sym, ap, subst, ◌∙◌, arith, append-nil}
 use Rattle.ks_machine.specs.declared.call.Call.{Call}
 use Rattle.ks_machine.specs.declared.cause.Cause.TheVariants as cause
 use Rattle.ks_machine.specs.declared.change.Change.{Change}
 use Rattle.ks_machine.specs.declared.reply.Reply.{Reply}
 use Rattle.ks_machine.specs.declared.reply.Reply.TheVariants as reply
-use Rattle.ks_machine.specs.Fronts.{Front, IsSound, ◌⊑◌, after, answer, cut, then}
+use Rattle.ks_machine.specs.Fronts.{Front, IsSound, ◌⊑◌, after, answer, cut}
 use Rattle.ks_machine.specs.Moment.{moment_of}
 use Rattle.ks_machine.specs.Told.{IsTellable}
 use Rattle.ks_machine.proofs.FrontLemmas.{reflexive, transitive}
 use Rattle.ks_service.specs.declared.answer.Answer.{Answer}
 use Rattle.ks_service.specs.Called.{Called, IsDecidedUnless, IsNextUnless, capped, is_memory, made_by, numbered}
-use Rattle.ks_service.specs.Rounds.{Judged, Waited}
+use Rattle.ks_service.specs.Rounds.{Waited}
 use Rattle.ks_service.proofs.CalledLemmas.{Happened, at_numbers, called_decided, called_memory, not_before}
 use Rattle.ks_turn.proofs.StepLemmas.{risen_not}
 use Rattle.ks_service.proofs.EventLemmas.{after_is, event, event_few, event_goes_on, event_high}
 use Rattle.ks_state.specs.declared.decides.Kept.TheVariants as keeping
-use Rattle.ks_state.specs.declared.decision.Decision.{Decision}
-use Rattle.ks_state.specs.declared.decision.Decision.TheVariants as decision
 use Rattle.ks_state.specs.Decides.{Replied, with_kept}
 use Rattle.ks_turn.specs.Passes.{Lands, Passed, Took, released}
 use Rattle.ks_turn.specs.Sums.{numbers}
 
--- what a hold comes to, whose value stands for a front, and for which numbers are told
-pub record Settled (F : Type 0) {S : Type 0} (means : S → Front → Type 0) (p : Passed) (call : Call) (said : Reply) (value : S) : Type 0 where
+-- what a hold comes to, whose value stood for a front, kept its changes and stands for it still, and for which numbers are told
+pub record Settled (F : Type 0) {S : Type 0} (means : S → Front → Type 0) (p : Passed) (call : Call) (said : Reply) (held value : S) : Type 0 where
+  pub before : Front
+  pub stood : means held before
   pub front : Front
+  pub high : front.high ≡ before.high
   pub lands : Lands means value p.seen front
   pub called : (answer : Answer F) → answer.reply ≡ said → answer.changes ≡ length p.seen.changes → answer.moment ≡ front.high → IsSound front
-      → (answer.kept ≡ keeping.Yes → front.kept ≡ length front.changes) → Called p (released p front) call answer
+      → (answer.kept ≡ keeping.Yes → front.kept ≡ length front.changes) → (answer.moment < capped call.reading → answer.kept ≡ keeping.Memory)
+      → Called p (released p front) call answer
 
 -- of the fronts that go on from one by one change at most, a value stands for one alone
 abbrev pub AreAlone : {S : Type 0} → (S → Front → Type 0) → Type 0
 AreAlone {S = S} means = (value : S) (base f g : Front) → base ⊑ f → base ⊑ g → length f.changes ≤ length base.changes + 1 → means value f → means value g → g ≡ f
 
-module _ (F : Type 0) {S : Type 0} (means : S → Front → Type 0) (kept : S → ℕ) (p : Passed) (call : Call) (said : Reply) (value : S) where
+module _ (F : Type 0) {S : Type 0} (means : S → Front → Type 0) (kept : S → ℕ) (p : Passed) (call : Call) (said : Reply) (held value : S) where
   lands_at : AreAlone means → (moment : ℕ) (change : Option Change) → p.seen.high ≤ moment → p.seen.kept ≤ kept value → means value (event p.seen moment change (kept value))
       → Lands means value p.seen (event p.seen moment change (kept value))
   lands_at alone moment change high more stands =
@@ -44,59 +45,67 @@ module _ (F : Type 0) {S : Type 0} (means : S → Front → Type 0) (kept : S �
         alone = λ g goes_on also. alone value p.seen (event p.seen moment change (kept value)) g later goes_on (event_few p.seen moment (kept value) change) stands also;
       }
 
-  settled_decided : AreAlone means → IsSound p.seen → p.seen.kept ≤ kept value → IsTellable said → (said ≡ answer p.seen call) × means value (with_kept (after p.seen call) (kept value))
-      → Settled F means p call said value
-  settled_decided alone sound more tellable replied =
+  -- all is kept that can be
+  abbrev pub Keeps : Type 0
+  Keeps = (g : Front) → means held g → means value (with_kept g (kept value))
+
+  settled_decided : AreAlone means → IsSound p.seen → p.seen.kept ≤ kept value → IsTellable said → Keeps → (said ≡ answer p.seen call) × means held (with_kept (after p.seen call) (kept held))
+      → Settled F means p call said held value
+  settled_decided alone sound more tellable keeps replied =
       let moment = moment_of p.seen.high call.reading in
       let change = made_by p.seen call in
-      let stands : means value (event p.seen moment change (kept value)) = subst (λ g. means value (with_kept g (kept value))) (after_is p.seen call) replied.1 in record {
+      let is = after_is p.seen call in
+      let stands : means value (event p.seen moment change (kept value)) = subst (λ g. means value (with_kept g (kept value))) is (keeps (with_kept (after p.seen call) (kept held)) replied.1) in
+      let last = event_high p.seen moment (kept value) change in record {
+        before = with_kept (after p.seen call) (kept held);
+        stood = replied.1;
         front = event p.seen moment change (kept value);
+        high = let same : (after p.seen call).high ≡ (event p.seen moment change (kept value)).high = ap (λ (g : Front). g.high) is in sym same;
         lands = lands_at alone moment change (omega arith) more stands;
-        called = λ answer is count last sound' all.
-            at_numbers p (released p (event p.seen moment change (kept value))) call answer _ _ count (last ∙ event_high p.seen moment (kept value) change)
+        called = λ answer is count moment_is sound' all none.
+            at_numbers p (released p (event p.seen moment change (kept value))) call answer _ _ count (moment_is ∙ last)
             (called_decided p call (kept value) answer.reply answer.kept (is ∙ replied.0) (subst IsTellable (sym is) tellable) sound more sound' all);
       }
 
-  settled_memory : AreAlone means → IsSound p.seen → p.seen.kept ≤ kept value → (moment : ℕ) → (moment ≡ moment_of p.seen.high call.reading) ⊎ (moment ≡ p.seen.high)
-      → said ≡ reply.Refused cause.Memory → means value (event p.seen moment None (kept value)) → Settled F means p call said value
-  settled_memory alone sound more moment moment_is memory stands =
+  settled_memory : AreAlone means → IsSound p.seen → p.seen.kept ≤ kept value → Keeps → (moment : ℕ) → (moment ≡ moment_of p.seen.high call.reading) ⊎ (moment ≡ p.seen.high)
+      → said ≡ reply.Refused cause.Memory → means held (event p.seen moment None (kept held)) → Settled F means p call said held value
+  settled_memory alone sound more keeps moment moment_is memory stood =
       let h : Happened p call moment (kept value) = record { sound = sound; moment_is = moment_is; more = more } in record {
+        before = event p.seen moment None (kept held);
+        stood = stood;
         front = event p.seen moment None (kept value);
-        lands = lands_at alone moment None (not_before p call moment (kept value) h) more stands;
-        called = λ answer is count last sound' all.
+        high = refl;
+        lands = lands_at alone moment None (not_before p call moment (kept value) h) more (keeps (event p.seen moment None (kept held)) stood);
+        called = λ answer is count last sound' all none.
             at_numbers p (released p (event p.seen moment None (kept value))) call answer _ _ count last
-            (called_memory p call moment (kept value) None answer.reply answer.kept (is ∙ memory) refl h sound' all);
+            (called_memory p call moment (kept value) None answer.reply answer.kept (is ∙ memory) refl h sound' all
+            (λ (below : moment < capped call.reading). none (subst (λ m. m < capped call.reading) (sym last) below)));
       }
 
-  settled : AreAlone means → IsSound p.seen → p.seen.kept ≤ kept value → IsTellable said → Replied means kept p.seen call said value → Settled F means p call said value
-  settled alone sound more tellable (inl replied) = settled_decided alone sound more tellable replied
-  settled alone sound more tellable (inr (memory, inl stands)) = settled_memory alone sound more (moment_of p.seen.high call.reading) (inl refl) memory stands
-  settled alone sound more tellable (inr (memory, inr stands)) = settled_memory alone sound more p.seen.high (inr refl) memory stands
-
--- more is kept after the reply
-replied_kept : {S : Type 0} (means : S → Front → Type 0) (kept : S → ℕ) (f : Front) (call : Call) (said : Reply) (old new : S)
-    → ((g : Front) → means old g → means new (with_kept g (kept new))) → Replied means kept f call said old → Replied means kept f call said new
-replied_kept means kept f call said old new keeps (inl (replied, stands)) = inl (replied, keeps (with_kept (after f call) (kept old)) stands)
-replied_kept means kept f call said old new keeps (inr (memory, inl stands)) =
-    inr (memory, inl (keeps (with_kept (then f (moment_of f.high call.reading) None) (kept old)) stands))
-replied_kept means kept f call said old new keeps (inr (memory, inr stands)) = inr (memory, inr (keeps (with_kept f (kept old)) stands))
+  settled : AreAlone means → IsSound p.seen → p.seen.kept ≤ kept value → IsTellable said → Keeps → Replied means kept p.seen call said held → Settled F means p call said held value
+  settled alone sound more tellable keeps (inl replied) = settled_decided alone sound more tellable keeps replied
+  settled alone sound more tellable keeps (inr (memory, inl stood)) = settled_memory alone sound more keeps (moment_of p.seen.high call.reading) (inl refl) memory stood
+  settled alone sound more tellable keeps (inr (memory, inr stood)) = settled_memory alone sound more keeps p.seen.high (inr refl) memory stood
 
 module _ (F : Type 0) {S : Type 0} (means : S → Front → Type 0) (kept : S → ℕ) (p : Passed) (call : Call) (said : Reply) (held shown value : S) where
   -- the value that was held is shown, and keeps its changes
   pub settled_kept : shown ≡ held → ((g : Front) → means shown g → means value (with_kept g (kept value))) → kept shown ≤ kept value
-      → AreAlone means → IsSound p.seen → p.seen.kept ≤ kept held → IsTellable said → Replied means kept p.seen call said held → Settled F means p call said value
+      → AreAlone means → IsSound p.seen → p.seen.kept ≤ kept held → IsTellable said → Replied means kept p.seen call said held → Settled F means p call said shown value
   settled_kept is keeps grows alone sound more tellable replied =
       let same : kept shown ≡ kept held = ap kept is in
-      settled F means kept p call said value alone sound (omega (arith, more, grows, same)) tellable
-      (replied_kept means kept p.seen call said shown value keeps (subst (λ v. Replied means kept p.seen call said v) (sym is) replied))
+      settled F means kept p call said shown value alone sound (omega (arith, more, grows, same)) tellable keeps
+      (subst (λ v. Replied means kept p.seen call said v) (sym is) replied)
 
-  pub settles : Settled F means p call said value → (q : Passed) → ((f : Front) → p.seen ⊑ f → means value f → q ≡ released p f)
+  pub settles : Settled F means p call said shown value → (q : Passed) → ((f : Front) → p.seen ⊑ f → means value f → q ≡ released p f)
       → (answer : Answer F) → answer.reply ≡ said → answer.changes ≡ length p.seen.changes → answer.moment ≡ q.seen.high → IsSound q.seen
-      → (answer.kept ≡ keeping.Yes → (f : Front) → means value f → f.kept ≡ length f.changes) → Called p q call answer
-  settles s q gives answer is count last sound all =
+      → (answer.kept ≡ keeping.Yes → (f : Front) → means value f → f.kept ≡ length f.changes)
+      → ((f : Front) → means shown f → f.high < capped call.reading → answer.kept ≡ keeping.Memory) → Called p q call answer
+  settles s q gives answer is count last sound all none =
       let same = gives s.front s.lands.later s.lands.stands in
+      let moment : answer.moment ≡ s.front.high = last ∙ ap (λ (r : Passed). r.seen.high) same in
       subst (λ (r : Passed). Called p r call answer) (sym same)
-      (s.called answer is count (last ∙ ap (λ (r : Passed). r.seen.high) same) (subst (λ (r : Passed). IsSound r.seen) same sound) (λ yes. all yes s.front s.lands.stands))
+      (s.called answer is count moment (subst (λ (r : Passed). IsSound r.seen) same sound) (λ yes. all yes s.front s.lands.stands)
+      (λ below. none s.before s.stood (subst (λ m. m < capped call.reading) (moment ∙ s.high) below)))
 
 -- rounds
 
@@ -147,12 +156,9 @@ called_waited p q r call said w c = record {
   alone = λ all. subst (λ (f : Front). (said.changes ≡ length f.changes) × IsNextUnless (is_memory said.reply) f call said.moment) (w.alone all)
       (c.alone (ap (λ (x : Passed). x.weight) w.pass ∙ all));
   kept = c.kept;
+  unkept = c.unkept;
 }
 
 -- the same where the pass in the hold is told by equations
 pub answered_in : {F : Type 0} (p held q r : Passed) (call : Call) (said : Answer F) → Waited p held → q ≡ held → Called q r call said → Called p r call said
 answered_in p held q r call said w same c = called_waited p q r call said (subst (Waited p) (sym same) w) c
-
-pub replied_by : {S : Type 0} (means : S → Front → Type 0) (kept : S → ℕ) (f : Front) (call : Call) (facts : FactsState) (came : Decision) (said : Reply) (value : S)
-    → came ≡ decision.Done said → Judged means kept f call facts came value → Replied means kept f call said value
-replied_by means kept f call facts came said value is what = subst (λ d. Judged means kept f call facts d value) is what

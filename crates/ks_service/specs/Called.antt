@@ -1,5 +1,5 @@
 -- What came of a call through a pass.
-use Rattle.std.specs.Prelude.{◌≡◌, ℕ, ◌≤◌, ◌⊎◌, Bool, true, false, List, [], ◌∷◌, ◌++◌, length, min, Option, Some, None}
+use Rattle.std.specs.Prelude.{◌≡◌, ℕ, ◌<◌, ◌≤◌, ◌⊎◌, Bool, true, false, List, [], ◌∷◌, ◌++◌, length, min, Option, Some, None}
 use Rattle.ks_machine.specs.declared.call.Call.{Call}
 use Rattle.ks_machine.specs.declared.cause.Cause.{Cause}
 use Rattle.ks_machine.specs.declared.cause.Cause.TheVariants as cause
@@ -108,3 +108,5 @@ pub record Called {F : Type 0} (old new : Passed) (call : Call) (said : Answer F
   pub alone : old.weight ≡ 1000000 → (said.changes ≡ length old.seen.changes) × IsNextUnless (is_memory said.reply) old.seen call said.moment
   -- all changes are kept where the answer says so
   pub kept : said.kept ≡ keeping.Yes → new.seen.kept ≡ length new.seen.changes
+  -- where the highest moment stayed below the reading, no event decided the call, and it says that there was no memory to keep any
+  pub unkept : said.moment < capped call.reading → said.kept ≡ keeping.Memory

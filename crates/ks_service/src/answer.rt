@@ -9,6 +9,7 @@ pub struct Answer<F> {
     pub changes: u64,
     /// The highest moment right after it, in whole seconds since 1970-01-01T00:00:00Z.
     pub moment: u64,
-    /// What became of the changes that were not kept yet: `Memory` also where no event decided the call.
+    /// What became of the changes that were not kept yet: `Memory` also where no event decided the call, so that its moment is
+    /// below its reading.
     pub kept: Kept<F>,
 }

@@ -1,18 +1,18 @@
 //! One hold of the turn, in which a call is decided or facts are asked for.
-ghost use Rattle.std.specs.Prelude.{◌≡◌, ◌≤◌, length, MatchResult};
+ghost use Rattle.std.specs.Prelude.{◌≡◌, ◌<◌, ◌≤◌, length, MatchResult};
 ghost use Rattle.ks_machine.specs.declared.call.Call.{Call as PlainCall};
 ghost use Rattle.ks_machine.specs.Fit.{Fit};
-ghost use Rattle.ks_machine.specs.Fronts.{IsSound};
+ghost use Rattle.ks_machine.specs.Fronts.{Front, IsSound};
 ghost use Rattle.ks_machine.specs.Told.{IsTellable};
-ghost use Rattle.ks_service.specs.Called.{Called};
+ghost use Rattle.ks_service.specs.Called.{Called, capped};
 ghost use Rattle.ks_service.specs.Rounds.{Judged, Waited};
 ghost use Rattle.ks_service.specs.Work.{AreDerivable};
-ghost use Rattle.ks_state.specs.Decides.{CanBeTold, Replied};
+ghost use Rattle.ks_state.specs.Decides.{CanBeTold, Replied, with_kept};
 
 use crate::answer::Answer;
 use crate::work::work;
 use ks_auth::Facts;
-use ks_base::limits::KEYS;
+use ks_base::limits::{KEYS, LAST_READING};
 use ks_machine::{Call, Cause, Reply};
 use ks_outside::Open;
 use ks_state::{Decides, Decision, Kept, Needs};
@@ -53,11 +53,27 @@ fn step_back<I: Decides, N: First>(turn: &Turn<I, N>, held: Held<I, N>) -> Pass<
     turn.release(held)
 }
 
+/// Keeps the changes behind the event of a call. Where the highest moment stayed below the call's reading there was no event,
+/// and nothing is kept.
+fn keep<I: Decides>(value: &mut I, reading: u64) -> Kept<I::Fault>
+    ensures same { (f : Front) → I.stands value.old f → I.stands value.new (with_kept f (I.kept value.new)) }
+    ensures grows { I.kept value.old ≤ I.kept value.new }
+    ensures yes { result ≡ Kept.Yes → (f : Front) → I.stands value.new f → f.kept ≡ length f.changes }
+    ensures none { (f : Front) → I.stands value.old f → f.high < capped reading → result ≡ Kept.Memory }
+{
+    let (_, high) = value.front();
+    if high < reading.min(LAST_READING) {
+        return Kept::Memory;
+    }
+    value.keep()
+}
+
 /// Keeps the changes after a reply, and gives the turn back.
 fn settle<I: Decides, N: First>(
     turn: &Turn<I, N>,
     mut held: Held<I, N>,
     changes: u64,
+    call: &Call,
     reply: Reply,
 ) -> (Pass<N>, Answer<I::Fault>)
     requires own { held.pass.turn ≡ turn.now }
@@ -65,10 +81,10 @@ fn settle<I: Decides, N: First>(
     requires sound { IsSound held.pass.seen }
     requires kept { held.pass.seen.kept ≤ I.kept held.value }
     requires tellable { IsTellable reply }
-    requires replied { (call : PlainCall) × Replied I.stands I.kept held.pass.seen call reply held.value }
-    ensures { (call : PlainCall) → Replied I.stands I.kept held.pass.seen call reply held.value → Called held.pass result.0 call result.1 }
+    requires replied { Replied I.stands I.kept held.pass.seen call.now reply held.value }
+    ensures { Called held.pass result.0 call.now result.1 }
 {
-    let kept = held.value().keep();
+    let kept = keep(held.value(), call.reading);
     let pass = turn.release(held);
     let (_, moment) = pass.front();
     let answer = Answer {
@@ -110,7 +126,7 @@ pub(crate) fn round<I: Decides, N: First, R: Wait>(
     let (changes, decision) = judge(&mut held, call, facts);
     match decision {
         Decision::Done(reply) => {
-            let (pass, answer) = settle(turn, held, changes, reply);
+            let (pass, answer) = settle(turn, held, changes, call, reply);
             (pass, Ok(answer))
         }
         Decision::Needs(needs) => (step_back(turn, held), Err(needs)),
@@ -134,7 +150,7 @@ pub(crate) fn last_round<I: Decides, N: First, R: Wait>(
     for _ in 0..DECISIONS {
         let (changes, decision) = judge(&mut held, call, &facts);
         match decision {
-            Decision::Done(reply) => return settle(turn, held, changes, reply),
+            Decision::Done(reply) => return settle(turn, held, changes, call, reply),
             Decision::Needs(needs) => {
                 let Ok(()) = work(alloc, &needs, call, &mut facts, &Open) else {
                     return without_memory(step_back(turn, held));

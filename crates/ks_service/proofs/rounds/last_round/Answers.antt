@@ -1,13 +1,13 @@
 use Rattle.std.proofs.Common.{sym, ◌∙◌, subst}
 use Rattle.ks_turn.specs.Passes.{Passed}
 use Rattle.ks_service.proofs.LackLemmas.{IsLeft, left_later}
-use Rattle.ks_service.proofs.RoundLemmas.{answered_in, replied_by, took_waits}
+use Rattle.ks_service.proofs.RoundLemmas.{answered_in, took_waits}
 use Rattle.ks_service.proofs.rounds.last_round.Goals as goal
 
 pub returns-in-Done : goal.returns-in-Done
 returns-in-Done g c =
     answered_in c.args.pass c.hold-held.result.pass c.judge-changes.new.held.pass _ _ _ (took_waits _ _ _ _ _ c.hold-held.ensures) (c.judge-changes.ensures.pass ∙ c.loop.invariant.pass)
-    (c.settle.ensures c.args.call.now (replied_by g.I.Journaled.stands g.I.Journaled.kept c.judge-changes.new.held.pass.seen c.args.call.now _ c.judge-changes.result.1 c.in-Done.reply c.judge-changes.new.held.value c.in-Done.is c.judge-changes.ensures.judged))
+    c.settle.ensures
 
 pub returns-in_default : goal.returns-in_default
 returns-in_default g c =
