@@ -46,12 +46,12 @@ def run(program, *words):
 
 
 class Server:
-    """A server over an opening file and a folder of keys. It is ended where a `with` ends."""
+    """A server over an opening file and a folder of keys, which words before it may start. It is ended where a `with` ends."""
 
-    def __init__(self, program, file, folder, workers, connections=0):
+    def __init__(self, program, file, folder, workers, connections=0, before=()):
         self.port, self.lines = free_port(), []
         self.listening = f"ks: listening on {HOST}:{self.port} with {workers} worker{'' if workers == 1 else 's'}"
-        words = [program, "serve", file, folder, f"{HOST}:{self.port}", "--workers", str(workers)]
+        words = [*before, program, "serve", file, folder, f"{HOST}:{self.port}", "--workers", str(workers)]
         words += ["--connections", str(connections)] if connections else []
         self.process = subprocess.Popen(words, stdin=subprocess.DEVNULL, stdout=subprocess.DEVNULL, stderr=subprocess.PIPE)
         self.reader = threading.Thread(target=self.keep_lines, daemon=True)
@@ -97,12 +97,8 @@ class Server:
     def end(self):
         """Ends the server, where it has not ended."""
         if self.process.poll() is None:
-            self.process.terminate()
-            try:
-                self.process.wait(10)
-            except subprocess.TimeoutExpired:
-                self.process.kill()
-                self.process.wait()
+            self.process.kill()
+            self.process.wait()
         self.reader.join()
         self.process.stderr.close()
 

@@ -1,6 +1,7 @@
 ghost use Rattle.std.specs.Prelude.{◌≤◌, IfOk, IfSome, length};
 
 use crate::deadline::{Awaited, Deadline};
+use crate::ending::Ending;
 use crate::framing::looks_long;
 use crate::limits::{CLOSING_BYTES, PIECE, WAITING_BYTES};
 use crate::queue::Queue;
@@ -28,6 +29,7 @@ pub enum AtHand {
 /// take yet.
 #[derive(Drop)]
 pub struct Kept {
+    alloc: Global,
     pub stream: TcpStream,
     /// Its place in the pool.
     pub key: usize,
@@ -44,12 +46,15 @@ pub struct Kept {
     /// Since when it rests. It stays the same until a request of it is answered.
     pub rested: Instant,
     pub until: Deadline,
+    /// What the waits for its client heard of the end.
+    ending: Ending,
 }
 
 impl Kept {
     /// A connection of which nothing came yet.
     pub fn new(alloc: Global, stream: TcpStream, key: usize, now: Instant) -> Kept {
         Kept {
+            alloc,
             stream,
             key,
             inbox: Queue::new(alloc),
@@ -60,6 +65,7 @@ impl Kept {
             passed_over: 0,
             rested: now,
             until: Deadline::new(Awaited::Request, now),
+            ending: Ending::new(),
         }
     }
 
@@ -74,6 +80,22 @@ impl Kept {
     /// Whether a response waits for the client.
     pub fn has_waiting(&self) -> bool {
         !self.outbox.is_empty()
+    }
+
+    /// Whether a request or a response is under way.
+    pub fn is_at_work(&self) -> bool {
+        self.has_waiting() || !self.is_last && !self.inbox.is_empty()
+    }
+
+    /// Whether none is, and one may come.
+    pub fn is_idle(&self) -> bool {
+        !self.is_at_work() && !self.is_last
+    }
+
+    /// Whether the end has begun, and what is at work has had its time by now.
+    pub fn is_over(&mut self, now: Instant) -> bool {
+        let _begins = self.ending.look(self.alloc, now);
+        self.ending.is_over(now, true)
     }
 
     /// What it waits for, where nothing can be done.

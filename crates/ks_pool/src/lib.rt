@@ -3,6 +3,7 @@
 #![tactic(auto)]
 
 mod deadline;
+mod ending;
 mod framing;
 mod kept;
 mod limits;
@@ -10,6 +11,7 @@ mod poller;
 mod pool;
 mod queue;
 mod real_desk;
+mod signals;
 mod slots;
 mod socket;
 mod tcp_link;

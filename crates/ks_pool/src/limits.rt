@@ -33,5 +33,14 @@ pub const RESPONSE_SECONDS: u64 = 30;
 /// How many seconds it has, once nothing more is written, to close its side or to send what it had begun.
 pub const CLOSING_SECONDS: u64 = 2;
 
+/// How many milliseconds one wait for connections, or for the client of one, takes at most: so often the end is looked for.
+pub const WAIT_MILLIS: i32 = 1_000;
+
+/// How many milliseconds one wait for connections takes at most once the end has begun: each worker then waits once more.
+pub const LAST_WAIT_MILLIS: i32 = 10;
+
+/// How many seconds requests at work have to end, once a signal asks the process to end.
+pub const END_SECONDS: u64 = 5;
+
 /// How many bytes that it still sends are passed over then.
 pub const CLOSING_BYTES: usize = 1_048_576;

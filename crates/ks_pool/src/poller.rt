@@ -1,3 +1,4 @@
+use crate::limits::{LAST_WAIT_MILLIS, WAIT_MILLIS};
 use ks_outside::Failed;
 use mio::{Events, Poll, Token};
 use std::time::Duration;
@@ -5,21 +6,13 @@ use std::time::Duration;
 /// Under which the listener is registered.
 pub const LISTENER: Token = Token(usize::MAX);
 
-/// Under which what hears the process's signals is to be registered.
-pub const SIGNALS: Token = Token(usize::MAX - 1);
-
-/// How many seconds one wait takes at most.
-const WAIT_SECONDS: u64 = 1;
-
 /// Of what something is reported.
-#[derive(Clone, Copy)]
+#[derive(Clone, Copy, PartialEq, Eq)]
 pub enum Report {
-    /// Of nothing, for a second.
+    /// Of nothing, for as long as a wait takes at most.
     Nothing,
     /// Of the listener: a connection is to be accepted.
     Listener,
-    /// Of the process's signals.
-    Signals,
     /// Of the connection of this place.
     Connection(usize),
 }
@@ -32,10 +25,15 @@ pub struct Poller {
 }
 
 impl Poller {
-    /// Waits for the next report.
-    pub fn wait(&mut self) -> Result<Report, Failed> {
-        let most = Some(Duration::from_secs(WAIT_SECONDS));
-        if self.poll.poll(&mut self.events, most).is_err() {
+    /// Waits for the next report, for a second at most, or a hundredth of one once the end has begun.
+    pub fn wait(&mut self, is_ending: bool) -> Result<Report, Failed> {
+        let most = if is_ending {
+            LAST_WAIT_MILLIS
+        } else {
+            WAIT_MILLIS
+        };
+        let most = Duration::from_millis(u64::from(most.unsigned_abs()));
+        if self.poll.poll(&mut self.events, Some(most)).is_err() {
             return Err(Failed);
         }
         let Some(event) = self.events.iter().next() else {
@@ -43,7 +41,6 @@ impl Poller {
         };
         Ok(match event.token() {
             LISTENER => Report::Listener,
-            SIGNALS => Report::Signals,
             Token(key) => Report::Connection(key),
         })
     }

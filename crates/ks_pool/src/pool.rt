@@ -1,10 +1,11 @@
 use crate::kept::{AtHand, Kept};
-use crate::limits::{ACCEPTS, CONNECTIONS, SPARE_DESCRIPTORS};
+use crate::limits::{ACCEPTS, CONNECTIONS, END_SECONDS, SPARE_DESCRIPTORS};
 use crate::poller::{LISTENER, Poller, Report};
 use crate::slots::Slots;
 use crate::trouble::Refusal;
 use ks_outside::Failed;
 use libc::RLIMIT_NOFILE;
+use libc::net::{SHUT_RD, shutdown};
 use libc::types::rlimit;
 use mio::net::{TcpListener, TcpStream};
 use mio::unix::SourceFd;
@@ -25,6 +26,9 @@ use std::time::Instant;
 /// seconds, no whole head within 10 seconds or no whole request within 30 seconds of the first byte, or that does not
 /// take a whole response within 30 seconds. Behind the last response it may send for 2 seconds, and 1 MiB, which are
 /// passed over.
+///
+/// Where a signal asks the process to end, it accepts no more connections. Requests and responses that are under way then
+/// have 5 seconds, and behind its response a connection is let go; once none is left no more links come.
 #[derive(Drop)]
 pub struct Pool {
     listener: TcpListener,
@@ -66,27 +70,41 @@ impl Pool {
         })
     }
 
-    /// Waits for the next connection of which a request looks whole. Workers wait in turn: one for a report, and the
-    /// others for that one.
-    pub fn next<R: Clock + Wait + Eprint>(&self, rt: &R) -> Result<Kept, Failed> {
+    /// Waits for the next connection of which a request looks whole. There is none where a signal asked the process to
+    /// end, and nothing is left at work that could still be answered.
+    pub fn next<R: Clock + Wait + Eprint>(&self, rt: &R) -> Result<Option<Kept>, Failed> {
         'reports: for _ in rt.forever() {
-            let report = self.poller.lock(rt).wait()?;
+            let report = self.report(rt)?;
             let Ok(now) = Instant::now(rt) else {
                 return Err(Failed);
             };
             self.sweep(rt, now)?;
+            if self.has_ended(rt, now, report) {
+                return Ok(None);
+            }
             match report {
-                // No signal is heard yet.
-                Report::Nothing | Report::Signals => {}
+                Report::Nothing => {}
                 Report::Listener => self.accept_all(rt, now)?,
                 Report::Connection(key) => {
                     if let Some(kept) = self.next_of(rt, key, now) {
-                        return Ok(kept);
+                        return Ok(Some(kept));
                     }
                 }
             }
         }
         unreachable!()
+    }
+
+    /// Waits for a report. Workers wait in turn: one for a report, and the others for that one.
+    fn report<R: Wait>(&self, rt: &R) -> Result<Report, Failed> {
+        let mut poller = self.poller.lock(rt);
+        let is_ending = self.slots.lock(rt).is_ending();
+        poller.wait(is_ending)
+    }
+
+    fn has_ended<R: Wait>(&self, rt: &R, now: Instant, report: Report) -> bool {
+        let was_told = report != Report::Nothing;
+        self.slots.lock(rt).has_ended(now, was_told)
     }
 
     /// The connection of this place, if a request of it is at hand.
@@ -136,8 +154,12 @@ impl Pool {
         self.slots.lock(rt).forget(key);
     }
 
-    /// Accepts the connections that wait, a number of them at most before others are served.
+    /// Accepts the connections that wait, a number of them at most before others are served, and none once the end has
+    /// begun.
     fn accept_all<R: Wait + Eprint>(&self, rt: &R, now: Instant) -> Result<(), Failed> {
+        if self.slots.lock(rt).is_ending() {
+            return Ok(());
+        }
         let mut has_made_room = false;
         'connections: for _ in 0..ACCEPTS {
             match self.listener.accept() {
@@ -193,24 +215,31 @@ impl Pool {
         slots.make_room(now)
     }
 
-    /// Once a second lets the connections go whose time is over, and has the listener reported again, of which accepts may
-    /// have failed.
+    /// Once a second lets the connections go whose time is over, looks for a signal that asks for the end, and has the
+    /// listener reported again, of which accepts may have failed.
     fn sweep<R: Wait + Eprint>(&self, rt: &R, now: Instant) -> Result<(), Failed> {
-        if self.sweep_slots(rt, now) {
-            return self.ask_for_more();
-        }
-        Ok(())
-    }
-
-    fn sweep_slots<R: Wait + Eprint>(&self, rt: &R, now: Instant) -> bool {
         let mut slots = self.slots.lock(rt);
         if !slots.begin_sweep(now) {
-            return false;
+            return Ok(());
         }
         slots.sweep(now);
         if slots.trouble.ends(now) {
             let _ = eprintln!(rt; "ks: connections are accepted again");
         }
-        true
+        if slots.look_for_end(now) {
+            self.stop_listening();
+            let _ = eprintln!(rt;
+                "ks: a signal asks for the end: what is at work has {END_SECONDS} seconds"
+            );
+        }
+        if slots.is_ending() {
+            return Ok(());
+        }
+        self.ask_for_more()
+    }
+
+    /// From now on connections to the listener's address are refused.
+    fn stop_listening(&self) {
+        let _stopped = shutdown(self.listener.as_raw_fd(), SHUT_RD);
     }
 }

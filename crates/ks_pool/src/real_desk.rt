@@ -1,4 +1,4 @@
-ghost use Rattle.std.specs.Prelude.{◌≡◌, Some, is_ok, IsErr, IfOk, if◌then◌else◌};
+ghost use Rattle.std.specs.Prelude.{◌≡◌, is_ok, IsErr, IfOk, IfSome, if◌then◌else◌};
 ghost use Rattle.ks_outside.specs.Counts.{Counts, next_count};
 ghost use Rattle.ks_outside.specs.Real.{untold_desk};
 
@@ -14,8 +14,8 @@ use std::time::{SystemTime, UNIX_EPOCH};
 
 /// A desk over a pool of TCP connections, the clock and the random source. It tells nothing, and counts its faults; the
 /// counts stand still at 2^64 - 1. It keeps no receipt. All desks of a program share one pool, which hands out links
-/// without end. Without a pool, as where the program listens at no address or its address could not be opened, it hands
-/// out none, and each `accept` fails.
+/// until a signal asks the process to end. Without a pool, as where the program listens at no address or its address
+/// could not be opened, it hands out none, and each `accept` fails.
 #[derive(Drop)]
 pub struct RealDesk<'a, R> {
     rt: &'a R,
@@ -53,17 +53,19 @@ impl<'a, R: Clock + RandomSource + Wait + Eprint> Desk for RealDesk<'a, R> {
 
     ghost desk = { untold_desk };
 
-    /// Waits for a link of which a request looks whole, or of which no more comes. Where connections can't be accepted
-    /// for now, that is said on the standard error, and again when it is over. That the listener can't accept at all, a
-    /// clock that can't be read and a want of a pool are faults.
+    /// Waits for a link of which a request looks whole, or of which no more comes. No more links come once a signal
+    /// asked the process to end and what was at work has ended or had its time. Where connections can't be accepted for
+    /// now, that is said on the standard error, and again when it is over. That the listener can't accept at all, a clock
+    /// that can't be read and a want of a pool are faults.
     fn accept(&mut self) -> Result<Option<TcpLink<'a, R>>, Failed>
         ensures faults { Counts (IsErr result) self.old.accept_faults self.new.accept_faults }
-        // There is always a link or a fault, and the count rises at a fault alone.
-        ensures some { IfOk result (λ link. link ≡ Some (record { reads = 0; writes = 0 })) }
+        // A link has not failed yet, and the count rises at a fault alone.
+        ensures some { IfOk result (λ link. IfSome link (λ new. new ≡ record { reads = 0; writes = 0 })) }
         ensures exact { self.new ≡ record self.old { accept_faults = (if is_ok result then self.old.accept_faults else next_count self.old.accept_faults) } }
     {
         match next_of(self.pool, self.rt) {
-            Ok(kept) => Ok(Some(TcpLink::new(self.rt, kept))),
+            Ok(Some(kept)) => Ok(Some(TcpLink::new(self.rt, kept))),
+            Ok(None) => Ok(None),
             Err(Failed) => {
                 self.accept_faults = self.accept_faults.saturating_add(1);
                 Err(Failed)
@@ -122,8 +124,8 @@ impl<'a, R: Clock + RandomSource + Wait + Eprint> Desk for RealDesk<'a, R> {
     }
 }
 
-/// The next connection of a pool, if there is one.
-fn next_of<R: Clock + Wait + Eprint>(pool: Option<&Pool>, rt: &R) -> Result<Kept, Failed> {
+/// The next connection of a pool, if there is a pool.
+fn next_of<R: Clock + Wait + Eprint>(pool: Option<&Pool>, rt: &R) -> Result<Option<Kept>, Failed> {
     match pool {
         Some(pool) => pool.next(rt),
         None => Err(Failed),

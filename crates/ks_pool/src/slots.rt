@@ -1,3 +1,4 @@
+use crate::ending::Ending;
 use crate::kept::Kept;
 use crate::trouble::Trouble;
 use mio::net::TcpStream;
@@ -25,6 +26,7 @@ pub struct Slots {
     most: usize,
     swept: Instant,
     pub trouble: Trouble,
+    ending: Ending,
 }
 
 /// A connection is reported when more comes of it, and when more may go to it: once at each change, and when it is
@@ -42,6 +44,7 @@ impl Slots {
             most,
             swept: now,
             trouble: Trouble::new(),
+            ending: Ending::new(),
         }
     }
 
@@ -73,9 +76,13 @@ impl Slots {
     }
 
     /// Takes a connection back. It is reported again where something was reported of it meanwhile, or where a further
-    /// request lies ready.
+    /// request lies ready. Once the end has begun, one of which nothing is at work is let go.
     pub fn put(&mut self, registry: &Registry, mut kept: Kept) {
         let key = kept.key;
+        if self.ending.has_begun() && kept.is_idle() {
+            self.forget(key);
+            return;
+        }
         if self.was_reported(key) || kept.is_whole() {
             let token = Token(key);
             if registry
@@ -110,6 +117,30 @@ impl Slots {
         }
         self.swept = now;
         true
+    }
+
+    /// Whether the end has begun.
+    pub fn is_ending(&self) -> bool {
+        self.ending.has_begun()
+    }
+
+    /// Looks for a signal that asks for the end, and says whether it begins now.
+    pub fn look_for_end(&mut self, now: Instant) -> bool {
+        self.ending.look(self.alloc, now)
+    }
+
+    /// Whether serving is over by now, where a wait told of something or of nothing.
+    pub fn has_ended(&self, now: Instant, was_told: bool) -> bool {
+        self.ending.has_begun() && self.ending.is_over(now, was_told || self.is_at_work())
+    }
+
+    /// Whether a request or a response of a connection that rests here is under way.
+    fn is_at_work(&self) -> bool {
+        self.slots.iter().any(|(_, slot)| match slot {
+            Slot::Resting(kept) => kept.is_at_work(),
+            // Its worker sees to it.
+            Slot::Lent(_) => false,
+        })
     }
 
     /// Lets the connections go whose time is over.

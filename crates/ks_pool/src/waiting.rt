@@ -3,6 +3,7 @@ ghost use Rattle.std.specs.Prelude.{◌<◌, ◌≤◌, IfOk, IfSome, length};
 
 use crate::deadline::Awaited;
 use crate::kept::Kept;
+use crate::limits::WAIT_MILLIS;
 use crate::socket::{read_now, write_now};
 use ks_outside::Failed;
 use libc::net::{POLLIN, POLLOUT, poll};
@@ -12,14 +13,15 @@ use std::rt::Clock;
 use std::time::Instant;
 
 impl Kept {
-    /// Waits until it may be ready for this, or its deadline has passed.
+    /// Waits until it may be ready for this, a second at most. It is a fault where its deadline has passed, or the time
+    /// that it has once a signal asked the process to end.
     fn wait<R: Clock>(&mut self, clock: &R, awaited: Awaited, events: i16) -> Result<(), Failed> {
         let Ok(now) = Instant::now(clock) else {
             return Err(Failed);
         };
         self.until = self.until.then(awaited, now);
         let left = self.until.millis_left(now);
-        if left == 0 {
+        if left == 0 || self.is_over(now) {
             return Err(Failed);
         }
         let mut waited = [pollfd {
@@ -28,7 +30,7 @@ impl Kept {
             revents: 0,
         }];
         // Whatever it says, the next call to the connection finds out.
-        let _ready = poll(waited.as_mut_slice(), left);
+        let _ready = poll(waited.as_mut_slice(), left.min(WAIT_MILLIS));
         Ok(())
     }
 
