@@ -2,6 +2,7 @@
 //! contract, since nothing tells it.
 #![tactic(auto)]
 
+mod clock;
 mod deadline;
 mod ending;
 mod framing;
@@ -17,6 +18,7 @@ mod socket;
 mod tcp_link;
 mod trouble;
 mod waiting;
+mod watch;
 
 pub use pool::Pool;
 pub use real_desk::RealDesk;

@@ -33,6 +33,9 @@ pub const RESPONSE_SECONDS: u64 = 30;
 /// How many seconds it has, once nothing more is written, to close its side or to send what it had begun.
 pub const CLOSING_SECONDS: u64 = 2;
 
+/// How many seconds a leap of the clock has at least that is doubted, and for how many it has to stand until it counts.
+pub const LEAP_SECONDS: u64 = 60;
+
 /// How many milliseconds one wait for connections, or for the client of one, takes at most: so often the end is looked for.
 pub const WAIT_MILLIS: i32 = 1_000;
 

@@ -1,3 +1,4 @@
+use crate::clock::WatchedClock;
 use crate::kept::{AtHand, Kept};
 use crate::limits::{ACCEPTS, CONNECTIONS, END_SECONDS, SPARE_DESCRIPTORS};
 use crate::poller::{LISTENER, Poller, Report};
@@ -35,6 +36,7 @@ pub struct Pool {
     registry: Registry,
     poller: Mutex<Poller>,
     slots: Mutex<Slots>,
+    clock: Mutex<WatchedClock>,
 }
 
 /// How many connections are kept at most.
@@ -67,7 +69,15 @@ impl Pool {
             registry,
             poller: Mutex::new(Poller { poll, events }),
             slots: Mutex::new(Slots::new(alloc, most_connections(), now)),
+            clock: Mutex::new(WatchedClock::new()),
         })
+    }
+
+    /// The clock that all desks share, in seconds since 1970, where it can be read. What becomes of it is said once.
+    pub fn reading<R: Clock + Wait + Eprint>(&self, rt: &R) -> Option<u64> {
+        let reading = self.clock.lock(rt).read(rt)?;
+        reading.tell(rt);
+        Some(reading.seconds)
     }
 
     /// Waits for the next connection of which a request looks whole. There is none where a signal asked the process to

@@ -2,6 +2,7 @@ ghost use Rattle.std.specs.Prelude.{◌≡◌, is_ok, IsErr, IfOk, IfSome, if◌
 ghost use Rattle.ks_outside.specs.Counts.{Counts, next_count};
 ghost use Rattle.ks_outside.specs.Real.{untold_desk};
 
+use crate::clock::WatchedClock;
 use crate::kept::Kept;
 use crate::{Pool, TcpLink};
 use ks_base::{Memory, Receipt};
@@ -10,7 +11,6 @@ use std::marker::Model;
 use std::random::RandomSource;
 use std::rt::Clock;
 use std::sync::Wait;
-use std::time::{SystemTime, UNIX_EPOCH};
 
 /// A desk over a pool of TCP connections, the clock and the random source. It tells nothing, and counts its faults; the
 /// counts stand still at 2^64 - 1. It keeps no receipt. All desks of a program share one pool, which hands out links
@@ -20,6 +20,8 @@ use std::time::{SystemTime, UNIX_EPOCH};
 pub struct RealDesk<'a, R> {
     rt: &'a R,
     pool: Option<&'a Pool>,
+    /// The clock of a desk without a pool.
+    clock: WatchedClock,
     last: u64,
     accept_faults: u64,
     fill_faults: u64,
@@ -41,6 +43,7 @@ impl<'a, R> RealDesk<'a, R> {
         RealDesk {
             rt,
             pool,
+            clock: WatchedClock::new(),
             last: 0,
             accept_faults: 0,
             fill_faults: 0,
@@ -84,11 +87,14 @@ impl<'a, R: Clock + RandomSource + Wait + Eprint> Desk for RealDesk<'a, R> {
         }
     }
 
-    /// The clock, or the last reading again, at first 0, where it can't be read or stands before 1970.
+    /// The clock, or the last reading again, at first 0, where it can't be read or stands before 1970. Where it leaps
+    /// forward by more than 60 seconds, that counts once it has stood for 60 seconds; until then the reading goes on by the
+    /// monotonic clock from the last that counted. The desks of a pool share what is known of it. On the standard error it
+    /// is said when a leap is doubted, when it counts, and when the clock goes back, which it may.
     fn reading(&mut self) -> u64
         ensures last { self.new ≡ record self.old { last = result } }
     {
-        if let Some(seconds) = seconds_since_1970(self.rt) {
+        if let Some(seconds) = reading_of(self.pool, &mut self.clock, self.rt) {
             self.last = seconds;
         }
         self.last
@@ -132,9 +138,16 @@ fn next_of<R: Clock + Wait + Eprint>(pool: Option<&Pool>, rt: &R) -> Result<Opti
     }
 }
 
-/// The clock in whole seconds, where it can be read and does not stand before 1970.
-fn seconds_since_1970<R: Clock>(rt: &R) -> Option<u64> {
-    let now = SystemTime::now(rt).ok()?;
-    let since = now.duration_since(UNIX_EPOCH).ok()?;
-    Some(since.as_secs())
+/// What the clock of the pool shows, or this one where there is no pool.
+fn reading_of<R: Clock + Wait + Eprint>(
+    pool: Option<&Pool>,
+    clock: &mut WatchedClock,
+    rt: &R,
+) -> Option<u64> {
+    if let Some(pool) = pool {
+        return pool.reading(rt);
+    }
+    let reading = clock.read(rt)?;
+    reading.tell(rt);
+    Some(reading.seconds)
 }
