@@ -42,10 +42,9 @@ def expect(what, got, wanted):
 
 
 def run(words, folder, given=b"", tracer=()):
-    """The status, the output and what is said, of the program in a folder; a port that the system chose is told as 0."""
+    """The status, the output and what is said, of the program in a folder."""
     ended = subprocess.run([*tracer, KS, *words], cwd=folder, input=given, capture_output=True, timeout=300)
-    said = re.sub(r"(?<=listening on 127\.0\.0\.1:)\d+", "0", ended.stderr.decode())
-    return ended.returncode, ended.stdout, said.removesuffix("\n")
+    return ended.returncode, ended.stdout, ended.stderr.decode().removesuffix("\n")
 
 
 def lay_out(folder, files):
@@ -156,6 +155,8 @@ def try_bodies(work, requests):
 
 
 def main():
+    # Else it would be said of each file what others may do with it.
+    os.umask(0o077)
     words, requests = table("command_words"), [row[0] for row in table("no_texts")]
     with tempfile.TemporaryDirectory() as work:
         lay_out(os.path.join(work, "keys"), {3: NAMES["staged"], 7: NAMES["primary"]})

@@ -9,6 +9,7 @@
 set -eu
 cd "$(dirname "$0")/.."
 ks=${KS:-bin/ks}
+umask 077
 work=$(mktemp -d)
 trap 'rm -rf "$work"' EXIT INT TERM
 wrong=0
@@ -35,11 +36,10 @@ run() {
     printf "$input" | "$ks" "$@" >"$work/out" 2>"$work/err" || status=$?
 }
 
-# serve WORD..: the program as a server, without the line that says where it listens.
+# serve WORD..: the program as a server.
 serve() {
     status=0
     "$ks" serve "$@" </dev/null >"$work/out" 2>"$work/err" || status=$?
-    sed -i '/^ks: listening on 127\.0\.0\.1:[0-9]* with [0-9]* workers*$/d' "$work/err"
 }
 
 # Whole runs.
@@ -100,16 +100,36 @@ printf 'x' >"$work/keys/5"
 run '' talk "$work/o.json" "$work/keys"
 is 9 '' "ks: $work/keys/5: not a Fernet key"
 
+mkfifo "$work/fifo"
+run '' talk "$work/fifo" keys
+is 3 '' "ks: $work/fifo: it could not be read"
+
+# A server that is refused does not say that it listens.
 serve "$work/none.json" keys 127.0.0.1:0
 is 3 '' "ks: $work/none.json: it could not be read"
 serve "$work/o.json" "$work/keys" 127.0.0.1:0 --workers 1
 is 9 '' "ks: $work/keys/5: not a Fernet key"
+
+# It says what others may do with its files.
+chmod 606 "$work/o.json"
+chmod 602 "$work/keys/5"
+serve "$work/o.json" "$work/keys" 127.0.0.1:0 --workers 1
+is 9 '' "ks: $work/o.json: may be read and written by others (mode 0606)
+ks: $work/keys/5: may be written by others (mode 0602)
+ks: $work/keys/5: not a Fernet key"
+chmod 600 "$work/o.json"
+chmod 755 "$work/keys"
+chmod 640 "$work/keys/5"
+serve "$work/o.json" "$work/keys" 127.0.0.1:0 --workers 1
+is 9 '' "ks: $work/keys: may be read by others (mode 0755)
+ks: $work/keys/5: not a Fernet key"
 printf '{"users":[{"id":"u","name":"ann"}]}' >"$work/o.json"
 serve "$work/o.json" keys 127.0.0.1:0
 is 7 '' "ks: $work/o.json: users[0].domain_id: missing; an id of 1 to 64 of the characters 0-9 A-Z a-z _ - is wanted"
 
 # An address at which nobody can listen here.
-serve examples/o1.json keys 192.0.2.1:5000
+cp examples/o1.json "$work/o1.json"
+serve "$work/o1.json" keys 192.0.2.1:5000
 is 10 '' 'ks: 192.0.2.1:5000: Cannot assign requested address (os error 99)'
 
 # One connection of one worker, at a port that the system chose.

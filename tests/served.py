@@ -2,6 +2,7 @@
 
 import json
 import os
+import re
 import socket
 import subprocess
 import sys
@@ -38,11 +39,16 @@ def free_port():
         return found.getsockname()[1]
 
 
+def without_modes(lines):
+    """The lines but for those that say what others may do with a file: those of a checkout they may read."""
+    return [line for line in lines if not re.fullmatch(r"ks: .*: may be .* by others \(mode [0-7]{4}\)", line)]
+
+
 def run(program, *words):
     """Runs a command to its end: its status, what it wrote, and the lines that it said on the standard error."""
     ended = subprocess.run([program, *words], stdin=subprocess.DEVNULL, stdout=subprocess.PIPE, stderr=subprocess.PIPE,
                            timeout=PATIENCE, check=False)
-    return ended.returncode, ended.stdout.decode(), ended.stderr.decode().splitlines()
+    return ended.returncode, ended.stdout.decode(), without_modes(ended.stderr.decode().splitlines())
 
 
 class Server:
@@ -71,7 +77,7 @@ class Server:
     def keep_lines(self):
         """Keeps what is said on the standard error."""
         for line in self.process.stderr:
-            self.lines.append(line.decode().rstrip("\n"))
+            self.lines += without_modes([line.decode().rstrip("\n")])
 
     def wait_until_open(self):
         """Waits for the line that says that connections are taken."""

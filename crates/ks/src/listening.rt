@@ -35,18 +35,19 @@ fn bind<R: Net>(rt: &R, address: &str) -> io::Result<TcpListener> {
     Err(failed)
 }
 
-/// Listens at an address, and says so in one line, with the port that it then is. Connections wait until the opening
-/// file is read.
-pub fn listen<R: Net + Clock + AllocGlobal + Eprint>(
+/// Listens at an address. Connections wait until the opening file is read, and then the pool says in one line that it
+/// listens, with the port that it is.
+pub fn listen<R: Net + Clock + AllocGlobal>(
     rt: &R,
     address: &str,
     workers: u32,
 ) -> io::Result<Pool> {
     let listener = bind(rt, address)?;
     let bound = listener.local_addr()?;
-    let pool = Pool::new(rt, listener)?;
     let ending = if workers == 1 { "" } else { "s" };
-    let _ = eprintln!(rt; "ks: listening on {bound} with {workers} worker{ending}");
+    let line = format!(in rt.alloc(); "ks: listening on {bound} with {workers} worker{ending}")?;
+    let mut pool = Pool::new(rt, listener)?;
+    pool.say_first(line);
     Ok(pool)
 }
 

@@ -6,6 +6,7 @@
 ghost use Rattle.std.specs.Prelude.{◌<◌, IfOk, length};
 
 mod listening;
+mod modes;
 mod named;
 mod opening_file;
 mod threads;
@@ -16,6 +17,7 @@ use ks_pool::{Pool, RealDesk};
 use ks_setup::read_words;
 use ks_top::{Ended, Fault, run};
 use listening::{desks, listen, serving};
+use modes::may_open;
 use named::{Named, path_of};
 use opening_file::OpeningFile;
 use std::env;
@@ -74,6 +76,14 @@ fn out_of_memory<R: Eprint>(rt: &R) -> ExitCode {
     ExitCode::from(Fault::Memory.status())
 }
 
+/// The file at this path, if it can be opened without a wait.
+fn opened(rt: &HostRuntime, path: &str) -> Option<File> {
+    if !may_open(rt, path) {
+        return None;
+    }
+    File::open(rt, path).ok()
+}
+
 fn main(rt: HostRuntime) -> ExitCode {
     let words = match words(&rt) {
         Ok(words) => words,
@@ -95,9 +105,12 @@ fn main(rt: HostRuntime) -> ExitCode {
     if !can_run(&rt, workers) {
         return out_of_threads(&rt, workers);
     }
-    let mut source = OpeningFile::new(File::open(&rt, file).ok());
+    let mut source = OpeningFile::new(opened(&rt, file));
     let listening = match serving(&command) {
-        Some(_) => Some(listen(&rt, address, workers)),
+        Some(_) => {
+            modes::tell(&rt, file, folder);
+            Some(listen(&rt, address, workers))
+        }
         None => None,
     };
     let (pool, unbound) = match listening {

@@ -37,6 +37,8 @@ pub struct Pool {
     poller: Mutex<Poller>,
     slots: Mutex<Slots>,
     clock: Mutex<WatchedClock>,
+    /// What is to be said before the first connection is waited for.
+    first_line: Mutex<Option<String>>,
 }
 
 /// How many connections are kept at most.
@@ -70,7 +72,20 @@ impl Pool {
             poller: Mutex::new(Poller { poll, events }),
             slots: Mutex::new(Slots::new(alloc, most_connections(), now)),
             clock: Mutex::new(WatchedClock::new()),
+            first_line: Mutex::new(None),
         })
+    }
+
+    /// Has this line said on the standard error before the first connection is waited for.
+    pub fn say_first(&mut self, line: String) {
+        self.first_line = Mutex::new(Some(line));
+    }
+
+    fn say_first_line<R: Wait + Eprint>(&self, rt: &R) {
+        let line = self.first_line.lock(rt).take();
+        if let Some(line) = line {
+            let _ = eprintln!(rt; "{line}");
+        }
     }
 
     /// The clock that all desks share, in seconds since 1970, where it can be read. What becomes of it is said once.
@@ -83,6 +98,7 @@ impl Pool {
     /// Waits for the next connection of which a request looks whole. There is none where a signal asked the process to
     /// end, and nothing is left at work that could still be answered.
     pub fn next<R: Clock + Wait + Eprint>(&self, rt: &R) -> Result<Option<Kept>, Failed> {
+        self.say_first_line(rt);
         'reports: for _ in rt.forever() {
             let report = self.report(rt)?;
             let Ok(now) = Instant::now(rt) else {
