@@ -6,7 +6,7 @@ use Rattle.ks_top.specs.declared.checker.Place.{Place}
 use Rattle.ks_top.specs.Lines.{IsInLine, lines_of}
 use Rattle.ks_top.specs.Check.{step_of, steps_of, go_on, check_from, bad_line}
 
-no_line_feed : (b t : Bool) → (not b && t) ≡ true → (b ≡ false) × (t ≡ true)
+pub no_line_feed : (b t : Bool) → (not b && t) ≡ true → (b ≡ false) × (t ≡ true)
 no_line_feed true t h = cc
 no_line_feed false t h = (refl, h)
 

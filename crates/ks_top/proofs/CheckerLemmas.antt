@@ -1,19 +1,20 @@
 -- How the checker's calls move a check that stands.
-use Rattle.std.proofs.Common.{◌≡◌, ℕ, ◌+◌, ◌<◌, List, [], ◌∷◌, ◌++◌, length, Bool, true, false, ◌-◌, ◌≢◌, take, drop, ◌==◌, Option, Some, Result, Ok, Err, OnOk, refl, sym, ap, ◌∙◌, arith, length-append, append_assoc, append-nil}
+use Rattle.std.proofs.Common.{◌≡◌, ℕ, ◌+◌, ◌<◌, ◌≤◌, filter, List, [], ◌∷◌, ◌++◌, length, Bool, true, false, ◌-◌, ◌≢◌, take, drop, ◌==◌, inl, inr, Option, Some, Result, Ok, Err, OnOk, refl, sym, ap, ◌∙◌, subst, arith, length-append, append_assoc, append-nil}
 use Rattle.std.proofs.lemmas.Bool.Decides.{nat_tests}
-use Rattle.std.proofs.lemmas.List.{take-append-drop}
+use Rattle.std.proofs.lemmas.List.{length-take, take-append-drop}
+use Rattle.std.proofs.lemmas.List.Elements.{filter-append}
 use Rattle.ks_top.specs.declared.fault.Fault.{Fault}
 use Rattle.ks_top.specs.declared.fault.Fault.TheVariants as fault
 use Rattle.ks_top.specs.declared.checker.Place.{Place}
 use Rattle.ks_top.specs.declared.checker.Checker.{Checker}
-use Rattle.ks_top.specs.Lines.{IsInLine, lines_of}
+use Rattle.ks_top.specs.Lines.{IsInLine, line_feeds, lines_of}
 use Rattle.ks_top.specs.Check.{End, Checked, check_of, Whole, BadLine, steps_of, check_from, bad_line, onto, go_on}
-use Rattle.ks_top.specs.steps.Progress.{Holds, EndsLine, WritesOut, Stands, StandsAtBadLine, StandsAtEnd, HoldsFront, Moves, Flushes, Finishes, IsAtStart, IsReading, StoppedReading, ReadsAll}
-use Rattle.ks_top.specs.Ending.{IsCutShort, EndsCheck}
+use Rattle.ks_top.specs.steps.Progress.{Holds, EndsLine, WritesOut, Stands, StandsAtBadLine, StandsAtEnd, HasLines, HoldsFront, Moves, Flushes, Finishes, IsAtStart, IsReading, StoppedReading, ReadsAll}
+use Rattle.ks_top.specs.Ending.{IsCutShort, EndsCheck, ReadsToLine}
 use Rattle.ks_outside.specs.declared.failed.Failed.{Failed}
 use Rattle.ks_outside.specs.Streams.{Begins}
 use Rattle.ks_outside.specs.Streams as streams
-use Rattle.ks_top.proofs.CheckLemmas.{step_of-long, check_long, check_line, check_last}
+use Rattle.ks_top.proofs.CheckLemmas.{no_line_feed, step_of-long, check_long, check_line, check_last}
 
 pub held_ends : (f : Fault) (bytes : List ℕ) (old new : Checker) → Holds bytes old new (Err f) → EndsLine bytes old new (Err f)
 held_ends (fault.BadLine n) bytes old new h = ((step_of-long old.place _ h.0, h.1, h.2), tt)
@@ -254,6 +255,59 @@ left_ended : (text : List ℕ) (left left' : Option (List ℕ)) (checker : Check
     (r : IsReading text left checker written before) → streams.Takes r.rest left' piece 0 → left' ≡ Some []
 left_ended text left left' checker written before r taken = taken.rest ∙ ap Some (taken.ended refl)
 
+-- lines that were read
+
+feeds-append : (a b : List ℕ) → line_feeds (a ++ b) ≡ line_feeds a + line_feeds b
+feeds-append a b = ap (λ l. length l) (filter-append (λ c. c == 10) a b) ∙ length-append (filter (λ c. c == 10) a) (filter (λ c. c == 10) b)
+
+feeds_inside : (line : List ℕ) → IsInLine line → line_feeds line ≡ 0
+feeds_inside [] h = refl
+feeds_inside (b ∷ line) h =
+    let parts = no_line_feed (b == 10) _ h in rw parts.0 (feeds_inside line parts.1)
+
+pub lines_kept : (old new : Checker) (read : List ℕ) → new.place ≡ old.place → new.line.items ≡ old.line.items → HasLines old read → HasLines new read
+lines_kept old new read place line h = record {
+  lines = h.lines;
+  read_is = h.read_is ∙ ap (λ l. h.lines ++ l) (sym line);
+  whole = h.whole;
+  counted = h.counted ∙ ap (λ (p : Place). p.lines) (sym place);
+}
+
+pub lines_ended : (old new : Checker) (read last : List ℕ) → IsInLine (old.line.items ++ last) → new.place.lines ≡ old.place.lines + 1 → new.line.items ≡ []
+    → HasLines old read → HasLines new (read ++ (last ++ 10 ∷ []))
+lines_ended old new read last inside forward empty h =
+    let whole = old.line.items ++ last in
+    let same : read ++ (last ++ 10 ∷ []) ≡ h.lines ++ (whole ++ 10 ∷ []) =
+    ap (λ r. r ++ (last ++ 10 ∷ [])) h.read_is
+    ∙ (append_assoc h.lines old.line.items (last ++ 10 ∷ []) ∙ ap (λ l. h.lines ++ l) (sym (append_assoc old.line.items last (10 ∷ [])))) in
+    let none = feeds_inside whole inside in
+    record {
+      lines = h.lines ++ (whole ++ 10 ∷ []);
+      read_is = same ∙ (sym (append-nil (h.lines ++ (whole ++ 10 ∷ []))) ∙ ap (λ l. (h.lines ++ (whole ++ 10 ∷ [])) ++ l) (sym empty));
+      whole = inr (h.lines ++ whole, sym (append_assoc h.lines whole (10 ∷ [])));
+      counted = let a = feeds-append h.lines (whole ++ 10 ∷ []) in let b = feeds-append whole (10 ∷ []) in let counted = h.counted in omega (arith, a, b, none, counted, forward);
+    }
+
+pub lines_held : (old new : Checker) (read bytes : List ℕ) → Holds bytes old new (Ok tt) → HasLines old read → HasLines new (read ++ bytes)
+lines_held old new read bytes held h = record {
+  lines = h.lines;
+  read_is = ap (λ r. r ++ bytes) h.read_is ∙ (append_assoc h.lines old.line.items bytes ∙ ap (λ l. h.lines ++ l) (sym held.0));
+  whole = h.whole;
+  counted = h.counted ∙ ap (λ (p : Place). p.lines) (sym held.1);
+}
+
+-- a bad line is none of those that were answered
+
+pub bad_held : (f : Fault) (lines : ℕ) (bytes : List ℕ) (old new : Checker) → lines ≤ old.place.lines → Holds bytes old new (Err f) → (n : ℕ) → f ≡ fault.BadLine n → lines < n
+bad_held f lines bytes old new le held n is = let h = subst (λ e. Holds bytes old new (Err e)) is held in omega (arith, le, h.1)
+
+pub bad_behind : (f : Fault) (lines : ℕ) (last : List ℕ) (old new : Checker) → lines ≤ old.place.lines → EndsLine last old new (Err f) → (n : ℕ) → f ≡ fault.BadLine n → lines < n
+bad_behind f lines last old new le ends n is = let h = subst (λ e. EndsLine last old new (Err e)) is ends in omega (arith, le, h.0.1)
+
+pub bad_line_of : (result : Result (Unit {0}) Fault) (lines : ℕ) (last : List ℕ) (old new : Checker) → lines ≤ old.place.lines → EndsLine last old new result
+    → (n : ℕ) → result ≡ Err (fault.BadLine n) → lines < n
+bad_line_of result lines last old new le ends n is = let h = subst (λ r. EndsLine last old new r) is ends in omega (arith, le, h.0.1)
+
 -- a piece that was read comes behind what was read before
 pub stands_piece : (read piece : List ℕ) (checker : Checker) (written : Option (List ℕ)) (before : List ℕ) →
     Stands (λ more. check_of (read ++ more)) [] checker written before → Stands (λ more. check_of ((read ++ piece) ++ more)) piece checker written before
@@ -278,34 +332,57 @@ starts checker text before left written fresh left_is written_is = record {
         ∙ ap (λ l. onto [] (check_from checker.place (l ++ more))) (sym fresh.1)
         ∙ ap (λ a. onto a (check_from checker.place (checker.line.items ++ more))) (sym fresh.2);
   };
+  lines = record { lines = []; read_is = sym fresh.1; whole = inl refl; counted = ap (λ (p : Place). p.lines) (sym fresh.0) };
 }
 
 -- behind the next piece
 pub reads_on : (n : ℕ) (piece : List ℕ) (text : List ℕ) (left left' : Option (List ℕ)) (old new : Checker) (written written' : Option (List ℕ)) (before : List ℕ) →
     (r : IsReading text left old written before) → streams.Takes r.rest left' piece n →
-    Moves (λ more. check_of ((r.read ++ take n piece) ++ more)) [] (Ok tt) new written' before → IsReading text left' new written' before
-reads_on n piece text left left' old new written written' before r taken moves = record {
+    Moves (λ more. check_of ((r.read ++ take n piece) ++ more)) [] (Ok tt) new written' before → HasLines new (r.read ++ take n piece)
+    → IsReading text left' new written' before
+reads_on n piece text left left' old new written written' before r taken moves lines = record {
   read = r.read ++ take n piece;
   rest = drop n r.rest;
   input_is = split_read n piece text r.read r.rest r.input_is taken.given;
   left_is = taken.rest;
   stands = moves;
+  lines = lines;
 }
+
+-- a bad line in a piece
+near_line : (m n : ℕ) (piece text : List ℕ) (left left' : Option (List ℕ)) (old : Checker) (written : Option (List ℕ)) (before : List ℕ)
+    → (r : IsReading text left old written before) → streams.Takes r.rest left' piece n → n ≤ 65536 → old.place.lines < m → ReadsToLine m text left'
+near_line m n piece text left left' old written before r taken short behind =
+    let lines = r.lines in record {
+      lines = lines.lines;
+      begun = old.line.items;
+      piece = take n r.rest;
+      rest = drop n r.rest;
+      input_is = r.input_is
+          ∙ (ap (λ l. l ++ r.rest) lines.read_is
+          ∙ (append_assoc lines.lines old.line.items r.rest ∙ ap (λ l. lines.lines ++ (old.line.items ++ l)) (sym (take-append-drop n r.rest))));
+      whole = lines.whole;
+      few = let counted = lines.counted in omega (arith, counted, behind);
+      begun_short = old.short;
+      piece_short = let size = length-take n r.rest in omega (arith, size, short);
+      left_is = taken.rest;
+    }
 
 -- where the piece's lines stopped the check
 pub stops_at : (f : Fault) (n : ℕ) (piece : List ℕ) (text : List ℕ) (left left' : Option (List ℕ)) (old new : Checker) (written written' : Option (List ℕ)) (before : List ℕ) →
-    (r : IsReading text left old written before) → streams.Takes r.rest left' piece n →
+    (r : IsReading text left old written before) → streams.Takes r.rest left' piece n → n ≤ 65536 → ((m : ℕ) → f ≡ fault.BadLine m → old.place.lines < m) →
     Moves (λ more. check_of ((r.read ++ take n piece) ++ more)) [] (Err f) new written' before → ReadsAll text left' (Err f) new written' before
-stops_at (fault.BadLine m) n piece text left left' old new written written' before r taken moves =
+stops_at (fault.BadLine m) n piece text left left' old new written written' before r taken short behind moves =
     let whole = split_read n piece text r.read r.rest r.input_is taken.given in record {
       read = r.read ++ take n piece;
       rest = drop n r.rest;
       input_is = whole;
       left_is = taken.rest;
+      near = near_line m n piece text left left' old written before r taken short (behind m refl);
       here = at_bad_line (check_of (r.read ++ take n piece)) m new written' before moves [] (ap check_of (sym (append-nil (r.read ++ take n piece))));
       there = at_bad_line (check_of text) m new written' before moves (drop n r.rest) (ap check_of whole);
     }
-stops_at fault.Write n piece text left left' old new written written' before r taken moves = record {
+stops_at fault.Write n piece text left left' old new written written' before r taken short behind moves = record {
   read = r.read ++ take n piece;
   rest = drop n r.rest;
   input_is = split_read n piece text r.read r.rest r.input_is taken.given;
@@ -314,20 +391,20 @@ stops_at fault.Write n piece text left left' old new written written' before r t
   written_is = moves.written_is;
   front = begins_of moves.so_far _ _ (ap check_of (append-nil (r.read ++ take n piece))) (moves.front []);
 }
-stops_at fault.Memory n piece text left left' old new written written' before r taken moves = record {
+stops_at fault.Memory n piece text left left' old new written written' before r taken short behind moves = record {
   read = r.read ++ take n piece;
   rest = drop n r.rest;
   input_is = split_read n piece text r.read r.rest r.input_is taken.given;
   left_is = taken.rest;
   holds = moves;
 }
-stops_at fault.Usage n piece text left left' old new written written' before r taken moves = absurd moves
-stops_at fault.Folder n piece text left left' old new written written' before r taken moves = absurd moves
-stops_at (fault.Keys reason) n piece text left left' old new written written' before r taken moves = absurd moves
-stops_at (fault.Opening reason) n piece text left left' old new written written' before r taken moves = absurd moves
-stops_at (fault.State reason) n piece text left left' old new written written' before r taken moves = absurd moves
-stops_at fault.Desk n piece text left left' old new written written' before r taken moves = absurd moves
-stops_at fault.Read n piece text left left' old new written written' before r taken moves = absurd moves
+stops_at fault.Usage n piece text left left' old new written written' before r taken short behind moves = absurd moves
+stops_at fault.Folder n piece text left left' old new written written' before r taken short behind moves = absurd moves
+stops_at (fault.Keys reason) n piece text left left' old new written written' before r taken short behind moves = absurd moves
+stops_at (fault.Opening reason) n piece text left left' old new written written' before r taken short behind moves = absurd moves
+stops_at (fault.State reason) n piece text left left' old new written written' before r taken short behind moves = absurd moves
+stops_at fault.Desk n piece text left left' old new written written' before r taken short behind moves = absurd moves
+stops_at fault.Read n piece text left left' old new written written' before r taken short behind moves = absurd moves
 
 pub stops_reading : (text : List ℕ) (left left' : Option (List ℕ)) (checker : Checker) (written : Option (List ℕ)) (before : List ℕ) →
     (r : IsReading text left checker written before) → left' ≡ Some r.rest → StoppedReading text left' checker written before
@@ -341,33 +418,34 @@ stops_reading text left left' checker written before r left_is = record {
 
 -- where the input has ended
 pub finishes : (result : Result (Unit {0}) Fault) (piece : List ℕ) (text : List ℕ) (left left' : Option (List ℕ)) (old new : Checker) (written : Option (List ℕ)) (before : List ℕ) →
-    (r : IsReading text left old written before) → streams.Takes r.rest left' piece 0 →
+    (r : IsReading text left old written before) → streams.Takes r.rest left' piece 0 → ((m : ℕ) → result ≡ Err (fault.BadLine m) → old.place.lines < m) →
     Finishes (λ more. check_of (r.read ++ more)) result new written before → ReadsAll text left' result new written before
-finishes (Ok done) piece text left left' old new written before r taken ends =
+finishes (Ok done) piece text left left' old new written before r taken behind ends =
     (left_ended text left left' old written before r taken, ended_at Whole (r.read ++ []) text new written before ends (ended_input text left left' old written before r taken))
-finishes (Err (fault.BadLine n)) piece text left left' old new written before r taken ends = record {
+finishes (Err (fault.BadLine n)) piece text left left' old new written before r taken behind ends = record {
   read = r.read ++ [];
   rest = [];
   input_is = sym (ended_input text left left' old written before r taken) ∙ sym (append-nil (r.read ++ []));
   left_is = left_ended text left left' old written before r taken;
   here = ends;
+  near = near_line n 0 piece text left left' old written before r taken (omega arith) (behind n refl);
   there = ended_at (BadLine n) (r.read ++ []) text new written before ends (ended_input text left left' old written before r taken);
 }
-finishes (Err fault.Memory) piece text left left' old new written before r taken ends = record {
+finishes (Err fault.Memory) piece text left left' old new written before r taken behind ends = record {
   read = r.read;
   rest = r.rest;
   input_is = r.input_is;
   left_is = taken.rest;
   holds = ends;
 }
-finishes (Err fault.Usage) piece text left left' old new written before r taken ends = absurd ends
-finishes (Err fault.Folder) piece text left left' old new written before r taken ends = absurd ends
-finishes (Err (fault.Keys reason)) piece text left left' old new written before r taken ends = absurd ends
-finishes (Err (fault.Opening reason)) piece text left left' old new written before r taken ends = absurd ends
-finishes (Err (fault.State reason)) piece text left left' old new written before r taken ends = absurd ends
-finishes (Err fault.Desk) piece text left left' old new written before r taken ends = absurd ends
-finishes (Err fault.Read) piece text left left' old new written before r taken ends = absurd ends
-finishes (Err fault.Write) piece text left left' old new written before r taken ends = absurd ends
+finishes (Err fault.Usage) piece text left left' old new written before r taken behind ends = absurd ends
+finishes (Err fault.Folder) piece text left left' old new written before r taken behind ends = absurd ends
+finishes (Err (fault.Keys reason)) piece text left left' old new written before r taken behind ends = absurd ends
+finishes (Err (fault.Opening reason)) piece text left left' old new written before r taken behind ends = absurd ends
+finishes (Err (fault.State reason)) piece text left left' old new written before r taken behind ends = absurd ends
+finishes (Err fault.Desk) piece text left left' old new written before r taken behind ends = absurd ends
+finishes (Err fault.Read) piece text left left' old new written before r taken behind ends = absurd ends
+finishes (Err fault.Write) piece text left left' old new written before r taken behind ends = absurd ends
 
 cut_short : (read : List ℕ) (so_far answers part output : List ℕ) → Begins part answers → Begins (so_far ++ answers) output → Begins (so_far ++ part) output
 cut_short read so_far answers part output p h = (p.0 ++ h.0, front_more so_far part p.0 answers h.0 p.1 ∙ h.1)
@@ -382,7 +460,7 @@ closes (Ok done) text before left written written' old new h wrote others =
 closes (Err (fault.BadLine n)) text before left written written' old new h wrote others =
     let there = h.there in
     let out : (check_of text).output ≡ there.so_far ++ old.answers.items = ap (λ (c : Checked). c.output) there.same in
-    ((wrote _ there.written_is).0 ∙ ap Some (append_assoc before there.so_far old.answers.items ∙ ap (λ o. before ++ o) (sym out)), ap (λ (c : Checked). c.end) there.same)
+    ((wrote _ there.written_is).0 ∙ ap Some (append_assoc before there.so_far old.answers.items ∙ ap (λ o. before ++ o) (sym out)), ap (λ (c : Checked). c.end) there.same, h.near)
 closes (Err fault.Read) text before left written written' old new h wrote others = record {
   read = h.read;
   rest = h.rest;

@@ -1,6 +1,6 @@
 -- How an opening is read: the text of the file, the keys of the folder, and what is refused.
-use Rattle.std.proofs.Common.{◌≡◌, ℕ, ◌<◌, ◌+◌, Bool, true, false, List, [], ◌++◌, length, take, drop, Option, Some, None, Ok, Err, refl, sym, ap, ◌∙◌, arith, inl, inr, ⊎_elim, append_assoc, length-append}
-use Rattle.std.proofs.lemmas.List.{take-append-drop}
+use Rattle.std.proofs.Common.{◌≡◌, ℕ, ◌<◌, ◌≤◌, ◌+◌, Bool, true, false, List, [], ◌++◌, length, take, drop, Option, Some, None, Ok, Err, refl, sym, ap, ◌∙◌, arith, inl, inr, ⊎_elim, append_assoc, length-append}
+use Rattle.std.proofs.lemmas.List.{length-take, take-append-drop}
 use Rattle.std.specs.Prelude.{Result, nat_le}
 use Rattle.std.proofs.lemmas.Bool.Decides.{nat_tests}
 use Rattle.std.proofs.lemmas.Option.{same_Some}
@@ -23,7 +23,7 @@ use Rattle.ks_setup.specs.Openings.{AnswersOpening, Drew}
 use Rattle.ks_setup.specs.Written.{document_of, file_of, folder_wanted}
 use Rattle.ks_top.specs.declared.fault.Fault.{Fault}
 use Rattle.ks_top.specs.declared.fault.Fault.TheVariants as fault
-use Rattle.ks_top.specs.Opened.{AreHeld, IsOpening, IsText, RefusesFolder, RefusesForm, StopsOpening}
+use Rattle.ks_top.specs.Opened.{AreHeld, IsOpening, IsText, ReadsFile, RefusesFolder, RefusesForm, StopsOpening}
 use Rattle.ks_top.specs.steps.Openings.{HasRead, IsRead, IsReadFault, IsWhole, RefusesKeys, StopsHeld, of_opening}
 
 -- a desk from which nothing was drawn
@@ -51,6 +51,21 @@ read_none told left is = (told, refl, is)
 pub read_more : (told text piece rest : List ℕ) (n : ℕ) (left : Option (List ℕ)) → told ≡ text ++ rest → Takes rest left piece n → HasRead told (text ++ take n piece) left
 read_more told text piece rest n left is takes =
     (drop n rest, is ∙ ap (λ xs. text ++ xs) (sym (take-append-drop n rest)) ∙ sym (append_assoc text (take n rest) (drop n rest)) ∙ ap (λ xs. (text ++ xs) ++ drop n rest) (sym takes.given), takes.rest)
+
+-- how far it was read
+
+pub reached : (told text : List ℕ) (left : Option (List ℕ)) → length text ≤ 16842752 → HasRead told text left → ReadsFile told left
+reached told text left short read = record { text = text; rest = read.0; told_is = read.1; short = short; left_is = read.2 }
+
+pub reached_none : (told : List ℕ) (left : Option (List ℕ)) → left ≡ Some told → ReadsFile told left
+reached_none told left is = reached told [] left (omega arith) (read_none told left is)
+
+pub reached_piece : (told text piece : List ℕ) (n : ℕ) (before left : Option (List ℕ)) → length text ≤ 16777216 → n ≤ 65536
+    → (read : HasRead told text before) → Takes read.0 left piece n → ReadsFile told left
+reached_piece told text piece n before left short few read takes =
+    let size = length-append text (take n piece) in
+    let part = length-take n piece in
+    reached told (text ++ take n piece) left (omega (arith, size, part, short, few)) (read_more told text piece read.0 n left read.1 takes)
 
 -- a file that is longer than an opening file may be is refused as such
 

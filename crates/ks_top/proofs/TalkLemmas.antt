@@ -22,7 +22,7 @@ use Rattle.ks_state.specs.Shown.{Shown}
 use Rattle.ks_top.specs.declared.fault.Fault.{Fault}
 use Rattle.ks_top.specs.declared.fault.Fault.TheVariants as fault
 use Rattle.ks_top.specs.Identities.{Stopped}
-use Rattle.ks_top.specs.Opened.{IsOpening, StopsOpening}
+use Rattle.ks_top.specs.Opened.{IsOpening, ReadsFile, StopsOpening}
 use Rattle.ks_top.specs.Talk.{ServedOne, Talked, ending}
 use Rattle.ks_top.specs.World.{World}
 use Rattle.ks_top.specs.steps.Openings.{of_state}
@@ -169,10 +169,11 @@ abbrev pub Failed : Type 0 → Fault → Fault → Type 0
 Failed A f g = let r : Result A Fault = Err f in r ≡ Err g
 
 pub stopped_by : {Link Seat : Type 0} (A : Type 0) (old new : World Link Seat) (f : Fault) → StopsOpening old.file old.dir old.desk new.desk f
-    → OnlyReads (Failed A f fault.Read) old.file new.file → OnlyLooks (Failed A f fault.Folder) old.dir new.dir
+    → ((told : List ℕ) → old.file.left ≡ Some told → ReadsFile told new.file.left) → OnlyReads (Failed A f fault.Read) old.file new.file → OnlyLooks (Failed A f fault.Folder) old.dir new.dir
     → new ≡ record old { file = new.file; dir = new.dir; desk = new.desk } → Stopped old new f
-stopped_by A old new f stops reads looks others = record {
+stopped_by A old new f stops reach reads looks others = record {
   stops = stops;
+  reach = reach;
   file = reads_for (Failed A f fault.Read) (f ≡ fault.Read) old.file new.file (λ e. ap Err e) reads;
   folder = looks_for (Failed A f fault.Folder) (f ≡ fault.Folder) old.dir new.dir (λ e. ap Err e) looks;
   others = others;

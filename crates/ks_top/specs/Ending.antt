@@ -1,10 +1,13 @@
 -- How `check` and the program end.
-use Rattle.std.specs.Prelude.{◌≡◌, ℕ, List, [], ◌++◌, Option, Some, None, Result, Ok, Err}
+use Rattle.std.specs.Prelude.{◌≡◌, ℕ, ◌<◌, ◌≤◌, List, [], ◌++◌, length, Option, Some, None, Result, Ok, Err}
 use Rattle.ks_base.specs.declared.faults.KeysFault.TheVariants.{Failed, NoKeys, BadKey, TooMany, AlreadySet, IndexEnd, Memory}
+use Rattle.ks_base.specs.declared.limits.TheConstants.{CHECK_LINE_BYTES}
 use Rattle.ks_outside.specs.Streams.{Begins}
+use Rattle.ks_top.specs.declared.checker.TheConstants.{PIECE}
 use Rattle.ks_top.specs.declared.fault.Fault.{Fault}
 use Rattle.ks_top.specs.declared.fault.Fault.TheVariants as fault
 use Rattle.ks_top.specs.Check.{check_of, Whole, BadLine}
+use Rattle.ks_top.specs.Lines.{AreWhole, line_feeds}
 
 -- a check that a fault of the outside or want of memory cut short: what was written is the front of
 -- the output for the bytes that were read
@@ -17,12 +20,26 @@ pub record IsCutShort (input before : List ℕ) (left written : Option (List ℕ
   pub written_is : written ≡ Some (before ++ so_far)
   pub front : Begins so_far (check_of read).output
 
+-- of an input whose line n is bad no more was read than the whole lines before it, of that line's beginning so many bytes as a line may
+-- have, and one piece
+pub record ReadsToLine (n : ℕ) (input : List ℕ) (left : Option (List ℕ)) : Type 0 where
+  pub lines : List ℕ
+  pub begun : List ℕ
+  pub piece : List ℕ
+  pub rest : List ℕ
+  pub input_is : input ≡ lines ++ (begun ++ (piece ++ rest))
+  pub whole : AreWhole lines
+  pub few : line_feeds lines < n
+  pub begun_short : length begun ≤ CHECK_LINE_BYTES
+  pub piece_short : length piece ≤ PIECE
+  pub left_is : left ≡ Some rest
+
 -- how a check of an input ends, and what it then has written behind what was there before
 abbrev pub EndsCheck : List ℕ → List ℕ → Option (List ℕ) → Option (List ℕ) → Result (Unit {0}) Fault → Type 0
 EndsCheck input before left written (Ok done) =
     (written ≡ Some (before ++ (check_of input).output)) × ((check_of input).end ≡ Whole) × (left ≡ Some [])
 EndsCheck input before left written (Err (fault.BadLine n)) =
-    (written ≡ Some (before ++ (check_of input).output)) × ((check_of input).end ≡ BadLine n)
+    (written ≡ Some (before ++ (check_of input).output)) × ((check_of input).end ≡ BadLine n) × ReadsToLine n input left
 EndsCheck input before left written (Err fault.Read) = IsCutShort input before left written
 EndsCheck input before left written (Err fault.Write) = IsCutShort input before left written
 EndsCheck input before left written (Err fault.Memory) = IsCutShort input before left written

@@ -1,5 +1,5 @@
 -- What `talk` and `serve` do alike: they open an identity, or stop before that.
-use Rattle.std.specs.Prelude.{◌≡◌, Option, Some, None}
+use Rattle.std.specs.Prelude.{◌≡◌, ℕ, List, Option, Some, None}
 use Rattle.ks_machine.specs.Opened.{open_fault}
 use Rattle.ks_machine.specs.Openings.{PlainOpening}
 use Rattle.ks_machine.specs.Fronts.{first_front}
@@ -10,7 +10,7 @@ use Rattle.ks_state.specs.Standing.{StandsWithAllKept}
 use Rattle.ks_state.specs.Shown.{Shown}
 use Rattle.ks_top.specs.declared.fault.Fault.{Fault}
 use Rattle.ks_top.specs.declared.fault.Fault.TheVariants as fault
-use Rattle.ks_top.specs.Opened.{IsOpening, StopsOpening}
+use Rattle.ks_top.specs.Opened.{IsOpening, ReadsFile, StopsOpening}
 use Rattle.ks_top.specs.World.{World}
 
 -- an identity was opened, and then this was done, with the opening and with the first desk as its fills left it
@@ -20,6 +20,7 @@ pub record Opened {Link Seat : Type 0} (Done : PlainOpening → DeskState Link �
   pub opened : IsOpening old.file old.dir old.desk desk opening
   pub lawful : open_fault opening ≡ None
   pub file : OnlyReads ⊥ old.file new.file
+  pub reach : (told : List ℕ) → old.file.left ≡ Some told → ReadsFile told new.file.left
   pub folder : OnlyLooks ⊥ old.dir new.dir
   pub done : Done opening desk
 
@@ -27,6 +28,7 @@ pub record Opened {Link Seat : Type 0} (Done : PlainOpening → DeskState Link �
 pub record Stopped {Link Seat : Type 0} (old new : World Link Seat) (f : Fault) : Type 0 where
   pub stops : StopsOpening old.file old.dir old.desk new.desk f
   pub file : OnlyReads (f ≡ fault.Read) old.file new.file
+  pub reach : (told : List ℕ) → old.file.left ≡ Some told → ReadsFile told new.file.left
   pub folder : OnlyLooks (f ≡ fault.Folder) old.dir new.dir
   pub others : new ≡ record old { file = new.file; dir = new.dir; desk = new.desk }
 

@@ -1,5 +1,5 @@
 -- The lines that `check` reads.
-use Rattle.std.specs.Prelude.{◌≡◌, ℕ, ◌+◌, ◌-◌, ◌*◌, ◌^◌, ◌==◌, nat_lt, nat_le, Bool, true, not, ◌&&◌, if◌then◌else◌, List, [], ◌∷◌, take, drop, Option, Some, None}
+use Rattle.std.specs.Prelude.{◌≡◌, ◌⊎◌, ℕ, ◌+◌, ◌-◌, ◌*◌, ◌^◌, ◌==◌, nat_lt, nat_le, Bool, true, not, ◌&&◌, if◌then◌else◌, List, [], ◌∷◌, ◌++◌, length, filter, take, drop, Option, Some, None}
 use Rattle.std.specs.List.{list_all, onto_first, position}
 use Rattle.std.specs.Option.{option_and_then, option_map}
 
@@ -11,6 +11,14 @@ lines_of (b ∷ bytes) = if b == 10 then [] ∷ lines_of bytes else onto_first b
 -- no line feed
 abbrev pub IsInLine : List ℕ → Type 0
 IsInLine line = list_all (λ b. not (b == 10)) line ≡ true
+
+-- how many lines end in a text
+abbrev pub line_feeds : List ℕ → ℕ
+line_feeds text = length (filter (λ b. b == 10) text)
+
+-- whole lines alone: there are none, or the last one has its line feed
+abbrev pub AreWhole : List ℕ → Type 0
+AreWhole text = (text ≡ []) ⊎ ((before : List ℕ) × (text ≡ before ++ 10 ∷ []))
 
 abbrev pub is_digit : ℕ → Bool
 is_digit b = nat_le 48 b && nat_le b 57

@@ -1,9 +1,10 @@
 -- What a server opens with: the text of its opening file, the keys of the folder where the file takes them from there, and
 -- the bytes that its desk gave. And why it does not open.
-use Rattle.std.specs.Prelude.{◌≡◌, ◌≢◌, ℕ, Bool, true, false, List, [], Some, Result, Ok, Err}
+use Rattle.std.specs.Prelude.{◌≡◌, ◌≢◌, ℕ, ◌+◌, ◌≤◌, Bool, true, false, List, [], ◌++◌, length, Option, Some, Result, Ok, Err}
 use Rattle.ks_base.specs.declared.faults.KeysFault.{KeysFault}
 use Rattle.ks_base.specs.declared.faults.KeysFault.TheVariants as keys
 use Rattle.ks_base.specs.declared.key.Key.{Key}
+use Rattle.ks_base.specs.declared.limits.TheConstants.{OPENING_BYTES}
 use Rattle.ks_base.specs.declared.shapes.ShapeFault.{ShapeFault}
 use Rattle.ks_keyfiles.specs.Folders.{AreFolderKeys, folder_of}
 use Rattle.ks_machine.specs.declared.settings.OpenFault.{OpenFault}
@@ -17,12 +18,21 @@ use Rattle.ks_setup.specs.declared.opening.OpeningFault.{OpeningFault}
 use Rattle.ks_setup.specs.declared.opening.OpeningFault.TheVariants as refusal
 use Rattle.ks_setup.specs.Openings.{AnswersOpening, Drew, Opens}
 use Rattle.ks_setup.specs.Written.{file_of, folder_wanted}
+use Rattle.ks_top.specs.declared.checker.TheConstants.{PIECE}
 use Rattle.ks_top.specs.declared.fault.Fault.{Fault}
 use Rattle.ks_top.specs.declared.fault.Fault.TheVariants as fault
 
 -- this is the text of the file, where the file tells it
 abbrev pub IsText : List ℕ → StreamState → Type 0
 IsText text file = (told : List ℕ) → file.left ≡ Some told → told ≡ text
+
+-- of a file no more was read than an opening file may have, and a piece
+pub record ReadsFile (told : List ℕ) (left : Option (List ℕ)) : Type 0 where
+  pub text : List ℕ
+  pub rest : List ℕ
+  pub told_is : told ≡ text ++ rest
+  pub short : length text ≤ OPENING_BYTES + PIECE
+  pub left_is : left ≡ Some rest
 
 -- these keys are held beside the file: those of the folder, where the file takes its keys from there, and else none
 abbrev pub AreHeld : Result Bool ShapeFault → DirState → List (ℕ × Key) → Type 0

@@ -1,5 +1,6 @@
-ghost use Rattle.std.specs.Prelude.{◌≡◌, ◌≤◌, ℕ, List, Some, IsErrOf, IfOk, IfErr, ◌<◌, length};
+ghost use Rattle.std.specs.Prelude.{◌≡◌, ◌≤◌, ℕ, List, Some, IsErrOf, IfOk, IfErr, length};
 ghost use Rattle.ks_outside.specs.Streams.{OnlyReads, OnlyWrites};
+ghost use Rattle.ks_top.specs.declared.checker.TheConstants.{PIECE};
 ghost use Rattle.ks_top.specs.Ending.{EndsCheck, IsStreamFault};
 
 use crate::checker::{Checker, PIECE};
@@ -26,7 +27,7 @@ pub fn check<S: Source, K: Sink>(alloc: Global, input: &mut S, output: &mut K) -
 
 /// Room for a piece of the input.
 fn room(alloc: Global) -> Result<Vec<u8>, AllocError>
-    ensures { IfOk result (λ piece. 0 < length piece.items) }
+    ensures { IfOk result (λ piece. length piece.items ≡ PIECE) }
 {
     vec![in alloc; 0u8; PIECE]
 }

@@ -1,5 +1,6 @@
 ghost use Rattle.std.specs.Prelude.{◌≡◌, ◌+◌, ◌<◌, ◌≤◌, ◌↔◌, [], None, Some, Err, IsTrue, length, OnOk};
 ghost use Rattle.ks_base.specs.declared.limits.TheConstants.{CHECK_LINES, CHECK_LINE_BYTES};
+ghost use Rattle.ks_top.specs.declared.checker.TheConstants.{PIECE};
 ghost use Rattle.ks_top.specs.Lines.{IsInLine};
 
 use crate::answer::answer;
@@ -121,7 +122,7 @@ impl Checker {
     ghost use Rattle.ks_outside.specs.Streams.{OnlyReads, OnlyWrites};
     ghost use Rattle.ks_top.specs.Lines.{IsInLine};
     ghost use Rattle.ks_top.specs.Check.{Checked};
-    ghost use Rattle.ks_top.specs.steps.Progress.{IsAtStart, EndsLine, Holds, WritesOut, Stands, Moves, Flushes, Finishes, ReadsAll, bytes_read};
+    ghost use Rattle.ks_top.specs.steps.Progress.{IsAtStart, EndsLine, HasLines, Holds, WritesOut, Stands, Moves, Flushes, Finishes, ReadsAll, bytes_read};
     ghost use Rattle.ks_top.specs.Ending.{EndsCheck, IsStreamFault};
 
     /// Before the first byte.
@@ -178,6 +179,8 @@ impl Checker {
     /// Writes the answers in hand.
     fn write_out<K: Sink>(&mut self, output: &mut K) -> Result<(), Failed>
         ensures told { (before : List ℕ) → (K.stream output.old).written ≡ Some before → WritesOut self.old result self.new (K.stream output.new).written before }
+        ensures place { self.new.place ≡ self.old.place }
+        ensures line { self.new.line.items ≡ self.old.line.items }
         ensures bytes { bytes_read self.new ≡ bytes_read self.old }
         ensures writes { OnlyWrites (IsErr result) (K.stream output.old) (K.stream output.new) }
     {
@@ -189,6 +192,8 @@ impl Checker {
     /// Writes the answers in hand, where they have become many.
     fn write_many<K: Sink>(&mut self, output: &mut K) -> Result<(), Failed>
         ensures moves { (whole : List ℕ → Checked) (rest before : List ℕ) → Stands whole rest self.old (K.stream output.old).written before → Flushes whole rest result self.new (K.stream output.new).written before }
+        ensures place { self.new.place ≡ self.old.place }
+        ensures line { self.new.line.items ≡ self.old.line.items }
         ensures bytes { bytes_read self.new ≡ bytes_read self.old }
         ensures writes { OnlyWrites (IsErr result) (K.stream output.old) (K.stream output.new) }
     {
@@ -209,6 +214,8 @@ impl Checker {
         ensures causes { IfErr result IsStreamFault }
         ensures reads { result ≢ Err Fault.Read }
         ensures moves { (whole : List ℕ → Checked) (before : List ℕ) → Stands whole piece.now self.old (K.stream output.old).written before → Moves whole [] result self.new (K.stream output.new).written before }
+        ensures lines { OnOk result ((read : List ℕ) → HasLines self.old read → HasLines self.new (read ++ piece.now)) }
+        ensures bad { (n : ℕ) → result ≡ Err (Fault.BadLine n) → self.old.place.lines < n }
         ensures bytes { OnOk result (bytes_read self.old + length piece.now ≤ bytes_read self.new) }
         ensures writes { OnlyWrites (IsErrOf result Fault.Write) (K.stream output.old) (K.stream output.new) }
     {
@@ -233,6 +240,7 @@ impl Checker {
         ensures causes { IfErr result IsStreamFault }
         ensures reads { result ≢ Err Fault.Read }
         ensures writes { result ≢ Err Fault.Write }
+        ensures bad { (n : ℕ) → result ≡ Err (Fault.BadLine n) → self.old.place.lines < n }
         ensures finishes { (whole : List ℕ → Checked) (before : List ℕ) (written : Option (List ℕ)) → Stands whole [] self.old written before → Finishes whole result self.new written before }
     {
         if !self.line.is_empty() {
@@ -255,6 +263,7 @@ impl Checker {
     ) -> Result<(), Fault>
         requires fresh { IsAtStart self.old }
         requires room { 0 < length piece.old }
+        requires size { length piece.old ≤ PIECE }
         ensures causes { IfErr result IsStreamFault }
         ensures told { (text before : List ℕ) → (S.stream input.old).left ≡ Some text → (K.stream output.old).written ≡ Some before → ReadsAll text (S.stream input.new).left result self.new (K.stream output.new).written before }
         ensures reads { OnlyReads (IsErrOf result Fault.Read) (S.stream input.old) (S.stream input.new) }
@@ -295,6 +304,7 @@ impl Checker {
     ) -> Result<(), Fault>
         requires fresh { IsAtStart self.old }
         requires room { 0 < length piece.old }
+        requires size { length piece.old ≤ PIECE }
         ensures told { (text before : List ℕ) → (S.stream input.old).left ≡ Some text → (K.stream output.old).written ≡ Some before → EndsCheck text before (S.stream input.new).left (K.stream output.new).written result }
         ensures causes { IfErr result IsStreamFault }
         ensures reads { OnlyReads (IsErrOf result Fault.Read) (S.stream input.old) (S.stream input.new) }

@@ -1,12 +1,12 @@
 //! What `talk` and `serve` stand on: an identity that an opening file gives.
-ghost use Rattle.std.specs.Prelude.{◌≡◌, None, IfOk, IfErr};
+ghost use Rattle.std.specs.Prelude.{◌≡◌, ℕ, List, None, Some, IfOk, IfErr};
 ghost use Rattle.ks_machine.specs.Opened.{open_fault};
 ghost use Rattle.ks_outside.specs.Files.{OnlyLooks};
 ghost use Rattle.ks_outside.specs.Streams.{OnlyReads};
 ghost use Rattle.ks_policy.specs.Openings.{plain};
 ghost use Rattle.ks_machine.specs.Fronts.{first_front};
 ghost use Rattle.ks_state.specs.Standing.{StandsWithAllKept};
-ghost use Rattle.ks_top.specs.Opened.{IsOpening, StopsOpening};
+ghost use Rattle.ks_top.specs.Opened.{IsOpening, ReadsFile, StopsOpening};
 
 use crate::fault::Fault;
 use crate::opening;
@@ -44,6 +44,7 @@ pub fn open<F: Source, D: KeyDir, P: Desk>(
     ensures stands { IfOk result (λ opened. StandsWithAllKept opened.identity (first_front (plain opened.opening.value))) }
     ensures url { IfOk result (λ opened. opened.url ≡ opened.opening.value.settings.url) }
     ensures stops { IfErr result (StopsOpening (F.stream file.old) (D.dir dir.old) (P.desk desk.old) (P.desk desk.new)) }
+    ensures reach { (told : List ℕ) → (F.stream file.old).left ≡ Some told → ReadsFile told (F.stream file.new).left }
     ensures reads { OnlyReads (result ≡ Err Fault.Read) (F.stream file.old) (F.stream file.new) }
     ensures looks { OnlyLooks (result ≡ Err Fault.Folder) (D.dir dir.old) (D.dir dir.new) }
 {

@@ -1,12 +1,14 @@
 //! What a server opens with: its file, and the keys of the folder where the file takes them from there.
-ghost use Rattle.std.specs.Prelude.{◌≡◌, ◌≤◌, ◌<◌, length, Err, IfOk, IfErr};
+ghost use Rattle.std.specs.Prelude.{◌≡◌, ◌≤◌, ℕ, List, Some, length, Err, IfOk, IfErr};
 ghost use Rattle.ks_outside.specs.Files.{OnlyLooks};
 ghost use Rattle.ks_outside.specs.Streams.{OnlyReads};
 ghost use Rattle.ks_policy.specs.Openings.{plain};
 ghost use Rattle.ks_setup.specs.Written.{folder_wanted};
-ghost use Rattle.ks_top.specs.Opened.{AreHeld, IsOpening, StopsOpening};
+ghost use Rattle.ks_top.specs.Opened.{AreHeld, IsOpening, ReadsFile, StopsOpening};
+ghost use Rattle.ks_top.specs.declared.checker.TheConstants.{PIECE};
 ghost use Rattle.ks_top.specs.steps.Openings.{IsRead, IsReadFault, StopsHeld};
 
+use crate::checker::PIECE;
 use crate::fault::Fault;
 use ks_base::KeyList;
 use ks_base::limits::OPENING_BYTES;
@@ -15,9 +17,6 @@ use ks_outside::{Desk, KeyDir, Source};
 use ks_policy::Opening;
 use ks_setup::{read_opening, wants_folder};
 use std::alloc::{AllocError, Global};
-
-/// How many bytes are read at once.
-const PIECE: usize = 65_536;
 
 /// Reads the opening file to its end, and the keys of the folder where the file takes them from there; and draws the
 /// salts of the users' passwords.
@@ -29,6 +28,7 @@ pub fn read<F: Source, D: KeyDir, P: Desk>(
 ) -> Result<Opening, Fault>
     ensures opens { IfOk result (λ opening. IsOpening (F.stream file.old) (D.dir dir.old) (P.desk desk.old) (P.desk desk.new) (plain opening)) }
     ensures stops { IfErr result (StopsOpening (F.stream file.old) (D.dir dir.old) (P.desk desk.old) (P.desk desk.new)) }
+    ensures reach { (told : List ℕ) → (F.stream file.old).left ≡ Some told → ReadsFile told (F.stream file.new).left }
     ensures reads { OnlyReads (result ≡ Err Fault.Read) (F.stream file.old) (F.stream file.new) }
     ensures looks { OnlyLooks (result ≡ Err Fault.Folder) (D.dir dir.old) (D.dir dir.new) }
 {
@@ -61,6 +61,7 @@ fn read_held<D: KeyDir>(alloc: Global, text: &[u8], dir: &mut D) -> Result<KeyLi
 fn read_file<F: Source>(alloc: Global, file: &mut F) -> Result<Vec<u8>, Fault>
     ensures read { IfOk result (λ text. IsRead (F.stream file.old) text.items) }
     ensures causes { IfErr result IsReadFault }
+    ensures reach { (told : List ℕ) → (F.stream file.old).left ≡ Some told → ReadsFile told (F.stream file.new).left }
     ensures reads { OnlyReads (result ≡ Err Fault.Read) (F.stream file.old) (F.stream file.new) }
 {
     let Ok(mut piece) = room(alloc) else {
@@ -83,7 +84,7 @@ fn read_file<F: Source>(alloc: Global, file: &mut F) -> Result<Vec<u8>, Fault>
 
 /// Room for a piece of the file.
 fn room(alloc: Global) -> Result<Vec<u8>, AllocError>
-    ensures { IfOk result (λ piece. 0 < length piece.items) }
+    ensures { IfOk result (λ piece. length piece.items ≡ PIECE) }
 {
     vec![in alloc; 0u8; PIECE]
 }

@@ -7,7 +7,8 @@ use Rattle.ks_top.specs.declared.fault.Fault.{Fault}
 use Rattle.ks_top.specs.declared.fault.Fault.TheVariants as fault
 use Rattle.ks_top.specs.declared.checker.Place.{Place}
 use Rattle.ks_top.specs.declared.checker.Checker.{Checker}
-pub use Rattle.ks_top.specs.Ending.{IsCutShort}
+pub use Rattle.ks_top.specs.Ending.{IsCutShort, ReadsToLine}
+use Rattle.ks_top.specs.Lines.{AreWhole, line_feeds}
 use Rattle.ks_top.specs.Check.{Step, End, Checked, onto, bad_line, step_of, check_from, check_of, Whole, BadLine}
 
 -- What a line was to write and to leave behind it, and what came of it. A fault leaves the answers as they were.
@@ -35,6 +36,13 @@ bytes_read checker = 1101 * checker.place.lines + length checker.line.items
 
 abbrev pub IsAtStart : Checker → Type 0
 IsAtStart checker = (checker.place ≡ record { lines = 0; key = None; moment = 0 }) × (checker.line.items ≡ []) × (checker.answers.items ≡ [])
+
+-- these bytes were read: as many whole lines as the checker has answered, and those of the line that has begun
+pub record HasLines (checker : Checker) (read : List ℕ) : Type 0 where
+  pub lines : List ℕ
+  pub read_is : read ≡ lines ++ checker.line.items
+  pub whole : AreWhole lines
+  pub counted : line_feeds lines ≡ checker.place.lines
 
 -- `whole more` is what is to be written where `more` follows the bytes in hand: those of the line that has begun, and `rest`
 pub record Stands (whole : List ℕ → Checked) (rest : List ℕ) (checker : Checker) (written : Option (List ℕ)) (before : List ℕ) : Type 0 where
@@ -97,6 +105,7 @@ pub record IsReading (input : List ℕ) (left : Option (List ℕ)) (checker : Ch
   pub input_is : input ≡ read ++ rest
   pub left_is : left ≡ Some rest
   pub stands : Stands (λ more. check_of (read ++ more)) [] checker written before
+  pub lines : HasLines checker read
 
 -- the reading stopped with answers in hand, which are behind what was written the front of the output for the bytes read
 pub record StoppedReading (input : List ℕ) (left : Option (List ℕ)) (checker : Checker) (written : Option (List ℕ)) (before : List ℕ) : Type 0 where
@@ -113,6 +122,7 @@ pub record CameToBadLine (input : List ℕ) (n : ℕ) (left : Option (List ℕ))
   pub input_is : input ≡ read ++ rest
   pub left_is : left ≡ Some rest
   pub here : StandsAtEnd (check_of read) (BadLine n) checker written before
+  pub near : ReadsToLine n input left
   pub there : StandsAtEnd (check_of input) (BadLine n) checker written before
 
 abbrev pub ReadsAll : List ℕ → Option (List ℕ) → Result (Unit {0}) Fault → Checker → Option (List ℕ) → List ℕ → Type 0

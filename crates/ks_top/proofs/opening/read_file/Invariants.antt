@@ -1,4 +1,4 @@
-use Rattle.std.proofs.Common.{◌≡◌, ℕ, ◌-◌, ◌<◌, List, Some, length}
+use Rattle.std.proofs.Common.{◌≡◌, ℕ, ◌-◌, ◌≤◌, List, Some, length}
 use Rattle.ks_outside.specs.Streams.{OnlyReads}
 use Rattle.ks_top.specs.steps.Openings.{HasRead}
 use Rattle.ks_top.proofs.opening.read_file.Given as goal
@@ -6,7 +6,8 @@ use Rattle.ks_top.proofs.opening.read_file.Given as goal
 abbrev pub invariant-pieces : goal.invariant-pieces
 invariant-pieces g l = record {
   told : (told : List ℕ) → (g.F.Stream.stream l.fn.file).left ≡ Some told → HasRead told l.text.items (g.F.Stream.stream l.file).left;
-  room : 0 < length l.piece.items;
+  size : length l.text.items ≤ 16842752;
+  room : length l.piece.items ≡ 65536;
   reads : OnlyReads ⊥ (g.F.Stream.stream l.fn.file) (g.F.Stream.stream l.file);
 }
 

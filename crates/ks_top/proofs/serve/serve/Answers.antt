@@ -18,6 +18,7 @@ returns-in-Ok g c input output first others e =
         opened = c.in-Ok.ensures.opens;
         lawful = c.in-Ok.ensures.lawful;
         file = reads_for _ ⊥ _ _ (λ x. absurd x) c.in-Ok.ensures.reads;
+        reach = c.open.ensures.reach;
         folder = looks_for _ ⊥ _ _ (λ x. absurd x) c.in-Ok.ensures.looks;
         done = s.3;
       },
@@ -30,5 +31,5 @@ returns-in-Err g c input output first others e =
       (c.open.new.desk, c.index_mut.result.now.1),
       others,
       rw e refl,
-      rw (c.stopped.ensures.fault, c.stopped.ensures.state) (stopped_by _ _ _ c.in-Err.fault c.in-Err.ensures.stops c.in-Err.ensures.reads c.in-Err.ensures.looks refl),
+      rw (c.stopped.ensures.fault, c.stopped.ensures.state) (stopped_by _ _ _ c.in-Err.fault c.in-Err.ensures.stops c.open.ensures.reach c.in-Err.ensures.reads c.in-Err.ensures.looks refl),
     )

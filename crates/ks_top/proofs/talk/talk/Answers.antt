@@ -10,10 +10,11 @@ returns-in-Ok g c = λ others. record {
   opened = c.in-Ok.ensures.opens;
   lawful = c.in-Ok.ensures.lawful;
   file = reads_for _ ⊥ _ _ (λ x. absurd x) c.in-Ok.ensures.reads;
+  reach = c.open.ensures.reach;
   folder = looks_for _ ⊥ _ _ (λ x. absurd x) c.in-Ok.ensures.looks;
   done = c.serve_one-fault.ensures (g.P.Desk.desk c.args.desk.now) (g.F.Stream.stream c.args.file.now) (g.F.Stream.stream c.open.new.file) (g.D.KeyDir.dir c.args.dir.now) (g.D.KeyDir.dir c.open.new.dir) others;
 }
 
 pub returns-in-Err : goal.returns-in-Err
 returns-in-Err g c = λ others.
-    rw (c.stopped.ensures.fault, c.stopped.ensures.state) (stopped_by _ _ _ c.in-Err.fault c.in-Err.ensures.stops c.in-Err.ensures.reads c.in-Err.ensures.looks refl)
+    rw (c.stopped.ensures.fault, c.stopped.ensures.state) (stopped_by _ _ _ c.in-Err.fault c.in-Err.ensures.stops c.open.ensures.reach c.in-Err.ensures.reads c.in-Err.ensures.looks refl)
