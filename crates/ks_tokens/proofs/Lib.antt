@@ -3,3 +3,4 @@ mod TimeLemmas
 mod ValidLemmas
 mod TellLemmas
 mod EndLemmas
+pub mod AskLemmas

@@ -54,7 +54,7 @@ pub record IsAbout (S : State) (moment : ℕ) (call : Call) (what : Command) (la
   pub loads : (requirements what).loads ≡ false
   pub lacks : (requirements what).lacks ≡ None
 
-is_about : (S : State) (moment : ℕ) (call : Call) (what : Command) (late : Bool) (action : Text) → AsksAbout what late action → IsAbout S moment call what late action (told_subject S)
+pub is_about : (S : State) (moment : ℕ) (call : Call) (what : Command) (late : Bool) (action : Text) → AsksAbout what late action → IsAbout S moment call what late action (told_subject S)
 unfolding answered requirements
 is_about S moment call what late action (gets given) = record { answers = refl; action_is = refl; subject = refl; draws = refl; loads = refl; lacks = refl }
 is_about S moment call what late action (heads given) = record { answers = refl; action_is = refl; subject = refl; draws = refl; loads = refl; lacks = refl }

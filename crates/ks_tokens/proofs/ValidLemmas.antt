@@ -59,7 +59,7 @@ opened_behind (key ∷ before) held behind text issued plain none opens =
     ap (λ (a : OpenAnswer). opened_by (Some a) (opened everything text (before ++ held ∷ behind))) none.0
     ∙ opened_behind before held behind text issued plain none.1 opens
 
-opened_by_one : (keys : List HeldKey) (text : Text) (issued : ℕ) (plain : List ℕ) → IsOpened keys text issued plain → opened everything text keys ≡ Yes issued plain
+pub opened_by_one : (keys : List HeldKey) (text : Text) (issued : ℕ) (plain : List ℕ) → IsOpened keys text issued plain → opened everything text keys ≡ Yes issued plain
 opened_by_one keys text issued plain is =
     ap (opened everything text) is.are ∙ opened_behind is.before is.held is.behind text issued plain is.none_before is.opens
 

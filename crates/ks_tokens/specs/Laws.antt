@@ -1,12 +1,14 @@
--- When the machine tells of a token, and that it never tells of one that was ended.
-use Rattle.std.specs.Prelude.{◌≡◌, ◌↔◌, ℕ, Bool, true, false, Some, codes}
+-- When the machine tells of a token, that it never tells of one that was ended, and what it answers instead.
+use Rattle.std.specs.Prelude.{◌≡◌, ◌≢◌, ◌↔◌, ℕ, Bool, true, false, List, Some, codes}
 use Rattle.ks_base.specs.Rows.{Text}
 use Rattle.ks_machine.specs.declared.body_out.BodyOut.{BodyOut}
 use Rattle.ks_machine.specs.declared.body_out.BodyOut.TheVariants as body
 use Rattle.ks_machine.specs.declared.call.Call.{Call}
+use Rattle.ks_machine.specs.declared.cause.Cause.TheVariants as cause
 use Rattle.ks_machine.specs.declared.command.Command.{Command}
 use Rattle.ks_machine.specs.declared.command.Command.TheVariants as command
 use Rattle.ks_machine.specs.declared.reply.Reply.TheVariants as reply
+use Rattle.ks_machine.specs.declared.why.Why.{Why}
 use Rattle.ks_machine.specs.Actions.{identity}
 use Rattle.ks_machine.specs.Allowed.{allowed}
 use Rattle.ks_machine.specs.Fronts.{Front, ◌⊑◌, after, answer, replay}
@@ -16,7 +18,8 @@ use Rattle.ks_machine.specs.Moment.{moment_of}
 use Rattle.ks_machine.specs.States.{State, raised}
 use Rattle.ks_machine.specs.Targets.{credentials, target_of}
 use Rattle.ks_machine.specs.Validity.{Valid}
-use Rattle.ks_tokens.specs.ValidTokens.{IsValid}
+use Rattle.ks_payload.specs.Readings.{payload_of}
+use Rattle.ks_tokens.specs.ValidTokens.{IsOpened, IsValid}
 
 -- GET and HEAD of a token (Identity API v3, validate and check token), with the action of the policy that each of them is
 pub data AsksAbout : Command → Bool → Text → Type 0 where
@@ -59,3 +62,28 @@ EndedTokensStayRefused =
     (f g : Front) (call : Call) (token : Valid) → HasEnded f call token → IsLawful g → after f call ⊑ g
     → (moment : ℕ) (late : Bool) (text : Text) (later : Valid) → IsValid (raised (replay g) moment) moment late text later
     → later.payload ≡ token.payload → later.issued ≡ token.issued → ⊥
+
+-- a call asks about this token: a held key opens its subject's text to the same payload and the same time
+pub record AsksFor (f : Front) (call : Call) (token : Valid) : Type 0 where
+  pub late : Bool
+  pub action : Text
+  pub about : AsksAbout call.command late action
+  pub text : Text
+  pub subject : call.subject ≡ Some text
+  pub plain : List ℕ
+  pub opened : IsOpened (replay f).ring.held text token.issued plain
+  pub payload : payload_of plain ≡ Some token.payload
+
+-- the caller's own token is valid
+pub record HasValidCaller (f : Front) (call : Call) : Type 0 where
+  pub text : Text
+  pub caller : Valid
+  pub given : call.caller ≡ Some text
+  pub is : IsValid (raised (replay f) (moment_of f.high call.reading)) (moment_of f.high call.reading) false text caller
+
+-- after each such front a call that asks about that token is not answered Ok; where its caller's token is valid, it is refused for its
+-- subject's (404)
+abbrev pub EndedTokensAreNotFound : Type 0
+EndedTokensAreNotFound =
+    (f g : Front) (call asks : Call) (token : Valid) → HasEnded f call token → IsLawful g → after f call ⊑ g → AsksFor g asks token
+    → ((told : BodyOut) → answer g asks ≢ reply.Ok told) × (HasValidCaller g asks → (why : Why) × (answer g asks ≡ reply.Refused (cause.SubjectToken why)))

@@ -2,7 +2,7 @@
 //! function that does nothing.
 #![tactic(auto)]
 
-ghost use Rattle.ks_tokens.specs.Laws.{EndedTokensStayRefused, TokensValidateExactly};
+ghost use Rattle.ks_tokens.specs.Laws.{EndedTokensAreNotFound, EndedTokensStayRefused, TokensValidateExactly};
 
 /// A token that is asked about is told, with its roles, exactly where the caller's text and its own are valid tokens and the
 /// policy allows it: where a held key opens each of them, it is in time, no event of the whole history matches it, and its
@@ -15,4 +15,10 @@ pub fn tokens_validate_exactly()
 /// who has seen the call's change, as a caller's and as a subject's.
 pub fn ended_tokens_stay_refused()
     ensures { EndedTokensStayRefused }
+{}
+
+/// A call that asks about a token which a call ended, at a front that goes on from the one behind that call, is not told of it;
+/// where its caller's own token is valid, the answer is the refusal of the subject's, a 404.
+pub fn ended_tokens_are_not_found()
+    ensures { EndedTokensAreNotFound }
 {}

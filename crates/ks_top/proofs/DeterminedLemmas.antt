@@ -127,7 +127,7 @@ same_changes first f g xs one other =
 
 -- the journals of two runs
 
-placed_by : {Link : Type 0} (first journal : Front) (workers : List (Worker Link)) → AllByRecursion (TellsOf first journal) workers → AllByRecursion (λ (x : Exchange). IsPlaced first journal x) (exchanges_by workers)
+pub placed_by : {Link : Type 0} (first journal : Front) (workers : List (Worker Link)) → AllByRecursion (TellsOf first journal) workers → AllByRecursion (λ (x : Exchange). IsPlaced first journal x) (exchanges_by workers)
 placed_by first journal [] each = tt
 placed_by first journal (w ∷ workers) each =
     all_both (λ (x : Exchange). IsPlaced first journal x) (exchanges_of w.connections) (exchanges_by workers) each.0.placed (placed_by first journal workers each.1)

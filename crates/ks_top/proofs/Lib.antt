@@ -9,3 +9,4 @@ pub mod ServeLemmas
 pub mod LawLemmas
 pub mod HeadlineLemmas
 pub mod DeterminedLemmas
+pub mod EndedLemmas

@@ -3,25 +3,31 @@ use Rattle.std.specs.Prelude.{◌≡◌, ◌≢◌, ◌⊎◌, ℕ, false, List,
 use Rattle.std.specs.List.{AllZip}
 use Rattle.std.specs.declared.convert.Infallible.{Infallible}
 use Rattle.ks_base.specs.declared.faults.KeysFault.TheVariants as keys
+use Rattle.ks_base.specs.Tables.{Among}
+use Rattle.ks_machine.specs.declared.body_out.BodyOut.{BodyOut}
 use Rattle.ks_machine.specs.declared.call.Call.{Call}
 use Rattle.ks_machine.specs.declared.cause.Cause.{Cause}
+use Rattle.ks_machine.specs.declared.cause.Cause.TheVariants as cause
 use Rattle.ks_machine.specs.declared.reply.Reply.TheVariants as reply
 use Rattle.ks_machine.specs.declared.settings.OpenFault.TheVariants as state
+use Rattle.ks_machine.specs.declared.why.Why.{Why}
 use Rattle.ks_machine.specs.Attempts.{Attempt, Go, everything}
-use Rattle.ks_machine.specs.Fronts.{Front, replay}
+use Rattle.ks_machine.specs.Fronts.{Front, ◌⊑◌, replay}
 use Rattle.ks_machine.specs.Moment.{moment_of}
 use Rattle.ks_machine.specs.Outcomes.{Outcome}
 use Rattle.ks_machine.specs.States.{raised}
 use Rattle.ks_machine.specs.Steps.{checked}
+use Rattle.ks_machine.specs.Validity.{Valid}
 use Rattle.ks_outside.specs.Counts.{Rose}
 use Rattle.ks_outside.specs.Streams.{StreamState}
 use Rattle.ks_server.specs.declared.closed.Closed.{Closed}
 use Rattle.ks_server.specs.declared.closed.Closed.TheVariants as closed
-use Rattle.ks_server.specs.Exchanges.{Exchange, calls, change_by, cut_at, reply_to}
+use Rattle.ks_server.specs.Exchanges.{Exchange, calls, change_by, cut_at, front_after, reply_to}
 use Rattle.ks_server.specs.Workers.{IsVisited, Place, Visit}
 use Rattle.ks_setup.specs.declared.opening.OpeningFault.TheVariants as refusal
 use Rattle.ks_setup.specs.declared.words.Words.{Words}
 use Rattle.ks_state.specs.Shown.{Shown}
+use Rattle.ks_tokens.specs.Laws.{AsksFor, HasEnded, HasValidCaller}
 use Rattle.ks_top.specs.declared.fault.Fault.{Fault}
 use Rattle.ks_top.specs.declared.fault.Fault.TheVariants as fault
 use Rattle.ks_top.specs.Headline.{Headline, exchanges_by}
@@ -136,3 +142,27 @@ abbrev pub RequestsComplete : Type 0
 RequestsComplete =
     (journal : Front) (x : Exchange) (call : Call) (outcome : Outcome) → x.asked ≡ calls call → checked_at (cut_at journal x.receipt) call ≡ Go outcome
     → (reply_to journal x ≡ reply.Ok outcome.told) × (x.receipt.memory ≡ false → change_by journal x ≡ outcome.change)
+
+-- tokens that were ended
+
+-- an exchange ended this token: it was asked to revoke the token of its subject, did so, and there was memory for it
+pub record EndsToken (journal : Front) (x : Exchange) (token : Valid) : Type 0 where
+  pub call : Call
+  pub asked : x.asked ≡ calls call
+  pub decided : x.receipt.memory ≡ false
+  pub ended : HasEnded (cut_at journal x.receipt) call token
+
+-- an exchange has seen this one, and asks about this token
+pub record AsksLater (journal : Front) (x y : Exchange) (call : Call) (token : Valid) : Type 0 where
+  pub asked : y.asked ≡ calls call
+  pub seen : front_after journal x ⊑ cut_at journal y.receipt
+  pub about : AsksFor (cut_at journal y.receipt) call token
+
+-- such an exchange of a run is not answered Ok; where its caller's own token is valid, it is refused for its subject's (404)
+abbrev pub RefusedEverAfter : (Link Seat : Type 0) → Type 0
+RefusedEverAfter Link Seat =
+    (view : Seat → Place Link) (stream : Link → StreamState) (what : Words) (old new : World Link Seat) (f : Option Fault) (state : Shown)
+    → (run : Headline view stream what old new f state) (x y : Exchange) (call : Call) (token : Valid)
+    → EndsToken run.journal x token → Among (exchanges_by run.workers) y → AsksLater run.journal x y call token
+    → ((told : BodyOut) → reply_to run.journal y ≢ reply.Ok told)
+    × (HasValidCaller (cut_at run.journal y.receipt) call → (why : Why) × (reply_to run.journal y ≡ reply.Refused (cause.SubjectToken why)))

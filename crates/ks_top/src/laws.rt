@@ -5,6 +5,7 @@ ghost use Rattle.ks_top.specs.Laws.{
   CommandsComplete,
   ConnectionsComplete,
   DeskFaultsAreCounted,
+  RefusedEverAfter,
   RequestsComplete,
 };
 
@@ -35,4 +36,10 @@ pub fn changes_are_determined<Link, Seat>()
 /// has the call's Ok reply, and makes its change unless there was no memory.
 pub fn requests_complete()
     ensures { RequestsComplete }
+{}
+
+/// A token that an exchange ended, with memory, is told by no exchange that has seen this; where the caller's own token is
+/// valid, the reply is the refusal of the subject's, a 404.
+pub fn refused_ever_after<Link, Seat>()
+    ensures { RefusedEverAfter Link Seat }
 {}

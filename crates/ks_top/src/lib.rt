@@ -19,6 +19,6 @@ mod talk;
 pub use fault::Fault;
 pub use laws::{
     changes_are_determined, commands_complete, connections_complete, desk_faults_are_counted,
-    requests_complete,
+    refused_ever_after, requests_complete,
 };
 pub use program::{Ended, run};

@@ -9,7 +9,7 @@ use crate::fault::Fault;
 use crate::key_folder::{rotate, set_up};
 use crate::laws::{
     changes_are_determined, commands_complete, connections_complete, desk_faults_are_counted,
-    requests_complete,
+    refused_ever_after, requests_complete,
 };
 use crate::outcome::Outcome;
 use crate::serve::serve;
@@ -18,7 +18,7 @@ use ks_base::Text;
 use ks_outside::{Desk, KeyDir, Sink, Source};
 use ks_setup::{Words, read_words};
 use ks_state::Identity;
-use ks_tokens::{ended_tokens_stay_refused, tokens_validate_exactly};
+use ks_tokens::{ended_tokens_are_not_found, ended_tokens_stay_refused, tokens_validate_exactly};
 use std::sync::Wait;
 use std::thread::Threads;
 
@@ -94,6 +94,8 @@ where
     requests_complete();
     tokens_validate_exactly();
     ended_tokens_stay_refused();
+    ended_tokens_are_not_found();
+    refused_ever_after::<P::Link, (P, D)>();
     let (Outcome { fault, state }, desks) = run_command(rt, words, input, file, output, dir, desks);
     Ended {
         status: status(&fault),
