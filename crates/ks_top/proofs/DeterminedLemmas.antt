@@ -1,4 +1,4 @@
--- What is made of an opening by exchanges is determined by these, and a call whose checks pass has its reply.
+-- What is made of an opening is determined by what was told, and a call whose checks pass has its reply.
 use Rattle.std.proofs.Common.{◌≡◌, ℕ, zero, suc, ◌+◌, ◌<◌, ◌≤◌, Bool, true, false, List, [], ◌∷◌, ◌++◌, length, take, inl, inr, Option, Some, None, if◌then◌else◌, ◌==◌, refl, sym, ap, subst, ◌∙◌, arith}
 use Rattle.std.proofs.lemmas.Bool.{eqb-true}
 use Rattle.std.proofs.lemmas.Bool.Decides.{nat_tests}
@@ -29,6 +29,7 @@ use Rattle.ks_top.specs.declared.fault.Fault.{Fault}
 use Rattle.ks_top.specs.Headline.{Headline, TellsOf, Worker, exchanges_by}
 use Rattle.ks_top.specs.Laws.{ChangesAreDetermined, RequestsComplete, checked_at}
 use Rattle.ks_top.specs.World.{World}
+use Rattle.ks_top.proofs.AlikeLemmas.{workers_same}
 use Rattle.ks_turn.specs.Sums.{below, times}
 
 -- a journal has these exchanges: each has its place in it, and each of its changes is that of exactly one of them
@@ -138,9 +139,10 @@ journal_of view stream what old new f state said =
     record { later = said.later; placed = placed_by (first_front said.opening) said.journal said.workers said.each; made = said.made }
 
 pub changes_are_determined : (Link Seat : Type 0) → ChangesAreDetermined Link Seat
-changes_are_determined Link Seat view stream what what_too old new old_too new_too f f_too state state_too one other opening exchanges =
+changes_are_determined Link Seat view stream what what_too old new old_too new_too f f_too state state_too one other opening alike =
     same_changes (first_front other.opening) one.journal other.journal (exchanges_by other.workers)
-    (subst (IsJournalOf (first_front other.opening) one.journal) exchanges
+    (subst (IsJournalOf (first_front other.opening) one.journal)
+    (workers_same (first_front one.opening) (first_front other.opening) one.journal other.journal one.workers other.workers one.each other.each alike)
     (subst (λ (o : PlainOpening). IsJournalOf (first_front o) one.journal (exchanges_by one.workers)) opening (journal_of view stream what old new f state one)))
     (journal_of view stream what_too old_too new_too f_too state_too other)
 

@@ -8,5 +8,7 @@ pub mod RunLemmas
 pub mod ServeLemmas
 pub mod LawLemmas
 pub mod HeadlineLemmas
+pub mod FollowLemmas
+pub mod AlikeLemmas
 pub mod DeterminedLemmas
 pub mod EndedLemmas

@@ -19,10 +19,11 @@ use Rattle.ks_machine.specs.States.{raised}
 use Rattle.ks_machine.specs.Steps.{checked}
 use Rattle.ks_machine.specs.Validity.{Valid}
 use Rattle.ks_outside.specs.Counts.{Rose}
+use Rattle.ks_outside.specs.Files.{KeyFile}
 use Rattle.ks_outside.specs.Streams.{StreamState}
 use Rattle.ks_server.specs.declared.closed.Closed.{Closed}
 use Rattle.ks_server.specs.declared.closed.Closed.TheVariants as closed
-use Rattle.ks_server.specs.Exchanges.{Exchange, calls, change_by, cut_at, front_after, reply_to}
+use Rattle.ks_server.specs.Exchanges.{Exchange, calls, change_by, cut_at, front_after, receipts_of, reply_to}
 use Rattle.ks_server.specs.Workers.{IsVisited, Place, Visit}
 use Rattle.ks_setup.specs.declared.opening.OpeningFault.TheVariants as refusal
 use Rattle.ks_setup.specs.declared.words.Words.{Words}
@@ -30,7 +31,7 @@ use Rattle.ks_state.specs.Shown.{Shown}
 use Rattle.ks_tokens.specs.Laws.{AsksFor, HasEnded, HasValidCaller}
 use Rattle.ks_top.specs.declared.fault.Fault.{Fault}
 use Rattle.ks_top.specs.declared.fault.Fault.TheVariants as fault
-use Rattle.ks_top.specs.Headline.{Headline, exchanges_by}
+use Rattle.ks_top.specs.Headline.{Headline, Worker, exchanges_by}
 use Rattle.ks_top.specs.Runs.{Runs}
 use Rattle.ks_top.specs.World.{World}
 
@@ -122,13 +123,29 @@ DeskFaultsAreCounted Link Seat =
 
 -- what determines a run
 
--- two runs that were opened alike, and whose exchanges are the same, with all that was read and drawn for them and their receipts, have made
--- the same changes
+-- two connections had the same bytes to read, and their exchanges have the same receipts; what was written on each before is told
+pub record SameBytes (v w : Visit Infallible StreamState) : Type 0 where
+  pub bytes : List ℕ
+  pub told : (v.accepted.left ≡ Some bytes) × (w.accepted.left ≡ Some bytes)
+  pub written : (before : List ℕ) × (v.accepted.written ≡ Some before)
+  pub written_too : (before : List ℕ) × (w.accepted.written ≡ Some before)
+  pub receipts : receipts_of v.exchanges ≡ receipts_of w.exchanges
+
+-- two workers had such connections one after the other, the same readings of their clocks, and folders that hold the same
+pub record TellsAlike {Link : Type 0} (v w : Worker Link) : Type 0 where
+  pub links : AllZip SameBytes v.connections w.connections
+  pub readings : List ℕ
+  pub given : (v.before.desk.readings ≡ Some readings) × (w.before.desk.readings ≡ Some readings)
+  pub files : List KeyFile
+  pub held : (v.before.dir.files ≡ Some files) × (w.before.dir.files ≡ Some files)
+
+-- two runs that were opened alike, and whose workers had the same bytes, receipts, readings and folders, have made the same changes: what was
+-- outside, and the places that the receipts name, determine them
 abbrev pub ChangesAreDetermined : (Link Seat : Type 0) → Type 0
 ChangesAreDetermined Link Seat =
     (view : Seat → Place Link) (stream : Link → StreamState) (what what_too : Words) (old new old_too new_too : World Link Seat) (f f_too : Option Fault) (state state_too : Shown)
     → (one : Headline view stream what old new f state) (other : Headline view stream what_too old_too new_too f_too state_too)
-    → one.opening ≡ other.opening → exchanges_by one.workers ≡ exchanges_by other.workers → one.journal.changes ≡ other.journal.changes
+    → one.opening ≡ other.opening → AllZip TellsAlike one.workers other.workers → one.journal.changes ≡ other.journal.changes
 
 -- requests
 

@@ -26,8 +26,8 @@ pub fn desk_faults_are_counted<Link, Seat>()
     ensures { DeskFaultsAreCounted Link Seat }
 {}
 
-/// The changes of a run are determined by its opening and its exchanges: by what each asks, with the reading, the random bytes
-/// and the keys that it had, and by its receipt.
+/// The changes of a run are determined by its opening, by the bytes that its links told, by the readings of its desks and by
+/// what their folders hold, with the receipts, which have the random bytes, what failed, and the places in the journal.
 pub fn changes_are_determined<Link, Seat>()
     ensures { ChangesAreDetermined Link Seat }
 {}
