@@ -26,6 +26,9 @@ DAY = 86_400
 # How many seconds a leap has to stand, and how far two readings may lie apart that are to be the same.
 STANDS, NEAR = 60, 5
 
+# How many seconds a line of the server is waited for, and how long there is to be no further one.
+PATIENCE, QUIET = 5, 0.2
+
 PRELOAD = r"""
 #include <fcntl.h>
 #include <stdio.h>
@@ -90,7 +93,13 @@ def require_ahead(server, seconds, what):
 
 def require_said(server, *lines):
     """The lines that the server said of its clock since it listened are of these forms, in this order."""
-    said = [line for line in server.lines if line.startswith("ks: the clock")]
+    until, said = time.monotonic() + PATIENCE, []
+    while len(said) <= len(lines) and time.monotonic() < until:
+        # What it said may still be on its way; it is to say no more, too.
+        time.sleep(0.05)
+        said = [line for line in server.lines if line.startswith("ks: the clock")]
+        if len(said) == len(lines):
+            until = min(until, time.monotonic() + QUIET)
     require(len(said) == len(lines) and all(map(re.fullmatch, lines, said)), f"it said {said}")
 
 
