@@ -10,6 +10,7 @@ use std::io;
 use std::io::ErrorKind;
 use std::net::{Net, ToSocketAddrs};
 use std::rt::Clock;
+use std::sync::Wait;
 
 /// What the command serves connections with, if it listens at an address.
 pub fn serving(command: &Words) -> Option<&Places> {
@@ -37,7 +38,7 @@ fn bind<R: Net>(rt: &R, address: &str) -> io::Result<TcpListener> {
 
 /// Listens at an address. Connections wait until the opening file is read, and then the pool says in one line that it
 /// listens, with the port that it is.
-pub fn listen<R: Net + Clock + AllocGlobal>(
+pub fn listen<R: Net + Clock + AllocGlobal + Wait>(
     rt: &R,
     address: &str,
     workers: u32,
@@ -46,8 +47,8 @@ pub fn listen<R: Net + Clock + AllocGlobal>(
     let bound = listener.local_addr()?;
     let ending = if workers == 1 { "" } else { "s" };
     let line = format!(in rt.alloc(); "ks: listening on {bound} with {workers} worker{ending}")?;
-    let mut pool = Pool::new(rt, listener)?;
-    pool.say_first(line);
+    let pool = Pool::new(rt, listener)?;
+    pool.say_first(rt, line);
     Ok(pool)
 }
 

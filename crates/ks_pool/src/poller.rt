@@ -20,14 +20,31 @@ pub enum Report {
 /// What waits for reports, one at a time.
 #[derive(Drop)]
 pub struct Poller {
-    pub poll: Poll,
-    pub events: Events,
+    poll: Poll,
+    events: Events,
+    /// What is to be said before the first wait.
+    pub first_line: Option<String>,
+    /// The end has begun, so that no wait is to be long.
+    pub is_ending: bool,
 }
 
 impl Poller {
+    /// One that was not waited for yet.
+    pub fn new(poll: Poll, events: Events) -> Poller {
+        Poller {
+            poll,
+            events,
+            first_line: None,
+            is_ending: false,
+        }
+    }
+
     /// Waits for the next report, for a second at most, or a hundredth of one once the end has begun.
-    pub fn wait(&mut self, is_ending: bool) -> Result<Report, Failed> {
-        let most = if is_ending {
+    pub fn wait<R: Eprint>(&mut self, rt: &R) -> Result<Report, Failed> {
+        if let Some(line) = self.first_line.take() {
+            let _ = eprintln!(rt; "{line}");
+        }
+        let most = if self.is_ending {
             LAST_WAIT_MILLIS
         } else {
             WAIT_MILLIS

@@ -2,7 +2,7 @@ use crate::clock::WatchedClock;
 use crate::kept::{AtHand, Kept};
 use crate::limits::{ACCEPTS, CONNECTIONS, END_SECONDS, SPARE_DESCRIPTORS};
 use crate::poller::{LISTENER, Poller, Report};
-use crate::slots::Slots;
+use crate::slots::{Slots, Step};
 use crate::trouble::Refusal;
 use ks_outside::Failed;
 use libc::RLIMIT_NOFILE;
@@ -37,8 +37,6 @@ pub struct Pool {
     poller: Mutex<Poller>,
     slots: Mutex<Slots>,
     clock: Mutex<WatchedClock>,
-    /// What is to be said before the first connection is waited for.
-    first_line: Mutex<Option<String>>,
 }
 
 /// How many connections are kept at most.
@@ -69,23 +67,15 @@ impl Pool {
         Ok(Pool {
             listener,
             registry,
-            poller: Mutex::new(Poller { poll, events }),
+            poller: Mutex::new(Poller::new(poll, events)),
             slots: Mutex::new(Slots::new(alloc, most_connections(), now)),
             clock: Mutex::new(WatchedClock::new()),
-            first_line: Mutex::new(None),
         })
     }
 
     /// Has this line said on the standard error before the first connection is waited for.
-    pub fn say_first(&mut self, line: String) {
-        self.first_line = Mutex::new(Some(line));
-    }
-
-    fn say_first_line<R: Wait + Eprint>(&self, rt: &R) {
-        let line = self.first_line.lock(rt).take();
-        if let Some(line) = line {
-            let _ = eprintln!(rt; "{line}");
-        }
+    pub fn say_first<R: Wait>(&self, rt: &R, line: String) {
+        self.poller.lock(rt).first_line = Some(line);
     }
 
     /// The clock that all desks share, in seconds since 1970, where it can be read. What becomes of it is said once.
@@ -96,47 +86,35 @@ impl Pool {
     }
 
     /// Waits for the next connection of which a request looks whole. There is none where a signal asked the process to
-    /// end, and nothing is left at work that could still be answered.
+    /// end, and nothing is left at work that could still be answered. Workers wait in turn: one for a report, and the
+    /// others for that one.
     pub fn next<R: Clock + Wait + Eprint>(&self, rt: &R) -> Result<Option<Kept>, Failed> {
-        self.say_first_line(rt);
         'reports: for _ in rt.forever() {
-            let report = self.report(rt)?;
+            let report = self.poller.lock(rt).wait(rt)?;
             let Ok(now) = Instant::now(rt) else {
                 return Err(Failed);
             };
-            self.sweep(rt, now)?;
-            if self.has_ended(rt, now, report) {
-                return Ok(None);
+            let mut next = self.step(rt, report, now);
+            if let Step::Sweep = next {
+                self.sweep(rt, now)?;
+                next = self.step(rt, report, now);
             }
-            match report {
-                Report::Nothing => {}
-                Report::Listener => self.accept_all(rt, now)?,
-                Report::Connection(key) => {
-                    if let Some(kept) = self.next_of(rt, key, now) {
+            match next {
+                Step::End => return Ok(None),
+                Step::Accept => self.accept_all(rt, now)?,
+                Step::Serve(kept) => {
+                    if let Some(kept) = self.sort(rt, kept, now) {
                         return Ok(Some(kept));
                     }
                 }
+                Step::Sweep | Step::Wait => {}
             }
         }
         unreachable!()
     }
 
-    /// Waits for a report. Workers wait in turn: one for a report, and the others for that one.
-    fn report<R: Wait>(&self, rt: &R) -> Result<Report, Failed> {
-        let mut poller = self.poller.lock(rt);
-        let is_ending = self.slots.lock(rt).is_ending();
-        poller.wait(is_ending)
-    }
-
-    fn has_ended<R: Wait>(&self, rt: &R, now: Instant, report: Report) -> bool {
-        let was_told = report != Report::Nothing;
-        self.slots.lock(rt).has_ended(now, was_told)
-    }
-
-    /// The connection of this place, if a request of it is at hand.
-    fn next_of<R: Wait>(&self, rt: &R, key: usize, now: Instant) -> Option<Kept> {
-        let kept = self.slots.lock(rt).lend(key)?;
-        self.sort(rt, kept, now)
+    fn step<R: Wait>(&self, rt: &R, report: Report, now: Instant) -> Step {
+        self.slots.lock(rt).step(report, now)
     }
 
     /// A connection again, if a request of it is at hand. Else it rests, or is let go.
@@ -241,13 +219,19 @@ impl Pool {
         slots.make_room(now)
     }
 
-    /// Once a second lets the connections go whose time is over, looks for a signal that asks for the end, and has the
-    /// listener reported again, of which accepts may have failed.
+    /// Lets the connections go whose time is over, looks for a signal that asks for the end, and has the listener reported
+    /// again, of which accepts may have failed.
     fn sweep<R: Wait + Eprint>(&self, rt: &R, now: Instant) -> Result<(), Failed> {
-        let mut slots = self.slots.lock(rt);
-        if !slots.begin_sweep(now) {
+        if self.sweep_slots(rt, now) {
+            self.poller.lock(rt).is_ending = true;
             return Ok(());
         }
+        self.ask_for_more()
+    }
+
+    /// Says whether the end has begun.
+    fn sweep_slots<R: Wait + Eprint>(&self, rt: &R, now: Instant) -> bool {
+        let mut slots = self.slots.lock(rt);
         slots.sweep(now);
         if slots.trouble.ends(now) {
             let _ = eprintln!(rt; "ks: connections are accepted again");
@@ -258,10 +242,7 @@ impl Pool {
                 "ks: a signal asks for the end: what is at work has {END_SECONDS} seconds"
             );
         }
-        if slots.is_ending() {
-            return Ok(());
-        }
-        self.ask_for_more()
+        slots.is_ending()
     }
 
     /// From now on connections to the listener's address are refused.

@@ -1,5 +1,6 @@
 use crate::ending::Ending;
 use crate::kept::Kept;
+use crate::poller::Report;
 use crate::trouble::Trouble;
 use mio::net::TcpStream;
 use mio::{Interest, Registry, Token};
@@ -15,6 +16,21 @@ enum Slot {
     Resting(Kept),
     /// A worker has it, and whether something was reported of it since.
     Lent(bool),
+}
+
+/// What is to be done behind a report.
+#[derive(Drop)]
+pub enum Step {
+    /// Serving is over.
+    End,
+    /// First a second is over, and those are to go whose time is over, before one of them is lent.
+    Sweep,
+    /// Connections wait at the listener.
+    Accept,
+    /// This connection was lent.
+    Serve(Kept),
+    /// Nothing.
+    Wait,
 }
 
 /// The places of all connections, by the numbers under which they are registered.
@@ -64,7 +80,7 @@ impl Slots {
     }
 
     /// Lends the connection of this place, if one rests there, and else notes that something was reported of it.
-    pub fn lend(&mut self, key: usize) -> Option<Kept> {
+    fn lend(&mut self, key: usize) -> Option<Kept> {
         let slot = self.slots.get_mut(key)?;
         match mem::replace(slot, Slot::Lent(false)) {
             Slot::Resting(kept) => Some(kept),
@@ -110,8 +126,26 @@ impl Slots {
         drop(self.slots.try_remove(key));
     }
 
+    /// What is to be done behind this report.
+    pub fn step(&mut self, report: Report, now: Instant) -> Step {
+        if self.has_ended(now, report != Report::Nothing) {
+            return Step::End;
+        }
+        if self.begin_sweep(now) {
+            return Step::Sweep;
+        }
+        match report {
+            Report::Nothing => Step::Wait,
+            Report::Listener => Step::Accept,
+            Report::Connection(key) => match self.lend(key) {
+                Some(kept) => Step::Serve(kept),
+                None => Step::Wait,
+            },
+        }
+    }
+
     /// Whether a second has gone since the last sweep, and another begins.
-    pub fn begin_sweep(&mut self, now: Instant) -> bool {
+    fn begin_sweep(&mut self, now: Instant) -> bool {
         if now.duration_since(self.swept).as_secs() == 0 {
             return false;
         }
@@ -130,7 +164,7 @@ impl Slots {
     }
 
     /// Whether serving is over by now, where a wait told of something or of nothing.
-    pub fn has_ended(&self, now: Instant, was_told: bool) -> bool {
+    fn has_ended(&self, now: Instant, was_told: bool) -> bool {
         self.ending.has_begun() && self.ending.is_over(now, was_told || self.is_at_work())
     }
 
