@@ -1,4 +1,7 @@
 //! The clock that all desks of a program share.
+ghost use Rattle.std.specs.Prelude.{◌≡◌, IfSome, None};
+ghost use Rattle.ks_pool.specs.Clock.{judged, kept, reading};
+ghost use Rattle.ks_pool.specs.declared.watch.Shown.{Shown};
 
 use crate::limits::LEAP_SECONDS;
 use crate::watch::{Judged, Shown, Watch};
@@ -56,7 +59,10 @@ impl WatchedClock {
     }
 
     /// Reads it. There is no reading where a clock can't be read, or the wall clock stands before 1970.
-    pub fn read<R: Clock>(&mut self, rt: &R) -> Option<Reading> {
+    pub fn read<R: Clock>(&mut self, rt: &R) -> Option<Reading>
+        ensures reads { IfSome result (λ r. (now : Shown) × (r.wall ≡ now.wall) × (r.seconds ≡ reading self.old.watch now) × (r.judged ≡ judged self.old.watch now) × (self.new.watch ≡ kept self.old.watch now)) }
+        ensures none { result ≡ None → self.new.watch ≡ self.old.watch }
+    {
         let now = self.shown(rt)?;
         let (seconds, judged) = self.watch.read(now);
         Some(Reading {
@@ -67,7 +73,9 @@ impl WatchedClock {
     }
 
     /// What both clocks show now.
-    fn shown<R: Clock>(&mut self, rt: &R) -> Option<Shown> {
+    fn shown<R: Clock>(&mut self, rt: &R) -> Option<Shown>
+        ensures { self.new.watch ≡ self.old.watch }
+    {
         let steady = Instant::now(rt).ok()?;
         let wall = SystemTime::now(rt).ok()?.duration_since(UNIX_EPOCH).ok()?;
         let start = *self.start.get_or_insert(steady);
