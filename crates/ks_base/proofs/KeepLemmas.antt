@@ -1,9 +1,8 @@
 -- An index from which the rows that fail a test go, the last one first.
-use Rattle.std.proofs.Common.{◌≡◌, ℕ, zero, suc, ◌<◌, ◌≤◌, ◌==◌, Bool, true, false, not, cond, ◌≢◌, List, [], ◌∷◌, length, get_or, map, refl, sym, ap, subst, ◌∙◌, arith}
+use Rattle.std.proofs.Common.{◌≡◌, ℕ, zero, suc, ◌<◌, ◌==◌, Bool, true, false, not, cond, ◌≢◌, List, [], ◌∷◌, length, get_or, map, refl, sym, ap, subst, ◌∙◌, arith}
 use Rattle.std.specs.List.{filter, remove}
 use Rattle.std.specs.declared.cmp.Ordering.{Ordering}
 use Rattle.ks_base.specs.Indexes.{AreNamesOf, IsIndex, IsIndexBut, full_cmp, full_name, lowered}
-use Rattle.ks_base.specs.Tables.{Among}
 use Rattle.std.proofs.lemmas.Bool.{eq-eqb, eqb-true}
 use Rattle.ks_base.proofs.AmongLemmas.{all_among, among_all}
 use Rattle.ks_base.proofs.RowLemmas.{among_filter, filter_among}

@@ -17,6 +17,10 @@ pub mod People
 pub mod PeopleFaults
 pub mod RoleLists
 pub mod RoleFaults
+pub mod Filters
+pub mod Catalog
+pub mod CatalogFaults
+pub mod CatalogLists
 pub mod Grants
 pub mod Revocation
 pub mod Trusts

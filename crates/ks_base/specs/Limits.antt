@@ -2,7 +2,7 @@
 use Rattle.std.specs.Prelude.{ℕ}
 use Rattle.ks_base.specs.declared.kinds.Kind.{Kind}
 use Rattle.ks_base.specs.declared.kinds.Kind.TheVariants as kind
-use Rattle.ks_base.specs.declared.limits.TheConstants.{DOMAINS, PROJECTS, USERS, GROUPS, MEMBERS, ROLES, IMPLICATIONS, GRANTS, TRUSTS, EVENTS}
+use Rattle.ks_base.specs.declared.limits.TheConstants.{DOMAINS, PROJECTS, USERS, GROUPS, MEMBERS, ROLES, IMPLICATIONS, GRANTS, TRUSTS, EVENTS, REGIONS, SERVICES, ENDPOINTS}
 
 abbrev pub limit : Kind → ℕ
 limit kind.Domain = DOMAINS
@@ -15,3 +15,6 @@ limit kind.Grant = GRANTS
 limit kind.Member = MEMBERS
 limit kind.Trust = TRUSTS
 limit kind.Event = EVENTS
+limit kind.Region = REGIONS
+limit kind.Service = SERVICES
+limit kind.Endpoint = ENDPOINTS

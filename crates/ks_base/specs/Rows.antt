@@ -12,6 +12,9 @@ use Rattle.ks_base.specs.declared.rows.RoleRow.{RoleRow}
 use Rattle.ks_base.specs.declared.grants.ImplyRow.{ImplyRow}
 use Rattle.ks_base.specs.declared.grants.GrantRow.{GrantRow}
 use Rattle.ks_base.specs.declared.trusts.TrustRow.{TrustRow}
+use Rattle.ks_base.specs.declared.catalog.RegionRow.{RegionRow}
+use Rattle.ks_base.specs.declared.catalog.ServiceRow.{ServiceRow}
+use Rattle.ks_base.specs.declared.catalog.EndpointRow.{EndpointRow}
 use Rattle.ks_base.specs.Tables.{id_cmp, find_row}
 
 -- ids and texts as contracts see them
@@ -38,6 +41,9 @@ pub record Rows : Type 0 where
   pub implications : List ImplyRow
   pub grants : List GrantRow
   pub trusts : List TrustRow
+  pub regions : List RegionRow
+  pub services : List ServiceRow
+  pub endpoints : List EndpointRow
 
 -- the rows of an id
 abbrev pub domain_of : Id → List DomainRow → Option DomainRow

@@ -14,6 +14,9 @@ pub enum Kind {
     Trust,
     /// A revocation.
     Event,
+    Region,
+    Service,
+    Endpoint,
 }
 
 impl TryCopy for Kind {

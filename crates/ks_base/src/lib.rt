@@ -3,10 +3,12 @@
 #![tactic(auto)]
 
 mod bytes;
+mod catalog;
 mod events;
 mod faults;
 mod grants;
 mod id;
+mod id_table;
 mod ids;
 mod index;
 mod key;
@@ -31,10 +33,14 @@ mod trusts;
 mod users;
 
 pub use bytes::Bytes;
+pub use catalog::{
+    CatalogFault, CatalogIn, CatalogKind, CatalogRow, EndpointRow, Interface, RegionRow, ServiceRow,
+};
 pub use events::{EventRow, Holder, Revoke};
 pub use faults::{KeysFault, LoadFault, RowFault, TreeFault, TrustFault};
 pub use grants::{Actor, GrantRow, GrantSite, ImplyRow, Target};
 pub use id::{Id, IdFault};
+pub use id_table::IdTable;
 pub use ids::has_id;
 pub use key::Key;
 pub use kinds::Kind;
@@ -46,8 +52,9 @@ pub use laws::{
 pub use links::{Far, Links, Side};
 pub use list::{ListOf, TryCopy};
 pub use lists::{
-    DomainList, EventList, FieldList, GrantList, GroupList, IdList, ImplyList, IndexList, KeyList,
-    MemberList, MethodList, ProjectList, RoleList, TextList, TrustList, UserList,
+    DomainList, EndpointList, EventList, FieldList, GrantList, GroupList, IdList, ImplyList,
+    IndexList, KeyList, MemberList, MethodList, ProjectList, RegionList, RoleList, ServiceList,
+    TextList, TrustList, UserList,
 };
 pub use memory::Memory;
 pub use method::Method;

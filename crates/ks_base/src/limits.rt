@@ -18,6 +18,12 @@ pub const IMPLICATIONS: usize = 8_192;
 pub const GRANTS: usize = 262_144;
 /// Trusts that may stand.
 pub const TRUSTS: usize = 65_536;
+/// Regions that may stand.
+pub const REGIONS: usize = 256;
+/// Services that may stand.
+pub const SERVICES: usize = 1_024;
+/// Endpoints that may stand.
+pub const ENDPOINTS: usize = 8_192;
 /// Revocations that may be live.
 pub const EVENTS: usize = 262_144;
 /// Revocations that may be live with those that users write for themselves, by ending a token, changing their own password or
@@ -51,6 +57,8 @@ pub const ID_BYTES: usize = 64;
 pub const NAME_BYTES: usize = 255;
 /// Bytes of a description.
 pub const DESCRIPTION_BYTES: usize = 4_096;
+/// Bytes of the URL of an endpoint.
+pub const ENDPOINT_URL_BYTES: usize = 2_048;
 /// Bytes of a password.
 pub const PASSWORD_BYTES: usize = 4_096;
 /// Characters of a token.

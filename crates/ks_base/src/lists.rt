@@ -1,6 +1,6 @@
 use crate::{
-    DomainRow, EventRow, GrantRow, GroupRow, Id, ImplyRow, Key, ListOf, MemberRow, Memory, Method,
-    ProjectRow, RoleRow, Text, TrustRow, TryCopy, UserRow,
+    DomainRow, EndpointRow, EventRow, GrantRow, GroupRow, Id, ImplyRow, Key, ListOf, MemberRow,
+    Memory, Method, ProjectRow, RegionRow, RoleRow, ServiceRow, Text, TrustRow, TryCopy, UserRow,
 };
 
 /// Ids, each in its place.
@@ -45,6 +45,15 @@ pub type TrustList = ListOf<TrustRow>;
 
 /// Revocations, each in its place.
 pub type EventList = ListOf<EventRow>;
+
+/// Regions, each in its place.
+pub type RegionList = ListOf<RegionRow>;
+
+/// Services, each in its place.
+pub type ServiceList = ListOf<ServiceRow>;
+
+/// Endpoints, each in its place.
+pub type EndpointList = ListOf<EndpointRow>;
 
 impl TryCopy for u32 {
     fn copy(&self) -> Result<u32, Memory> {

@@ -1,6 +1,7 @@
-ghost use Rattle.std.specs.Prelude.{◌≡◌, IfOk};
+ghost use Rattle.std.specs.Prelude.{◌≡◌, option_copied, IfOk};
+ghost use Rattle.ks_base.specs.Filters.{has_id, has_text, value_in};
 
-use crate::{FieldList, Memory, Text, TryCopy};
+use crate::{FieldList, Id, Memory, Text, TryCopy};
 use std::alloc::{AllocError, AllocFailed};
 
 /// Why a JSON document is not what was asked for. A path is the names of the members that lead to the
@@ -70,6 +71,39 @@ impl Filter {
         Ok(Filter {
             fields: self.fields.copy()?,
         })
+    }
+
+    /// The first value under this name.
+    #[tactic(auto, unfolding(crate::specs::Filters::value_in))]
+    pub fn value(&self, name: &str) -> Option<&Text>
+        ensures { option_copied result ≡ value_in self.now.fields name.now }
+    {
+        for (known, value) in self.fields.as_slice() {
+            if known.as_slice() == name.as_bytes() {
+                return Some(value);
+            }
+        }
+        None
+    }
+
+    /// Whether nothing is given under this name, or this value.
+    pub fn has_text(&self, name: &str, value: &[u8]) -> bool
+        ensures { result ≡ has_text self.now.fields name.now value.now }
+    {
+        match self.value(name) {
+            Some(wanted) => value == wanted.as_slice(),
+            None => true,
+        }
+    }
+
+    /// Whether nothing is given under this name, or this id; a value that is given is not that of a row without one.
+    pub fn has_id(&self, name: &str, id: &Option<Id>) -> bool
+        ensures { result ≡ has_id self.now.fields name.now id.now }
+    {
+        match id {
+            Some(id) => self.has_text(name, id.as_slice()),
+            None => self.value(name).is_none(),
+        }
     }
 }
 

@@ -47,7 +47,7 @@ impl<R: Named> Model for Table<R> {
 }
 
 /// The place of the row with this id, or the one where it belongs.
-fn place<R: Row>(rows: &[R], id: &Id) -> Result<usize, usize>
+pub(crate) fn place<R: Row>(rows: &[R], id: &Id) -> Result<usize, usize>
     requires { IsAscending id_cmp R.key rows.now }
     ensures bound { IsSearchInRange result (length rows.now) }
     ensures place { IsPlace id_cmp R.key id.now rows.now result }
@@ -56,14 +56,14 @@ fn place<R: Row>(rows: &[R], id: &Id) -> Result<usize, usize>
 }
 
 /// The ids of the rows.
-fn ids_of<R: Row>(alloc: Global, rows: &[R]) -> Result<Vec<Id>, AllocError>
+pub(crate) fn ids_of<R: Row>(alloc: Global, rows: &[R]) -> Result<Vec<Id>, AllocError>
     ensures { IfOk result (λ ids. ids.items ≡ map R.key rows.now) }
 {
     rows.iter().map(|row| *row.id()).collect(alloc)
 }
 
 /// The ids of the rows that pass the test.
-fn ids_passing<R: Row, T: Test<R>>(
+pub(crate) fn ids_passing<R: Row, T: Test<R>>(
     alloc: Global,
     rows: &[R],
     test: &T,

@@ -6,7 +6,7 @@ use Rattle.ks_base.specs.Trees.{TreeState}
 use Rattle.ks_base.specs.People.{PeopleState}
 use Rattle.ks_base.specs.RoleLists.{RolesState}
 
--- without trusts, on which effective roles do not depend
+-- without trusts and the catalog, on which effective roles do not depend
 abbrev pub rows_of : TreeState → PeopleState → RolesState → List GrantRow → Rows
 rows_of tree people roles grants = record {
   domains = tree.domains;
@@ -18,4 +18,7 @@ rows_of tree people roles grants = record {
   implications = roles.implications;
   grants = grants;
   trusts = [];
+  regions = [];
+  services = [];
+  endpoints = [];
 }

@@ -15,6 +15,9 @@ no_opening = record {
   members = [];
   roles = [];
   implications = [];
+  regions = [];
+  services = [];
+  endpoints = [];
   assignments = [];
 }
 

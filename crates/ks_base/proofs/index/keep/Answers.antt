@@ -1,4 +1,4 @@
-use Rattle.std.proofs.Common.{◌≡◌, ℕ, zero, suc, ◌-◌, List, sym, subst, ◌∙◌, arith}
+use Rattle.std.proofs.Common.{◌≡◌, zero, ◌-◌, sym, subst, arith}
 use Rattle.ks_base.specs.Indexes.{AreNamesOf}
 use Rattle.ks_base.proofs.KeepLemmas.{all_gone_over, drops_row, gone_over, keeps_row, none_gone_over}
 use Rattle.ks_base.proofs.index.keep.Goals as goal
