@@ -1,6 +1,6 @@
 //! What changes of tables answer, without the ids that a refusal names.
 
-use ks_base::{Kind, RowFault, TreeFault, TrustFault};
+use ks_base::{CatalogFault, Kind, RowFault, TreeFault, TrustFault};
 use ks_revoke::RevokeFault;
 
 #[derive(Clone, Copy, Debug)]
@@ -54,6 +54,16 @@ pub fn of_trust(answer: Result<(), TrustFault>) -> Answer {
         Err(TrustFault::Full(kind)) => Answer::Full(kind),
         Err(TrustFault::IdTaken(_)) => Answer::IdTaken,
         Err(_) => Answer::Refused,
+    }
+}
+
+pub fn of_catalog(answer: Result<(), CatalogFault>) -> Answer {
+    match answer {
+        Ok(()) => Answer::Done,
+        Err(CatalogFault::Full(kind)) => Answer::Full(kind),
+        Err(CatalogFault::Absent(kind, _)) => Answer::Absent(kind),
+        Err(CatalogFault::IdTaken(_)) => Answer::IdTaken,
+        Err(CatalogFault::HasChildren(_) | CatalogFault::Memory) => Answer::Refused,
     }
 }
 

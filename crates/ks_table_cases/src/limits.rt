@@ -61,6 +61,9 @@ fn kind(word: &str) -> Result<Kind> {
         "grant" => Ok(Kind::Grant),
         "trust" => Ok(Kind::Trust),
         "revocation" => Ok(Kind::Event),
+        "region" => Ok(Kind::Region),
+        "service" => Ok(Kind::Service),
+        "endpoint" => Ok(Kind::Endpoint),
         _ => bail!("no rows of {word} are made"),
     }
 }
@@ -75,6 +78,7 @@ fn fill(alloc: Global, tables: &mut Tables, kind: Kind, count: u64) -> Result<An
     for number in 0..count {
         let pair = match kind {
             Kind::Implication | Kind::Grant => Pair::related(alloc, number)?,
+            Kind::Endpoint => Pair::served(alloc, number)?,
             _ => Pair::numbered(alloc, number)?,
         };
         let answer = tables.add(kind, &pair)?;

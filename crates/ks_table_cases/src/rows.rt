@@ -3,17 +3,17 @@ ghost use Rattle.std.specs.Prelude.{◌≡◌, IfOk};
 
 use anyhow::{Result, bail};
 use ks_base::{
-    Actor, DomainRow, GrantRow, GroupRow, Id, IdList, ImplyRow, MemberRow, RoleRow, Target, Text,
-    TrustRow, UserRow,
+    Actor, CatalogRow, DomainRow, EndpointRow, GrantRow, GroupRow, Id, IdList, ImplyRow, Interface,
+    MemberRow, RegionRow, RoleRow, ServiceRow, Target, Text, TrustRow, UserRow,
 };
 use std::alloc::Global;
 
 /// How many members a group has, implications a role, and grants a user, of those that are made by number.
 pub const EACH: u64 = 512;
 
-/// The two words of a row. A domain, a user, a group and a role has an id and a name; a membership a group and a user; an
-/// implication the prior role and the implied one; a grant a user and a role; a trust an id and a role; and a revocation a
-/// user, its second word being of no account.
+/// The two words of a row. A domain, a user, a group, a role and a service has an id and a name; a membership a group and a
+/// user; an implication the prior role and the implied one; a grant a user and a role; a trust an id and a role; an endpoint
+/// an id and its service; and a region an id and a revocation a user, their second word being of no account.
 #[derive(Clone, Copy)]
 pub struct Pair {
     pub first: Id,
@@ -41,6 +41,14 @@ impl Pair {
     pub fn related(alloc: Global, number: u64) -> Result<Pair> {
         Ok(Pair {
             first: digits(alloc, number / EACH)?,
+            second: digits(alloc, number % EACH)?,
+        })
+    }
+
+    /// The endpoint that has this number, of a service.
+    pub fn served(alloc: Global, number: u64) -> Result<Pair> {
+        Ok(Pair {
+            first: digits(alloc, number)?,
             second: digits(alloc, number % EACH)?,
         })
     }
@@ -85,6 +93,36 @@ impl Pair {
             name: self.name(alloc)?,
             description: Text::of(alloc, "")?,
         })
+    }
+
+    /// A region below no other.
+    pub fn region(&self, alloc: Global) -> Result<CatalogRow> {
+        Ok(CatalogRow::Region(RegionRow {
+            id: self.first,
+            parent: None,
+            description: Text::of(alloc, "")?,
+        }))
+    }
+
+    pub fn service(&self, alloc: Global) -> Result<CatalogRow> {
+        Ok(CatalogRow::Service(ServiceRow {
+            id: self.first,
+            kind: Text::of(alloc, "compute")?,
+            name: self.name(alloc)?,
+            description: Text::of(alloc, "")?,
+            enabled: true,
+        }))
+    }
+
+    pub fn endpoint(&self, alloc: Global) -> Result<CatalogRow> {
+        Ok(CatalogRow::Endpoint(EndpointRow {
+            id: self.first,
+            service: self.second,
+            region: None,
+            interface: Interface::Public,
+            url: Text::of(alloc, "http://cloud")?,
+            enabled: true,
+        }))
     }
 
     pub fn member(&self) -> MemberRow {

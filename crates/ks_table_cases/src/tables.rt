@@ -1,11 +1,12 @@
 //! All tables, and the rows that come and go.
 
-use crate::answers::{Answer, of_event, of_new, of_row, of_tree, of_trust};
+use crate::answers::{Answer, of_catalog, of_event, of_new, of_row, of_tree, of_trust};
 use crate::events::Events;
 use crate::rows::{EACH, Pair, listed};
 use anyhow::{Result, bail};
 use ks_assign::Grants;
-use ks_base::{Kind, MemberRow, Revoke, RowSet, Table};
+use ks_base::{CatalogKind, Kind, MemberRow, Revoke, RowSet, Table};
+use ks_catalog::Catalog;
 use ks_people::People;
 use ks_roles::Roles;
 use ks_tree::Tree;
@@ -23,6 +24,7 @@ pub struct Tables {
     roles: Roles,
     grants: Grants,
     trusts: Trusts,
+    catalog: Catalog,
     events: Events,
 }
 
@@ -35,6 +37,7 @@ impl Drop for Tables {
             roles: _,
             grants: _,
             trusts: _,
+            catalog: _,
             events: _,
         } = self;
     }
@@ -50,6 +53,7 @@ impl Tables {
             roles: Roles::new(alloc),
             grants: Grants::new(alloc),
             trusts: Trusts::new(alloc),
+            catalog: Catalog::new(alloc),
             events: Events::new(alloc, LIFE),
         }
     }
@@ -67,6 +71,9 @@ impl Tables {
             Kind::Grant => Ok(of_new(self.grants.grant(pair.grant()))),
             Kind::Trust => self.trust(pair),
             Kind::Event => Ok(of_event(self.events.add(&Revoke::User(pair.first)))),
+            Kind::Region => Ok(of_catalog(self.catalog.add(pair.region(alloc)?))),
+            Kind::Service => Ok(of_catalog(self.catalog.add(pair.service(alloc)?))),
+            Kind::Endpoint => Ok(of_catalog(self.catalog.add(pair.endpoint(alloc)?))),
             Kind::Project => bail!("no projects are made"),
         }
     }
@@ -103,8 +110,15 @@ impl Tables {
             Kind::Implication => Ok(of_row(self.roles.unimply(&pair.implication()))),
             Kind::Grant => Ok(of_row(self.grants.ungrant(&pair.grant()))),
             Kind::Trust => self.end_trust(pair),
+            Kind::Region => Ok(self.drop_listed(CatalogKind::Region, pair)),
+            Kind::Service => Ok(self.drop_listed(CatalogKind::Service, pair)),
+            Kind::Endpoint => Ok(self.drop_listed(CatalogKind::Endpoint, pair)),
             Kind::Project | Kind::User | Kind::Event => bail!("none of these is taken out"),
         }
+    }
+
+    fn drop_listed(&mut self, of: CatalogKind, pair: &Pair) -> Answer {
+        of_catalog(self.catalog.drop_row(of, &pair.first))
     }
 
     fn end_trust(&mut self, pair: &Pair) -> Result<Answer> {
@@ -115,9 +129,10 @@ impl Tables {
         Ok(Answer::Done)
     }
 
-    /// Lists the ids of all domains, or of the trusts that are the first or have the second as role.
+    /// Lists the ids of all domains or endpoints, or of the trusts that are the first or have the second as role.
     pub fn list(&self, kind: Kind, pair: &Pair) -> Result<Answer> {
         let listed = match kind {
+            Kind::Endpoint => return Ok(Answer::Listed(self.catalog.endpoints().len())),
             Kind::Domain => self.tree.domain_ids(),
             Kind::Trust => {
                 let named = Revoke::Trust(pair.first);

@@ -1,0 +1,4 @@
+-- What the public contracts mean. Of `steps` only private clauses speak.
+pub mod Urls
+pub mod ProjectCatalog
+pub mod steps

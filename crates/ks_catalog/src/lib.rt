@@ -1,0 +1,16 @@
+//! The service catalog (Identity API v3): regions, services and endpoints, and what a project sees of them.
+#![tactic(auto)]
+
+mod catalog;
+mod changes;
+mod checks;
+mod laws;
+mod lists;
+mod offers;
+mod rows;
+mod tests_of_rows;
+mod urls;
+
+pub use catalog::Catalog;
+pub use laws::some_urls_filled;
+pub use offers::{EndpointOut, EndpointOutList, ServiceOut, ServiceOutList};
