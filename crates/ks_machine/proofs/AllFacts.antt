@@ -1,5 +1,9 @@
 -- With all facts no check lacks one.
 use Rattle.std.proofs.Common.{◌≡◌, ℕ, Bool, true, false, List, [], ◌∷◌, Option, Some, None, Result, Ok, Err, sym, subst}
+use Rattle.ks_base.specs.declared.catalog.CatalogIn.{CatalogIn}
+use Rattle.ks_base.specs.declared.catalog.CatalogKind.{CatalogKind}
+use Rattle.ks_base.specs.declared.catalog.CatalogKind.TheVariants as of
+use Rattle.ks_base.specs.declared.catalog.RegionRow.{RegionRow}
 use Rattle.ks_base.specs.declared.grants.Actor.{Actor}
 use Rattle.ks_base.specs.declared.grants.Actor.TheVariants as actor
 use Rattle.ks_base.specs.declared.grants.GrantRow.{GrantRow}
@@ -34,6 +38,7 @@ use Rattle.ks_machine.specs.declared.command.Command.TheVariants as command
 use Rattle.ks_machine.specs.declared.lines.ReadToken.{ReadToken}
 use Rattle.ks_machine.specs.declared.why.Why.{Why}
 use Rattle.ks_machine.specs.Attempts.{Attempt, Go, Stop, Lacks, Lack, ◌>>=◌, blame, decided, each, everything, found, need, unless}
+use Rattle.ks_machine.specs.CatalogCommands.{create_catalog, create_endpoint, create_region, create_service, given_id_free, update_catalog, update_endpoint, update_region, update_service}
 use Rattle.ks_machine.specs.Creations.{create, create_domain, create_group, create_project, create_role, create_user}
 use Rattle.ks_machine.specs.Keys.{keys_read, load_keys, rotate_keys}
 use Rattle.ks_machine.specs.Listings.{delete, get, row_at}
@@ -227,7 +232,7 @@ whole_update S drawn id (made.User given name domain password enabled) = search 
 whole_update S drawn id (made.Group given name domain description) = search (whole_bind, whole_go, whole_found, whole_need, whole_fault) depth 16
 whole_update S drawn id (made.Role given name description) = search (whole_bind, whole_go, whole_found, whole_need, whole_fault) depth 16
 
-whole_row : (rows : Rows) (of : Kind) (id : Id) → IsWhole (row_at rows of id)
+whole_row : (rows : Rows) (what : Kind) (id : Id) → IsWhole (row_at rows what id)
 unfolding row_at
 whole_row rows kind.Domain id = whole_map _ _ (whole_found _ _)
 whole_row rows kind.Project id = whole_map _ _ (whole_found _ _)
@@ -239,12 +244,15 @@ whole_row rows kind.Grant id = whole_stop _ _
 whole_row rows kind.Member id = whole_stop _ _
 whole_row rows kind.Trust id = whole_stop _ _
 whole_row rows kind.Event id = whole_stop _ _
+whole_row rows kind.Region id = whole_map _ _ (whole_found _ _)
+whole_row rows kind.Service id = whole_map _ _ (whole_found _ _)
+whole_row rows kind.Endpoint id = whole_map _ _ (whole_found _ _)
 
-whole_get : (rows : Rows) (of : Kind) (id : Id) → IsWhole (get rows of id)
+whole_get : (rows : Rows) (what : Kind) (id : Id) → IsWhole (get rows what id)
 unfolding get
-whole_get rows of id = whole_map _ _ (whole_row rows of id)
+whole_get rows what id = whole_map _ _ (whole_row rows what id)
 
-whole_delete : (rows : Rows) (of : Kind) (id : Id) → IsWhole (delete rows of id)
+whole_delete : (rows : Rows) (what : Kind) (id : Id) → IsWhole (delete rows what id)
 unfolding delete
 whole_delete rows kind.Domain id = whole_map _ _ (whole_fault _ _)
 whole_delete rows kind.Project id = whole_map _ _ (whole_fault _ _)
@@ -256,6 +264,28 @@ whole_delete rows kind.Grant id = whole_stop _ _
 whole_delete rows kind.Member id = whole_stop _ _
 whole_delete rows kind.Trust id = whole_stop _ _
 whole_delete rows kind.Event id = whole_stop _ _
+whole_delete rows kind.Region id = whole_map _ _ (whole_fault _ _)
+whole_delete rows kind.Service id = whole_map _ _ (whole_found _ _)
+whole_delete rows kind.Endpoint id = whole_map _ _ (whole_found _ _)
+
+-- the catalog
+
+whole_given_id : (rows : Rows) (new : RegionRow) (given : Option Id) → IsWhole (given_id_free rows new given)
+unfolding given_id_free
+whole_given_id rows new None = whole_go Cause _
+whole_given_id rows new (Some id) = search (whole_bind, whole_need, whole_fault) depth 14
+
+whole_create_catalog : (rows : Rows) (drawn : Id) (what : CatalogKind) (asked : CatalogIn) → IsWhole (create_catalog rows drawn what asked)
+unfolding create_catalog create_region create_service create_endpoint
+whole_create_catalog rows drawn of.Region asked = search (whole_bind, whole_go, whole_fault, whole_given_id) depth 16
+whole_create_catalog rows drawn of.Service asked = search (whole_bind, whole_go, whole_found, whole_fault) depth 16
+whole_create_catalog rows drawn of.Endpoint asked = search (whole_bind, whole_go, whole_found, whole_fault) depth 20
+
+whole_update_catalog : (rows : Rows) (id : Id) (what : CatalogKind) (asked : CatalogIn) → IsWhole (update_catalog rows id what asked)
+unfolding update_catalog update_region update_service update_endpoint
+whole_update_catalog rows id of.Region asked = search (whole_bind, whole_go, whole_found, whole_need, whole_fault) depth 16
+whole_update_catalog rows id of.Service asked = search (whole_bind, whole_go, whole_found, whole_need) depth 16
+whole_update_catalog rows id of.Endpoint asked = search (whole_bind, whole_go, whole_found, whole_need, whole_fault) depth 16
 
 -- memberships, implications and grants
 
@@ -341,10 +371,10 @@ whole_answered S moment call (command.Validate late) = whole_about S moment call
 whole_answered S moment call (command.Check late) = whole_about S moment call late _
 whole_answered S moment call command.RevokeToken = whole_about S moment call _ _
 whole_answered S moment call (command.Create body) = whole_as_caller S moment call _ (λ caller. whole_create S call.draw caller body)
-whole_answered S moment call (command.List of filters) = whole_as_caller S moment call _ (λ caller. whole_go Cause _)
-whole_answered S moment call (command.Get of id) = whole_as_caller S moment call _ (λ caller. whole_get S.rows of id)
+whole_answered S moment call (command.List what filters) = whole_as_caller S moment call _ (λ caller. whole_go Cause _)
+whole_answered S moment call (command.Get what id) = whole_as_caller S moment call _ (λ caller. whole_get S.rows what id)
 whole_answered S moment call (command.Update id body) = whole_as_caller S moment call _ (λ caller. whole_update S call.draw id body)
-whole_answered S moment call (command.Delete of id) = whole_as_caller S moment call _ (λ caller. whole_delete S.rows of id)
+whole_answered S moment call (command.Delete what id) = whole_as_caller S moment call _ (λ caller. whole_delete S.rows what id)
 whole_answered S moment call (command.GroupsOf id) = whole_as_caller S moment call _ (λ caller. whole_map _ _ (whole_found _ _))
 whole_answered S moment call (command.MembersOf id) = whole_as_caller S moment call _ (λ caller. whole_map _ _ (whole_found _ _))
 whole_answered S moment call (command.Join row) = whole_as_caller S moment call _ (λ caller. whole_map _ _ (whole_fault _ _))
@@ -369,6 +399,12 @@ whole_answered S moment call (command.TrustRoles id) = whole_as_caller S moment 
 whole_answered S moment call command.Events = whole_as_caller S moment call _ (λ caller. whole_go Cause _)
 whole_answered S moment call command.RotateKeys = whole_as_caller S moment call _ (λ caller. whole_rotate S call.draw)
 whole_answered S moment call command.LoadKeys = whole_as_caller S moment call _ (λ caller. whole_load S call.folder)
+whole_answered S moment call (command.CreateCatalog body) = whole_as_caller S moment call _ (λ caller. whole_create_catalog S.rows _ body.of body)
+whole_answered S moment call (command.ListCatalog what filters) = whole_as_caller S moment call _ (λ caller. whole_go Cause _)
+whole_answered S moment call (command.GetCatalog what id) = whole_as_caller S moment call _ (λ caller. whole_get S.rows _ id)
+whole_answered S moment call (command.UpdateCatalog id body) = whole_as_caller S moment call _ (λ caller. whole_update_catalog S.rows id body.of body)
+whole_answered S moment call (command.DeleteCatalog what id) = whole_as_caller S moment call _ (λ caller. whole_delete S.rows _ id)
+whole_answered S moment call command.ShowCatalog = whole_as_caller S moment call _ (λ caller. whole_go Cause _)
 
 whole_room : (S : State) (moment most : ℕ) (what : Option Change) → IsWhole (room_for S moment most what)
 unfolding room_for

@@ -441,6 +441,12 @@ stay_after S moment (change.UseTrust id) fits = record {
 stay_after S moment (change.RevokeToken audit) fits = all_same S.rows (rows_after S.rows (change.RevokeToken audit)) (ended_by S.rows (change.RevokeToken audit)) refl refl refl
 stay_after S moment (change.Rotate key) fits = all_same S.rows (rows_after S.rows (change.Rotate key)) (ended_by S.rows (change.Rotate key)) refl refl refl
 stay_after S moment (change.Load keys) fits = all_same S.rows (rows_after S.rows (change.Load keys)) (ended_by S.rows (change.Load keys)) refl refl refl
+stay_after S moment (change.PutRegion row) fits = all_same S.rows (rows_after S.rows (change.PutRegion row)) (ended_by S.rows (change.PutRegion row)) refl refl refl
+stay_after S moment (change.PutService row) fits = all_same S.rows (rows_after S.rows (change.PutService row)) (ended_by S.rows (change.PutService row)) refl refl refl
+stay_after S moment (change.PutEndpoint row) fits = all_same S.rows (rows_after S.rows (change.PutEndpoint row)) (ended_by S.rows (change.PutEndpoint row)) refl refl refl
+stay_after S moment (change.DropRegion id) fits = all_same S.rows (rows_after S.rows (change.DropRegion id)) (ended_by S.rows (change.DropRegion id)) refl refl refl
+stay_after S moment (change.DropService id) fits = all_same S.rows (rows_after S.rows (change.DropService id)) (ended_by S.rows (change.DropService id)) refl refl refl
+stay_after S moment (change.DropEndpoint id) fits = all_same S.rows (rows_after S.rows (change.DropEndpoint id)) (ended_by S.rows (change.DropEndpoint id)) refl refl refl
 
 -- so what is revoked stays revoked
 

@@ -59,6 +59,9 @@ o1 = record {
   members = [];
   roles = record { id = codes "r-admin"; name = codes "admin"; description = [] } ∷ record { id = codes "r-member"; name = codes "member"; description = [] } ∷ [];
   implications = [];
+  regions = [];
+  services = [];
+  endpoints = [];
   assignments =
       record { actor = actor.User (codes "ann"); target = target.Project (codes "demo-id"); inherited = false; role = codes "r-admin" } ∷
       record { actor = actor.User (codes "bobby"); target = target.Project (codes "demo-id"); inherited = false; role = codes "r-member" } ∷ [];

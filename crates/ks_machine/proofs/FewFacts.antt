@@ -262,6 +262,12 @@ agrees_answered known true S moment call (command.TrustRoles id) = agrees_own kn
 agrees_answered known true S moment call command.Events = agrees_own known true S moment call _
 agrees_answered known true S moment call command.RotateKeys = agrees_own known true S moment call _
 agrees_answered known true S moment call command.LoadKeys = agrees_own known true S moment call _
+agrees_answered known true S moment call (command.CreateCatalog body) = agrees_own known true S moment call _
+agrees_answered known true S moment call (command.ListCatalog of filters) = agrees_own known true S moment call _
+agrees_answered known true S moment call (command.GetCatalog of id) = agrees_own known true S moment call _
+agrees_answered known true S moment call (command.UpdateCatalog id body) = agrees_own known true S moment call _
+agrees_answered known true S moment call (command.DeleteCatalog of id) = agrees_own known true S moment call _
+agrees_answered known true S moment call command.ShowCatalog = agrees_own known true S moment call _
 
 agrees_checked : (known : Known) → AreTrue known → (S : State) (moment : ℕ) (call : Call) →
     Agrees (checked known S moment call) (checked everything S moment call)

@@ -3,6 +3,7 @@ pub mod Examples
 mod WindowExamples
 mod KeyExamples
 mod TrustExamples
+mod CatalogExamples
 pub mod FrontLemmas
 pub mod RoleLemmas
 pub mod FewFacts

@@ -4,6 +4,7 @@ use Rattle.ks_base.specs.declared.grants.Actor.{Actor}
 use Rattle.ks_base.specs.declared.grants.Actor.TheVariants as actor
 use Rattle.ks_base.specs.declared.grants.Target.{Target}
 use Rattle.ks_base.specs.declared.grants.Target.TheVariants as target
+use Rattle.ks_base.specs.declared.catalog.CatalogKind.{CatalogKind}
 use Rattle.ks_base.specs.declared.kinds.Kind.{Kind}
 use Rattle.ks_base.specs.declared.kinds.Kind.TheVariants as kind
 use Rattle.ks_base.specs.Rows.{Text}
@@ -12,7 +13,7 @@ use Rattle.ks_machine.specs.declared.bodies.Made.TheVariants as made
 use Rattle.ks_machine.specs.declared.command.Command.{Command}
 use Rattle.ks_machine.specs.declared.command.Command.TheVariants as command
 use Rattle.ks_machine.specs.Assignments.{user_lacking}
-use Rattle.ks_machine.specs.Targets.{kind_of}
+use Rattle.ks_machine.specs.Targets.{catalog_kind, kind_of}
 
 -- a kind's word, and its plural
 abbrev pub kind_word : Kind → Text
@@ -26,9 +27,19 @@ kind_word kind.Grant = codes "grant"
 kind_word kind.Member = codes "member"
 kind_word kind.Trust = codes "trust"
 kind_word kind.Event = codes "event"
+kind_word kind.Region = codes "region"
+kind_word kind.Service = codes "service"
+kind_word kind.Endpoint = codes "endpoint"
 
 abbrev pub kind_words : Kind → Text
 kind_words kind = kind_word kind ++ codes "s"
+
+-- the same of a kind of the catalog
+abbrev pub catalog_word : CatalogKind → Text
+catalog_word of = kind_word (catalog_kind of)
+
+abbrev pub catalog_words : CatalogKind → Text
+catalog_words of = kind_words (catalog_kind of)
 
 abbrev pub identity : Text → Text
 identity name = codes "identity:" ++ name
@@ -59,7 +70,7 @@ asks_and_draws name = record (asks name) { draws = true }
 abbrev pub asks_about : Text → Requirements
 asks_about name = record (asks name) { subject = true }
 
--- no rule is asked for version, login and password change
+-- no rule is asked for version, login, password change and the catalog of the caller's own scope
 abbrev pub open_to_all : Bool → Requirements
 open_to_all draws = record { action = None; draws = draws; loads = false; subject = false; lacks = None }
 
@@ -106,3 +117,9 @@ requirements (command.TrustRoles id) = asks (codes "list_roles_for_trust")
 requirements command.Events = asks (codes "list_revoke_events")
 requirements command.RotateKeys = asks_and_draws (codes "rotate_keys")
 requirements command.LoadKeys = record (asks (codes "load_keys")) { loads = true }
+requirements (command.CreateCatalog asked) = asks_and_draws (codes "create_" ++ catalog_word asked.of)
+requirements (command.ListCatalog of filter) = asks (codes "list_" ++ catalog_words of)
+requirements (command.GetCatalog of id) = asks (codes "get_" ++ catalog_word of)
+requirements (command.UpdateCatalog id asked) = asks (codes "update_" ++ catalog_word asked.of)
+requirements (command.DeleteCatalog of id) = asks (codes "delete_" ++ catalog_word of)
+requirements command.ShowCatalog = open_to_all false

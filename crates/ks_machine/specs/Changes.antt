@@ -16,6 +16,7 @@ use Rattle.ks_base.specs.declared.trusts.TrustRow.{TrustRow}
 use Rattle.ks_base.specs.declared.users.MemberRow.{MemberRow}
 use Rattle.ks_base.specs.declared.users.PasswordRow.{PasswordRow}
 use Rattle.ks_base.specs.declared.users.UserRow.{UserRow}
+use Rattle.ks_base.specs.Catalog.{with_endpoint, with_region, with_service, without_endpoint, without_region, without_service}
 use Rattle.ks_base.specs.Grants.{is_at_target, is_of_actor, is_of_role, with_grant, without_grant}
 use Rattle.ks_base.specs.People.{is_group_in, is_user_in, with_group, with_member, with_user, without_group, without_member, without_user}
 use Rattle.ks_base.specs.RoleLists.{with_implication, with_role, without_implication, without_role}
@@ -27,7 +28,7 @@ use Rattle.ks_machine.specs.declared.change.Change.{Change}
 use Rattle.ks_machine.specs.declared.change.Change.TheVariants as change
 use Rattle.ks_ring.specs.Rings.{RingState, load_of, rotate_of}
 use Rattle.ks_machine.specs.States.{State}
-use Rattle.ks_machine.specs.Tables.{people, put_people, put_roles, put_trees, roles, trees}
+use Rattle.ks_machine.specs.Tables.{catalogs, people, put_catalogs, put_people, put_roles, put_trees, roles, trees}
 
 -- rows of a domain
 
@@ -78,6 +79,12 @@ touches rows (change.UseTrust id) = no_trust
 touches rows (change.RevokeToken audit) = no_trust
 touches rows (change.Rotate key) = no_trust
 touches rows (change.Load keys) = no_trust
+touches rows (change.PutRegion row) = no_trust
+touches rows (change.PutService row) = no_trust
+touches rows (change.PutEndpoint row) = no_trust
+touches rows (change.DropRegion id) = no_trust
+touches rows (change.DropService id) = no_trust
+touches rows (change.DropEndpoint id) = no_trust
 
 -- the trusts that a change leaves
 abbrev pub trusts_after : Rows → Change → List TrustRow
@@ -159,6 +166,12 @@ rows_after rows (change.UseTrust id) = record rows { trusts = use_trust id rows.
 rows_after rows (change.RevokeToken audit) = rows
 rows_after rows (change.Rotate key) = rows
 rows_after rows (change.Load keys) = rows
+rows_after rows (change.PutRegion row) = put_catalogs (with_region row (catalogs rows)) rows
+rows_after rows (change.PutService row) = put_catalogs (with_service row (catalogs rows)) rows
+rows_after rows (change.PutEndpoint row) = put_catalogs (with_endpoint row (catalogs rows)) rows
+rows_after rows (change.DropRegion id) = put_catalogs (without_region id (catalogs rows)) rows
+rows_after rows (change.DropService id) = put_catalogs (without_service id (catalogs rows)) rows
+rows_after rows (change.DropEndpoint id) = put_catalogs (without_endpoint id (catalogs rows)) rows
 
 -- the ring
 
@@ -185,6 +198,12 @@ ring_after S (change.Grant row) = S.ring
 ring_after S (change.Ungrant row) = S.ring
 ring_after S (change.UseTrust id) = S.ring
 ring_after S (change.RevokeToken audit) = S.ring
+ring_after S (change.PutRegion row) = S.ring
+ring_after S (change.PutService row) = S.ring
+ring_after S (change.PutEndpoint row) = S.ring
+ring_after S (change.DropRegion id) = S.ring
+ring_after S (change.DropService id) = S.ring
+ring_after S (change.DropEndpoint id) = S.ring
 
 -- revocations
 
@@ -243,6 +262,12 @@ ended_by rows (change.Ungrant row) = []
 ended_by rows (change.UseTrust id) = []
 ended_by rows (change.Rotate key) = []
 ended_by rows (change.Load keys) = []
+ended_by rows (change.PutRegion row) = []
+ended_by rows (change.PutService row) = []
+ended_by rows (change.PutEndpoint row) = []
+ended_by rows (change.DropRegion id) = []
+ended_by rows (change.DropService id) = []
+ended_by rows (change.DropEndpoint id) = []
 
 abbrev pub events_at : ℕ → List Revoke → List EventRow
 events_at moment things = map (λ thing. record { what = thing; moment = moment }) things

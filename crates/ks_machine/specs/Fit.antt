@@ -1,6 +1,9 @@
 -- What is asked of a call: what was drawn and read for it, and the ranges of its fields.
-use Rattle.std.specs.Prelude.{◌≡◌, ℕ, ◌≤◌, Bool, true, false, List, length, Option, Some, None, IfSome}
+use Rattle.std.specs.Prelude.{◌≡◌, ℕ, ◌≤◌, Bool, true, false, not, ◌||◌, List, length, Option, Some, None, IfSome, is_some}
 use Rattle.std.specs.List.{AllByRecursion}
+use Rattle.ks_base.specs.declared.catalog.CatalogIn.{CatalogIn}
+use Rattle.ks_base.specs.declared.catalog.CatalogKind.{CatalogKind}
+use Rattle.ks_base.specs.declared.catalog.CatalogKind.TheVariants as of
 use Rattle.ks_base.specs.declared.faults.KeysFault.TheVariants as keys
 use Rattle.ks_base.specs.declared.grants.GrantRow.{GrantRow}
 use Rattle.ks_base.specs.declared.grants.Target.{Target}
@@ -29,7 +32,7 @@ use Rattle.ks_machine.specs.declared.call.FolderRead.TheVariants as folder
 use Rattle.ks_machine.specs.declared.command.Command.{Command}
 use Rattle.ks_machine.specs.declared.command.Command.TheVariants as command
 use Rattle.ks_machine.specs.Actions.{requirements}
-use Rattle.ks_machine.specs.Ranges.{AreUses, IsDescription, IsExpiry, IsName, IsPassable, IsPassword}
+use Rattle.ks_machine.specs.Ranges.{AreUses, IsDescription, IsEndpointUrl, IsExpiry, IsName, IsPassable, IsPassword, IsServiceText}
 use Rattle.ks_ring.specs.Rings.{refusal_of}
 
 -- a command that draws has 64 bytes, or its draw failed
@@ -84,7 +87,7 @@ IsScope (scope_in.Project project) = IsProjectNamed project
 IsScope scope_in.System = Unit {0}
 IsScope (scope_in.Trust id) = Unit {0}
 
--- the kinds that have routes of their own
+-- the kinds that have routes of their own and are not of the catalog
 abbrev pub IsOwnKind : Kind → Type 0
 IsOwnKind kind.Domain = Unit {0}
 IsOwnKind kind.Project = Unit {0}
@@ -96,6 +99,9 @@ IsOwnKind kind.Grant = ⊥
 IsOwnKind kind.Member = ⊥
 IsOwnKind kind.Trust = ⊥
 IsOwnKind kind.Event = ⊥
+IsOwnKind kind.Region = ⊥
+IsOwnKind kind.Service = ⊥
+IsOwnKind kind.Endpoint = ⊥
 
 -- no grant on the system is inherited
 abbrev pub IsPlace : Target → Bool → Type 0
@@ -123,6 +129,28 @@ abbrev pub IsTrustBody : TrustBody → Type 0
 IsTrustBody body =
     AllByRecursion IsNamed body.roles × (length body.roles ≤ TRUST_ROLES) × IfSome body.expires IsExpiry × IfSome body.remaining AreUses
     × IsPassable body.redelegate body.remaining
+
+-- what a row can't do without is there in a body of a creation
+abbrev pub IsGiven : {X : Type 0} → Bool → Option X → Type 0
+IsGiven new field = (is_some field || not new) ≡ true
+
+-- the id of a region is the one that a creation may give
+abbrev pub IsRegionBody : CatalogIn → Type 0
+IsRegionBody asked = IfSome asked.description IsDescription
+
+abbrev pub IsServiceBody : Bool → CatalogIn → Type 0
+IsServiceBody new asked =
+    IsGiven new asked.kind × IfSome asked.kind IsServiceText × IfSome asked.name IsServiceText
+    × IfSome asked.description IsDescription
+
+abbrev pub IsEndpointBody : Bool → CatalogIn → Type 0
+IsEndpointBody new asked =
+    IsGiven new asked.service × IsGiven new asked.interface × IsGiven new asked.url × IfSome asked.url IsEndpointUrl
+
+abbrev pub IsCatalogBody : Bool → CatalogKind → CatalogIn → Type 0
+IsCatalogBody new of.Region asked = IsRegionBody asked
+IsCatalogBody new of.Service asked = IsServiceBody new asked
+IsCatalogBody new of.Endpoint asked = IsEndpointBody new asked
 
 abbrev pub AreFields : Command → Type 0
 AreFields (command.Login body) = IsProof body.proof × IsScope body.scope
@@ -159,6 +187,12 @@ AreFields (command.TrustRoles id) = Unit {0}
 AreFields command.Events = Unit {0}
 AreFields command.RotateKeys = Unit {0}
 AreFields command.LoadKeys = Unit {0}
+AreFields (command.CreateCatalog asked) = IsCatalogBody true asked.of asked
+AreFields (command.ListCatalog kind filter) = Unit {0}
+AreFields (command.GetCatalog kind id) = Unit {0}
+AreFields (command.UpdateCatalog id asked) = IsCatalogBody false asked.of asked
+AreFields (command.DeleteCatalog kind id) = Unit {0}
+AreFields command.ShowCatalog = Unit {0}
 
 pub record Fit (call : Call) : Type 0 where
   pub draw : IsDrawFor (requirements call.command).draws call.draw

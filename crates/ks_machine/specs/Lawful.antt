@@ -15,6 +15,8 @@ use Rattle.ks_base.specs.Trusts.{FollowsParent, creation_fault, use_fault}
 use Rattle.ks_machine.specs.declared.change.Change.{Change}
 use Rattle.ks_machine.specs.declared.change.Change.TheVariants as change
 use Rattle.ks_machine.specs.declared.change.Entry.{Entry}
+use Rattle.ks_base.specs.Catalog.{endpoint_of, region_of, service_of}
+use Rattle.ks_base.specs.CatalogFaults.{add_endpoint_fault, add_region_fault, add_service_fault, drop_endpoint_fault, drop_region_fault, drop_service_fault, set_endpoint_fault, set_region_fault, set_service_fault}
 use Rattle.ks_base.specs.Grants.{grant_fault, ungrant_fault}
 use Rattle.ks_base.specs.PeopleFaults.{add_group_fault, add_user_fault, drop_group_fault, drop_user_fault, join_group_fault, leave_group_fault, set_group_fault, set_user_fault}
 use Rattle.ks_ring.specs.Rings.{RingState, highest, refusal_of}
@@ -27,10 +29,10 @@ use Rattle.ks_machine.specs.Fronts.{Front}
 use Rattle.ks_machine.specs.Moment.{last_moment}
 use Rattle.ks_machine.specs.Opened.{open_fault, opened_state}
 use Rattle.ks_machine.specs.Openings.{PlainOpening}
-use Rattle.ks_machine.specs.Ranges.{IsDomainInRange, IsGroupInRange, IsProjectInRange, IsRoleInRange, IsSettings, IsTrustInRange, IsUserInRange}
+use Rattle.ks_machine.specs.Ranges.{IsDomainInRange, IsEndpointInRange, IsGroupInRange, IsProjectInRange, IsRegionInRange, IsRoleInRange, IsServiceInRange, IsSettings, IsTrustInRange, IsUserInRange}
 use Rattle.ks_machine.specs.Room.{room_for}
 use Rattle.ks_machine.specs.States.{State}
-use Rattle.ks_machine.specs.Tables.{people, roles, trees}
+use Rattle.ks_machine.specs.Tables.{catalogs, people, roles, trees}
 use Rattle.ks_machine.specs.TrustCommands.{roles_to_give}
 
 -- rows that stand
@@ -107,6 +109,21 @@ Fits S moment (change.UseTrust id) =
 Fits S moment (change.RevokeToken audit) = length audit ≡ 16
 Fits S moment (change.Rotate key) = (S.settings.folder ≡ false) × (highest S.ring.held < LAST_KEY_INDEX) × TakesKeys S.ring
 Fits S moment (change.Load keys) = (S.settings.folder ≡ true) × (refusal_of keys ≡ None) × TakesKeys S.ring
+Fits S moment (change.PutRegion row) =
+    IsRegionInRange row
+    × IsPut (region_of row.id S.rows.regions) (add_region_fault (catalogs S.rows) row) (λ standing. row.parent ≡ standing.parent)
+    (set_region_fault (catalogs S.rows) row)
+Fits S moment (change.PutService row) =
+    IsServiceInRange row
+    × IsPut (service_of row.id S.rows.services) (add_service_fault (catalogs S.rows) row) (λ standing. Unit {0})
+    (set_service_fault (catalogs S.rows) row)
+Fits S moment (change.PutEndpoint row) =
+    IsEndpointInRange row
+    × IsPut (endpoint_of row.id S.rows.endpoints) (add_endpoint_fault (catalogs S.rows) row) (λ standing. row.service ≡ standing.service)
+    (set_endpoint_fault (catalogs S.rows) row)
+Fits S moment (change.DropRegion id) = drop_region_fault (catalogs S.rows) id ≡ None
+Fits S moment (change.DropService id) = drop_service_fault (catalogs S.rows) id ≡ None
+Fits S moment (change.DropEndpoint id) = drop_endpoint_fault (catalogs S.rows) id ≡ None
 
 -- changes one after the other, from a state and behind a moment: each has its number, is not before the last, fits, and has room
 unfoldable pub AreLawful : State → ℕ → List Entry → ℕ → Type 0
@@ -123,6 +140,9 @@ pub record IsOpeningInRange (opening : PlainOpening) : Type 0 where
   pub users : AllByRecursion IsUserInRange opening.users
   pub groups : AllByRecursion IsGroupInRange opening.groups
   pub roles : AllByRecursion IsRoleInRange opening.roles
+  pub regions : AllByRecursion IsRegionInRange opening.regions
+  pub services : AllByRecursion IsServiceInRange opening.services
+  pub endpoints : AllByRecursion IsEndpointInRange opening.endpoints
 
 pub record IsLawful (front : Front) : Type 0 where
   pub range : IsOpeningInRange front.opening

@@ -22,6 +22,7 @@ pub mod Listings
 pub mod Members
 pub mod Assignments
 pub mod TrustCommands
+pub mod CatalogCommands
 pub mod Keys
 pub mod Changes
 pub mod Room

@@ -1,4 +1,4 @@
--- One row, listings and deletions of the five kinds (Identity API v3).
+-- One row, listings and deletions of the five kinds, and of the catalog's three (Identity API v3).
 use Rattle.std.specs.Prelude.{ℕ, Bool, true, false, not, ◌&&◌, ◌||◌, List, [], ◌++◌, codes, filter, map}
 use Rattle.std.specs.Option.{option_map_or}
 use Rattle.std.specs.Str.{bytes_eq}
@@ -11,6 +11,8 @@ use Rattle.ks_base.specs.declared.rows.RoleRow.{RoleRow}
 use Rattle.ks_base.specs.declared.shapes.Filter.{Filter}
 use Rattle.ks_base.specs.declared.users.UserRow.{UserRow}
 use Rattle.ks_base.specs.Revocation.{live}
+use Rattle.ks_base.specs.CatalogFaults.{drop_region_fault}
+use Rattle.ks_base.specs.CatalogLists.{is_endpoint_listed, is_region_listed, is_service_listed}
 use Rattle.ks_base.specs.Rows.{Id, Text, Rows}
 use Rattle.ks_machine.specs.declared.body_out.BodyOut.TheVariants as body
 use Rattle.ks_machine.specs.declared.body_out.Row.{Row}
@@ -24,7 +26,7 @@ use Rattle.ks_machine.specs.Actions.{kind_words}
 use Rattle.ks_machine.specs.Attempts.{Attempt, Go, Stop, ◌>>=◌}
 use Rattle.ks_machine.specs.Outcomes.{Outcome, changes, tells}
 use Rattle.ks_machine.specs.States.{State}
-use Rattle.ks_machine.specs.Tables.{standing_domain, standing_group, standing_project, standing_role, standing_user, trees, unless_tree}
+use Rattle.ks_machine.specs.Tables.{catalogs, standing_domain, standing_endpoint, standing_group, standing_project, standing_region, standing_role, standing_service, standing_user, trees, unless_catalog, unless_tree}
 
 -- a row of a kind
 
@@ -39,6 +41,9 @@ row_at rows kind.Grant id = Stop (cause.Absent kind.Grant id)
 row_at rows kind.Member id = Stop (cause.Absent kind.Member id)
 row_at rows kind.Trust id = Stop (cause.Absent kind.Trust id)
 row_at rows kind.Event id = Stop (cause.Absent kind.Event id)
+row_at rows kind.Region id = standing_region rows id >>= (λ found. Go (row.Region found))
+row_at rows kind.Service id = standing_service rows id >>= (λ found. Go (row.Service found))
+row_at rows kind.Endpoint id = standing_endpoint rows id >>= (λ found. Go (row.Endpoint found))
 
 unfoldable pub get : Rows → Kind → Id → Attempt Cause Outcome
 get rows kind id = row_at rows kind id >>= (λ found. Go (tells (body.One found false)))
@@ -96,6 +101,9 @@ rows_listed rows kind.Grant filters = []
 rows_listed rows kind.Member filters = []
 rows_listed rows kind.Trust filters = []
 rows_listed rows kind.Event filters = []
+rows_listed rows kind.Region filters = map (λ found. row.Region found) (filter (is_region_listed filters) rows.regions)
+rows_listed rows kind.Service filters = map (λ found. row.Service found) (filter (is_service_listed filters) rows.services)
+rows_listed rows kind.Endpoint filters = map (λ found. row.Endpoint found) (filter (is_endpoint_listed filters) rows.endpoints)
 
 abbrev pub path_of_kind : Kind → Text
 path_of_kind kind = codes "/v3/" ++ kind_words kind
@@ -122,3 +130,7 @@ delete rows kind.Grant id = Stop (cause.Absent kind.Grant id)
 delete rows kind.Member id = Stop (cause.Absent kind.Member id)
 delete rows kind.Trust id = Stop (cause.Absent kind.Trust id)
 delete rows kind.Event id = Stop (cause.Absent kind.Event id)
+delete rows kind.Region id =
+    unless_catalog (drop_region_fault (catalogs rows) id) >>= (λ _. Go (changes (change.DropRegion id) body.Nothing))
+delete rows kind.Service id = standing_service rows id >>= (λ _. Go (changes (change.DropService id) body.Nothing))
+delete rows kind.Endpoint id = standing_endpoint rows id >>= (λ _. Go (changes (change.DropEndpoint id) body.Nothing))

@@ -12,6 +12,8 @@ use Rattle.ks_base.specs.declared.users.PasswordRow.{PasswordRow}
 use Rattle.ks_base.specs.declared.users.UserRow.{UserRow}
 use Rattle.ks_base.specs.Rows.{Id, Text, Rows, project_of, trust_of, user_of}
 use Rattle.ks_base.specs.Trusts.{first_trustor, use_fault}
+use Rattle.ks_catalog.specs.declared.offers.ServiceOut.{ServiceOut}
+use Rattle.ks_catalog.specs.ProjectCatalog.{catalog_of}
 use Rattle.ks_fernet.specs.Opening.{token_text}
 use Rattle.ks_machine.specs.declared.bodies.LoginBody.{LoginBody}
 use Rattle.ks_machine.specs.declared.bodies.Proof.{Proof}
@@ -34,6 +36,7 @@ use Rattle.ks_machine.specs.Outcomes.{Outcome, id_bytes, iv}
 use Rattle.ks_ring.specs.declared.held_key.HeldKey.{HeldKey}
 use Rattle.ks_machine.specs.Scopes.{domain_in, homed_project, homed_user, project_in, titled_domain, titled_roles, user_in}
 use Rattle.ks_machine.specs.States.{State, is_domain_on, is_project_on, is_user_on}
+use Rattle.ks_machine.specs.Tables.{catalogs}
 use Rattle.ks_machine.specs.Validity.{Valid, acts_as, is_kept, is_scoped, is_system, system_kind, validity}
 
 -- who it is
@@ -164,6 +167,10 @@ trust_use trust = record { id = trust.id; impersonation = trust.impersonation; t
 abbrev pub told_user : Rows → Id → TokenOut → TokenOut
 told_user rows id told = option_map_or (λ row. record told { user = homed_user rows row }) (user_of id rows.users) told
 
+-- the catalog that goes with a token: none without a scope, and that of a scope without a project has no URL with a place for one
+abbrev pub catalog_with : Rows → Payload → Option (List ServiceOut)
+catalog_with rows payload = if is_scoped payload then Some (catalog_of (catalogs rows) payload.project) else None
+
 unfoldable pub told_token : Rows → Text → Bool → Payload → ℕ → List Id → TokenOut
 told_token rows text made payload issued roles = told_user rows payload.user (record {
   text = text;
@@ -179,6 +186,7 @@ told_token rows text made payload issued roles = told_user rows payload.user (re
   trust = option_map trust_use (option_and_then (λ id. trust_of id rows.trusts) payload.trust);
   roles = if is_scoped payload then Some (titled_roles rows roles) else None;
   system = is_system payload;
+  catalog = catalog_with rows payload;
 })
 
 -- the token

@@ -1,7 +1,8 @@
 -- The state that an opening opens with, and why it is refused.
-use Rattle.std.specs.Prelude.{ℕ, Bool, not, ◌&&◌, nat_lt, List, [], ◌∷◌, ◌++◌, length, Option, None, find, is_none, option_map}
+use Rattle.std.specs.Prelude.{ℕ, Bool, not, ◌&&◌, nat_lt, List, [], ◌∷◌, ◌++◌, length, Option, Some, None, find, is_none, option_map}
 use Rattle.std.specs.List.{list_any}
-use Rattle.std.specs.Option.{option_or}
+use Rattle.std.specs.Option.{option_and_then, option_or}
+use Rattle.ks_base.specs.declared.catalog.RegionRow.{RegionRow}
 use Rattle.ks_base.specs.declared.grants.Actor.{Actor}
 use Rattle.ks_base.specs.declared.grants.Actor.TheVariants as actor
 use Rattle.ks_base.specs.declared.grants.ImplyRow.{ImplyRow}
@@ -10,6 +11,7 @@ use Rattle.ks_base.specs.declared.grants.Target.TheVariants as target
 use Rattle.ks_base.specs.declared.kinds.Kind.{Kind}
 use Rattle.ks_base.specs.declared.kinds.Kind.TheVariants as kind
 use Rattle.ks_base.specs.declared.rows.ProjectRow.{ProjectRow}
+use Rattle.ks_base.specs.Catalog.{region_of, service_of}
 use Rattle.ks_base.specs.Orders.{grant_cmp, imply_cmp, member_cmp}
 use Rattle.ks_base.specs.Refusals.{fault_if, first_of}
 use Rattle.ks_base.specs.Rows.{Id, Rows, same, domain_of, group_of, project_of, role_of, user_of}
@@ -45,6 +47,9 @@ rows_opened opening = record {
   implications = put_all (put_row imply_cmp (λ r. r)) opening.implications;
   grants = put_all (put_row grant_cmp (λ r. r)) opening.assignments;
   trusts = [];
+  regions = put_all (put_row id_cmp (λ r. r.id)) opening.regions;
+  services = put_all (put_row id_cmp (λ r. r.id)) opening.services;
+  endpoints = put_all (put_row id_cmp (λ r. r.id)) opening.endpoints;
 }
 
 unfoldable pub opened_state : PlainOpening → State
@@ -81,7 +86,10 @@ ids_fault opening = first_of (
     first_fault (id_repeated kind.Project (λ row. row.id)) opening.projects ∷
     first_fault (id_repeated kind.User (λ row. row.id)) opening.users ∷
     first_fault (id_repeated kind.Group (λ row. row.id)) opening.groups ∷
-    first_fault (id_repeated kind.Role (λ row. row.id)) opening.roles ∷ [])
+    first_fault (id_repeated kind.Role (λ row. row.id)) opening.roles ∷
+    first_fault (id_repeated kind.Region (λ row. row.id)) opening.regions ∷
+    first_fault (id_repeated kind.Service (λ row. row.id)) opening.services ∷
+    first_fault (id_repeated kind.Endpoint (λ row. row.id)) opening.endpoints ∷ [])
 
 -- names, unique among domains and roles, and in a domain among projects, users and groups: the fault names the earlier row, which
 -- has the name
@@ -129,6 +137,20 @@ parent_absent before row =
     fault_if (not (is_top row) && not (list_any (λ other. same other.id row.parent && same other.domain row.domain) before))
     (fault.Absent kind.Project row.parent)
 
+abbrev pub no_service : Rows → Id → Option OpenFault
+no_service rows id = fault_if (is_none (service_of id rows.services)) (fault.Absent kind.Service id)
+
+abbrev pub no_region : Rows → Option Id → Option OpenFault
+no_region rows None = None
+no_region rows (Some id) = fault_if (is_none (region_of id rows.regions)) (fault.Absent kind.Region id)
+
+-- a region above comes earlier
+abbrev pub upper_region_absent : List RegionRow → RegionRow → Option OpenFault
+upper_region_absent before row = option_and_then (λ id. upper_absent id) row.parent
+  where
+    upper_absent : Id → Option OpenFault
+    upper_absent id = fault_if (not (list_any (λ other. same other.id id) before)) (fault.Absent kind.Region id)
+
 unfoldable pub absent_fault : Rows → PlainOpening → Option OpenFault
 absent_fault rows opening = first_of (
     first_fault (λ before row. option_or (no_domain rows row.domain) (parent_absent before row)) opening.projects ∷
@@ -136,6 +158,8 @@ absent_fault rows opening = first_of (
     first_alone (λ row. no_domain rows row.domain) opening.groups ∷
     first_alone (λ row. option_or (no_group rows row.group) (no_user rows row.user)) opening.members ∷
     first_alone (λ row. option_or (no_role rows row.prior) (no_role rows row.implied)) opening.implications ∷
+    first_fault upper_region_absent opening.regions ∷
+    first_alone (λ row. option_or (no_service rows row.service) (no_region rows row.region)) opening.endpoints ∷
     first_alone (λ row. first_of (no_actor rows row.actor ∷ no_target rows row.target ∷ no_role rows row.role ∷ [])) opening.assignments ∷ [])
 
 -- the tree, roles, room and keys: by the rules of the tables
@@ -156,7 +180,8 @@ unfoldable pub full_fault : Rows → Option OpenFault
 full_fault rows = first_of (
     full kind.Domain (length rows.domains) ∷ full kind.Project (length rows.projects) ∷ full kind.User (length rows.users) ∷
     full kind.Group (length rows.groups) ∷ full kind.Member (length rows.members) ∷ full kind.Role (length rows.roles) ∷
-    full kind.Implication (length rows.implications) ∷ full kind.Grant (length rows.grants) ∷ [])
+    full kind.Implication (length rows.implications) ∷ full kind.Region (length rows.regions) ∷
+    full kind.Service (length rows.services) ∷ full kind.Endpoint (length rows.endpoints) ∷ full kind.Grant (length rows.grants) ∷ [])
 
 -- the first fault, in the order of the causes
 unfoldable pub open_fault : PlainOpening → Option OpenFault

@@ -1,5 +1,8 @@
 -- What an opening file says, as plain data: the state before the first change, with each password derived.
 use Rattle.std.specs.Prelude.{ℕ, List}
+use Rattle.ks_base.specs.declared.catalog.EndpointRow.{EndpointRow}
+use Rattle.ks_base.specs.declared.catalog.RegionRow.{RegionRow}
+use Rattle.ks_base.specs.declared.catalog.ServiceRow.{ServiceRow}
 use Rattle.ks_base.specs.declared.key.Key.{Key}
 use Rattle.ks_base.specs.declared.rows.DomainRow.{DomainRow}
 use Rattle.ks_base.specs.declared.rows.ProjectRow.{ProjectRow}
@@ -30,4 +33,7 @@ pub record PlainOpening : Type 0 where
   pub members : List MemberRow
   pub roles : List RoleRow
   pub implications : List ImplyRow
+  pub regions : List RegionRow
+  pub services : List ServiceRow
+  pub endpoints : List EndpointRow
   pub assignments : List GrantRow

@@ -1,6 +1,9 @@
 -- The ranges of fields (Identity API v3; own limits).
 use Rattle.std.specs.Prelude.{◌≡◌, ℕ, ◌≤◌, Bool, true, false, Option, None, IfSome, length}
-use Rattle.ks_base.specs.declared.limits.TheConstants.{DESCRIPTION_BYTES, KEYS, LAST_SECOND, LONGEST_LIFE, NAME_BYTES, PASSWORD_BYTES, REDELEGATIONS, ROUNDS, SHORTEST_LIFE, TRUST_ROLES, USES}
+use Rattle.ks_base.specs.declared.limits.TheConstants.{DESCRIPTION_BYTES, ENDPOINT_URL_BYTES, KEYS, LAST_SECOND, LONGEST_LIFE, NAME_BYTES, PASSWORD_BYTES, REDELEGATIONS, ROUNDS, SHORTEST_LIFE, TRUST_ROLES, USES}
+use Rattle.ks_base.specs.declared.catalog.EndpointRow.{EndpointRow}
+use Rattle.ks_base.specs.declared.catalog.RegionRow.{RegionRow}
+use Rattle.ks_base.specs.declared.catalog.ServiceRow.{ServiceRow}
 use Rattle.ks_base.specs.declared.rows.DomainRow.{DomainRow}
 use Rattle.ks_base.specs.declared.rows.GroupRow.{GroupRow}
 use Rattle.ks_base.specs.declared.rows.ProjectRow.{ProjectRow}
@@ -36,6 +39,22 @@ IsGroupInRange row = IsName row.name × IsDescription row.description
 
 abbrev pub IsRoleInRange : RoleRow → Type 0
 IsRoleInRange row = IsName row.name × IsDescription row.description
+
+-- the type and the name of a service may be empty
+abbrev pub IsServiceText : Text → Type 0
+IsServiceText text = length text ≤ NAME_BYTES
+
+abbrev pub IsEndpointUrl : Text → Type 0
+IsEndpointUrl url = (1 ≤ length url) × (length url ≤ ENDPOINT_URL_BYTES)
+
+abbrev pub IsRegionInRange : RegionRow → Type 0
+IsRegionInRange row = IsDescription row.description
+
+abbrev pub IsServiceInRange : ServiceRow → Type 0
+IsServiceInRange row = IsServiceText row.kind × IsServiceText row.name × IsDescription row.description
+
+abbrev pub IsEndpointInRange : EndpointRow → Type 0
+IsEndpointInRange row = IsEndpointUrl row.url
 
 -- an expiry has a text
 abbrev pub IsExpiry : ℕ → Type 0

@@ -51,6 +51,12 @@ is_for_oneself (command.TrustRoles id) = false
 is_for_oneself command.Events = false
 is_for_oneself command.RotateKeys = false
 is_for_oneself command.LoadKeys = false
+is_for_oneself (command.CreateCatalog asked) = false
+is_for_oneself (command.ListCatalog kind filter) = false
+is_for_oneself (command.GetCatalog kind id) = false
+is_for_oneself (command.UpdateCatalog id asked) = false
+is_for_oneself (command.DeleteCatalog kind id) = false
+is_for_oneself command.ShowCatalog = false
 
 -- how many revocations may be live with those that a command writes: what users do for themselves leaves room for those who must
 -- end what is not theirs

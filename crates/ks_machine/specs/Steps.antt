@@ -20,16 +20,17 @@ use Rattle.ks_machine.specs.Allowed.{allowed}
 use Rattle.ks_machine.specs.Actions.{Requirements, requirements}
 use Rattle.ks_machine.specs.Assignments.{assignments}
 use Rattle.ks_machine.specs.Attempts.{Attempt, Go, Stop, Lacks, Lack, ◌>>=◌, Known, blame, found, need, unless}
+use Rattle.ks_machine.specs.CatalogCommands.{create_catalog, show_catalog, update_catalog}
 use Rattle.ks_machine.specs.Creations.{create}
 use Rattle.ks_machine.specs.Keys.{is_failed, load_keys, rotate_keys}
 use Rattle.ks_machine.specs.Listings.{delete, events, get, list}
 use Rattle.ks_machine.specs.Login.{login, told_token}
 use Rattle.ks_machine.specs.Members.{grant, grants_of, list_groups_of, implication, implied, imply, is_granted, is_implied, is_in, join, leave, list_members_of, ungrant, unimply}
-use Rattle.ks_machine.specs.Outcomes.{Outcome, changes, tells}
+use Rattle.ks_machine.specs.Outcomes.{Outcome, changes, made_id, tells}
 use Rattle.ks_machine.specs.Passwords.{change_password}
 use Rattle.ks_machine.specs.Room.{event_limit, room_for}
 use Rattle.ks_machine.specs.States.{State, raised}
-use Rattle.ks_machine.specs.Targets.{credentials, target_of}
+use Rattle.ks_machine.specs.Targets.{catalog_kind, credentials, target_of}
 use Rattle.ks_machine.specs.TrustCommands.{create_trust, delete_trust, get_trust, list_trusts, roles_of_trust}
 use Rattle.ks_machine.specs.Updates.{update}
 use Rattle.ks_machine.specs.Validity.{Valid, validity}
@@ -132,6 +133,16 @@ answered known S moment call (command.TrustRoles id) = as_caller known S moment 
 answered known S moment call command.Events = as_caller known S moment call (λ _. Go (events S moment))
 answered known S moment call command.RotateKeys = as_caller known S moment call (λ _. rotate_keys S call.draw)
 answered known S moment call command.LoadKeys = as_caller known S moment call (λ _. load_keys S call.folder)
+answered known S moment call (command.CreateCatalog asked) =
+    as_caller known S moment call (λ _. create_catalog S.rows (made_id call.draw) asked.of asked)
+answered known S moment call (command.ListCatalog kind filters) =
+    as_caller known S moment call (λ _. Go (list S.rows (catalog_kind kind) filters))
+answered known S moment call (command.GetCatalog kind id) = as_caller known S moment call (λ _. get S.rows (catalog_kind kind) id)
+answered known S moment call (command.UpdateCatalog id asked) =
+    as_caller known S moment call (λ _. update_catalog S.rows id asked.of asked)
+answered known S moment call (command.DeleteCatalog kind id) =
+    as_caller known S moment call (λ _. delete S.rows (catalog_kind kind) id)
+answered known S moment call command.ShowCatalog = as_caller known S moment call (λ caller. Go (show_catalog S.rows caller))
 
 -- the checks of a call in their order, and what it gives where all pass
 unfoldable pub checked : Known → State → ℕ → Call → Attempt Cause Outcome

@@ -1,5 +1,10 @@
 -- The tables of a state as their own definitions see them, and their refusals as causes.
 use Rattle.std.specs.Prelude.{Option}
+use Rattle.ks_base.specs.declared.catalog.CatalogFault.{CatalogFault}
+use Rattle.ks_base.specs.declared.catalog.CatalogFault.TheVariants as catalog
+use Rattle.ks_base.specs.declared.catalog.EndpointRow.{EndpointRow}
+use Rattle.ks_base.specs.declared.catalog.RegionRow.{RegionRow}
+use Rattle.ks_base.specs.declared.catalog.ServiceRow.{ServiceRow}
 use Rattle.ks_base.specs.declared.faults.RowFault.{RowFault}
 use Rattle.ks_base.specs.declared.faults.RowFault.TheVariants as row
 use Rattle.ks_base.specs.declared.faults.TreeFault.{TreeFault}
@@ -12,6 +17,7 @@ use Rattle.ks_base.specs.declared.rows.ProjectRow.{ProjectRow}
 use Rattle.ks_base.specs.declared.rows.RoleRow.{RoleRow}
 use Rattle.ks_base.specs.declared.trusts.TrustRow.{TrustRow}
 use Rattle.ks_base.specs.declared.users.UserRow.{UserRow}
+use Rattle.ks_base.specs.Catalog.{CatalogState, endpoint_of, region_of, service_of}
 use Rattle.ks_base.specs.Rows.{Id, Rows, domain_of, group_of, project_of, role_of, trust_of, user_of}
 use Rattle.ks_machine.specs.declared.cause.Cause.{Cause}
 use Rattle.ks_machine.specs.declared.cause.Cause.TheVariants as cause
@@ -39,6 +45,12 @@ roles rows = record { roles = rows.roles; implications = rows.implications }
 abbrev pub put_roles : RolesState → Rows → Rows
 put_roles state rows = record rows { roles = state.roles; implications = state.implications }
 
+abbrev pub catalogs : Rows → CatalogState
+catalogs rows = record { regions = rows.regions; services = rows.services; endpoints = rows.endpoints }
+
+abbrev pub put_catalogs : CatalogState → Rows → Rows
+put_catalogs state rows = record rows { regions = state.regions; services = state.services; endpoints = state.endpoints }
+
 -- the causes that have a place of their own are named there
 
 abbrev pub row_cause : RowFault → Cause
@@ -62,12 +74,23 @@ tree_cause (tree.EnabledBelow id) = cause.Tree (tree.EnabledBelow id)
 tree_cause (tree.DisabledAbove id) = cause.Tree (tree.DisabledAbove id)
 tree_cause tree.DomainEnabled = cause.Tree tree.DomainEnabled
 
+-- a region with something in it is told as a project with others below it is
+abbrev pub catalog_cause : CatalogFault → Cause
+catalog_cause (catalog.Absent kind id) = cause.Absent kind id
+catalog_cause (catalog.HasChildren id) = cause.Tree (tree.HasChildren id)
+catalog_cause (catalog.Full kind) = cause.Full kind
+catalog_cause (catalog.IdTaken id) = cause.IdTaken id
+catalog_cause catalog.Memory = cause.Memory
+
 -- a refusal of a table, where it applies
 abbrev pub unless_row : Option RowFault → Attempt Cause (Unit {0})
 unless_row fault = blame row_cause (unless fault)
 
 abbrev pub unless_tree : Option TreeFault → Attempt Cause (Unit {0})
 unless_tree fault = blame tree_cause (unless fault)
+
+abbrev pub unless_catalog : Option CatalogFault → Attempt Cause (Unit {0})
+unless_catalog fault = blame catalog_cause (unless fault)
 
 -- rows that must stand
 
@@ -91,3 +114,12 @@ standing_role rows id = standing kind.Role id (role_of id rows.roles)
 
 abbrev pub standing_trust : Rows → Id → Attempt Cause TrustRow
 standing_trust rows id = standing kind.Trust id (trust_of id rows.trusts)
+
+abbrev pub standing_region : Rows → Id → Attempt Cause RegionRow
+standing_region rows id = standing kind.Region id (region_of id rows.regions)
+
+abbrev pub standing_service : Rows → Id → Attempt Cause ServiceRow
+standing_service rows id = standing kind.Service id (service_of id rows.services)
+
+abbrev pub standing_endpoint : Rows → Id → Attempt Cause EndpointRow
+standing_endpoint rows id = standing kind.Endpoint id (endpoint_of id rows.endpoints)

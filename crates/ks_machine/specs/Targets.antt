@@ -1,5 +1,8 @@
 -- What rules see of a caller and of what is asked for (oslo.policy; the names are those of Keystone's policies).
 use Rattle.std.specs.Prelude.{Bool, true, false, if◌then◌else◌, List, [], ◌∷◌, ◌++◌, Option, Some, None, codes, option_map, map}
+use Rattle.ks_base.specs.declared.catalog.CatalogIn.{CatalogIn}
+use Rattle.ks_base.specs.declared.catalog.CatalogKind.{CatalogKind}
+use Rattle.ks_base.specs.declared.catalog.CatalogKind.TheVariants as of
 use Rattle.ks_base.specs.declared.grants.Actor.{Actor}
 use Rattle.ks_base.specs.declared.grants.Actor.TheVariants as actor
 use Rattle.ks_base.specs.declared.grants.GrantRow.{GrantRow}
@@ -9,6 +12,7 @@ use Rattle.ks_base.specs.declared.kinds.Kind.{Kind}
 use Rattle.ks_base.specs.declared.kinds.Kind.TheVariants as kind
 use Rattle.ks_base.specs.declared.users.MemberRow.{MemberRow}
 use Rattle.ks_base.specs.declared.grants.ImplyRow.{ImplyRow}
+use Rattle.ks_base.specs.Catalog.{endpoint_of, region_of, service_of}
 use Rattle.ks_base.specs.Rows.{Id, Text, Rows, domain_of, group_of, project_of, role_of, trust_of, user_of}
 use Rattle.ks_machine.specs.declared.bodies.Made.{Made}
 use Rattle.ks_machine.specs.declared.bodies.Made.TheVariants as made
@@ -84,6 +88,17 @@ group_fields seen =
 abbrev pub role_fields : Seen → Fields
 role_fields seen = given (codes "target.role.id") seen.id ++ given (codes "target.role.name") seen.name
 
+abbrev pub region_fields : Seen → Fields
+region_fields seen = given (codes "target.region.id") seen.id
+
+abbrev pub service_fields : Seen → Fields
+service_fields seen =
+    given (codes "target.service.id") seen.id ++ given (codes "target.service.name") seen.name
+    ++ given_truth (codes "target.service.enabled") seen.enabled
+
+abbrev pub endpoint_fields : Seen → Fields
+endpoint_fields seen = given (codes "target.endpoint.id") seen.id ++ given_truth (codes "target.endpoint.enabled") seen.enabled
+
 -- a standing row that a path names
 abbrev pub of_row : {R : Type 0} → (R → Seen) → (Seen → Fields) → Option R → Fields
 of_row see fields None = []
@@ -110,6 +125,15 @@ object rows kind.Grant id = []
 object rows kind.Member id = []
 object rows kind.Trust id = []
 object rows kind.Event id = []
+object rows kind.Region id =
+    of_row (λ row. record { id = Some row.id; name = None; domain = None; enabled = None })
+    region_fields (region_of id rows.regions)
+object rows kind.Service id =
+    of_row (λ row. record { id = Some row.id; name = Some row.name; domain = None; enabled = Some row.enabled })
+    service_fields (service_of id rows.services)
+object rows kind.Endpoint id =
+    of_row (λ row. record { id = Some row.id; name = None; domain = None; enabled = Some row.enabled })
+    endpoint_fields (endpoint_of id rows.endpoints)
 
 -- the user of a path
 abbrev pub path_user : Id → Fields
@@ -127,6 +151,9 @@ user_of_path kind.Grant id = []
 user_of_path kind.Member id = []
 user_of_path kind.Trust id = []
 user_of_path kind.Event id = []
+user_of_path kind.Region id = []
+user_of_path kind.Service id = []
+user_of_path kind.Endpoint id = []
 
 abbrev pub object_of_path : Rows → Kind → Id → Fields
 object_of_path rows kind id = user_of_path kind id ++ object rows kind id
@@ -144,6 +171,12 @@ of_body (made.Group id name domain description) =
 of_body (made.Role id name description) =
     role_fields (record { id = None; name = name; domain = None; enabled = None })
 
+-- the same of a row of the catalog
+unfoldable pub of_catalog_body : CatalogKind → CatalogIn → Fields
+of_catalog_body of.Region asked = region_fields (record { id = None; name = None; domain = None; enabled = None })
+of_catalog_body of.Service asked = service_fields (record { id = None; name = asked.name; domain = None; enabled = asked.enabled })
+of_catalog_body of.Endpoint asked = endpoint_fields (record { id = None; name = None; domain = None; enabled = asked.enabled })
+
 -- the kind of what a body makes
 abbrev pub kind_of : Made → Kind
 kind_of (made.Domain id name description enabled) = kind.Domain
@@ -151,6 +184,12 @@ kind_of (made.Project id name domain parent description enabled) = kind.Project
 kind_of (made.User id name domain password enabled) = kind.User
 kind_of (made.Group id name domain description) = kind.Group
 kind_of (made.Role id name description) = kind.Role
+
+-- the kinds of the catalog among all
+abbrev pub catalog_kind : CatalogKind → Kind
+catalog_kind of.Region = kind.Region
+catalog_kind of.Service = kind.Service
+catalog_kind of.Endpoint = kind.Endpoint
 
 -- rows that two ids or three make
 
@@ -201,6 +240,9 @@ filter_names kind.Grant = []
 filter_names kind.Member = []
 filter_names kind.Trust = []
 filter_names kind.Event = []
+filter_names kind.Region = codes "parent_region_id" ∷ []
+filter_names kind.Service = codes "type" ∷ codes "name" ∷ []
+filter_names kind.Endpoint = codes "service_id" ∷ codes "region_id" ∷ codes "interface" ∷ []
 
 -- the target of a command
 
@@ -240,3 +282,9 @@ target_of rows subject (command.Assignments filter) = []
 target_of rows subject command.Events = []
 target_of rows subject command.RotateKeys = []
 target_of rows subject command.LoadKeys = []
+target_of rows subject (command.CreateCatalog asked) = of_catalog_body asked.of asked
+target_of rows subject (command.ListCatalog kind filter) = of_filter (filter_names (catalog_kind kind)) filter.fields
+target_of rows subject (command.GetCatalog kind id) = object rows (catalog_kind kind) id
+target_of rows subject (command.UpdateCatalog id asked) = object rows (catalog_kind asked.of) id
+target_of rows subject (command.DeleteCatalog kind id) = object rows (catalog_kind kind) id
+target_of rows subject command.ShowCatalog = []

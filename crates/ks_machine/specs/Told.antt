@@ -21,6 +21,9 @@ IsRowTellable (row.User user) = Unit {0}
 IsRowTellable (row.Group group) = Unit {0}
 IsRowTellable (row.Role role) = Unit {0}
 IsRowTellable (row.Trust trust roles) = IfSome trust.expires IsExpiry
+IsRowTellable (row.Region region) = Unit {0}
+IsRowTellable (row.Service service) = Unit {0}
+IsRowTellable (row.Endpoint endpoint) = Unit {0}
 
 abbrev pub IsEventTellable : EventRow → Type 0
 IsEventTellable event = IsExpiry event.moment
@@ -39,6 +42,7 @@ IsBodyTellable (body.Trusts rows path) = AllByRecursion IsRowTellable rows
 IsBodyTellable (body.TrustRoles roles path) = Unit {0}
 IsBodyTellable (body.Events events path) = AllByRecursion IsEventTellable events
 IsBodyTellable (body.Keys indices sealing) = Unit {0}
+IsBodyTellable (body.Catalog services path) = Unit {0}
 
 abbrev pub IsTellable : Reply → Type 0
 IsTellable (reply.Ok told) = IsBodyTellable told

@@ -2,9 +2,10 @@
 ghost use Rattle.std.specs.Prelude.{◌≡◌, IfOk};
 
 use ks_base::{
-    DomainRow, EventList, GrantList, GroupRow, Id, IndexList, Kind, ListOf, Memory, ProjectRow,
-    RoleList, RoleRow, Text, TrustRow, TryCopy, UserRow,
+    DomainRow, EndpointRow, EventList, GrantList, GroupRow, Id, IndexList, Kind, ListOf, Memory,
+    ProjectRow, RegionRow, RoleList, RoleRow, ServiceRow, Text, TrustRow, TryCopy, UserRow,
 };
+use ks_catalog::ServiceOutList;
 
 /// An id and the name that goes with it.
 #[derive(Drop)]
@@ -63,6 +64,8 @@ pub struct TokenOut {
     pub roles: Option<TitledList>,
     /// Whether it is for the whole system.
     pub system: bool,
+    /// The services of its scope. None exactly where the token has no scope.
+    pub catalog: Option<ServiceOutList>,
 }
 
 impl Drop for TokenOut {
@@ -81,6 +84,7 @@ impl Drop for TokenOut {
             trust: _,
             roles: _,
             system: _,
+            catalog: _,
         } = self;
     }
 }
@@ -94,6 +98,9 @@ pub enum Row {
     Role(RoleRow),
     /// A trust, and its roles with their names.
     Trust(TrustRow, TitledList),
+    Region(RegionRow),
+    Service(ServiceRow),
+    Endpoint(EndpointRow),
 }
 
 impl Drop for Row {
@@ -104,7 +111,10 @@ impl Drop for Row {
             | Row::User(_)
             | Row::Group(_)
             | Row::Role(_)
-            | Row::Trust(_, _) => {}
+            | Row::Trust(_, _)
+            | Row::Region(_)
+            | Row::Service(_)
+            | Row::Endpoint(_) => {}
         }
     }
 }
@@ -134,6 +144,8 @@ pub enum BodyOut {
     Events(EventList, Text),
     /// The indices of the keys that are held, rising, and the one that seals.
     Keys(IndexList, u32),
+    /// The services of the caller's scope.
+    Catalog(ServiceOutList, Text),
 }
 
 impl Drop for BodyOut {
@@ -151,7 +163,8 @@ impl Drop for BodyOut {
             | BodyOut::Trusts(_, _)
             | BodyOut::TrustRoles(_, _)
             | BodyOut::Events(_, _)
-            | BodyOut::Keys(_, _) => {}
+            | BodyOut::Keys(_, _)
+            | BodyOut::Catalog(_, _) => {}
         }
     }
 }
@@ -186,6 +199,9 @@ impl Row {
             Row::Group(row) => Ok(Row::Group(row.copy()?)),
             Row::Role(row) => Ok(Row::Role(row.copy()?)),
             Row::Trust(row, roles) => Ok(Row::Trust(row.copy()?, roles.copy()?)),
+            Row::Region(row) => Ok(Row::Region(row.copy()?)),
+            Row::Service(row) => Ok(Row::Service(row.copy()?)),
+            Row::Endpoint(row) => Ok(Row::Endpoint(row.copy()?)),
         }
     }
 }

@@ -1,6 +1,6 @@
 use ks_base::{
-    DomainRow, GrantRow, GroupRow, Id, ImplyRow, Key, KeyList, MemberRow, ProjectRow, RoleRow,
-    TrustRow, UserRow,
+    DomainRow, EndpointRow, GrantRow, GroupRow, Id, ImplyRow, Key, KeyList, MemberRow, ProjectRow,
+    RegionRow, RoleRow, ServiceRow, TrustRow, UserRow,
 };
 
 /// What a command that is granted does to the state.
@@ -34,6 +34,13 @@ pub enum Change {
     Rotate(Key),
     /// These keys are held, each by its index.
     Load(KeyList),
+    PutRegion(RegionRow),
+    PutService(ServiceRow),
+    PutEndpoint(EndpointRow),
+    DropRegion(Id),
+    /// The service goes, with its endpoints.
+    DropService(Id),
+    DropEndpoint(Id),
 }
 
 /// A change in the journal.

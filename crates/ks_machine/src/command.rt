@@ -3,7 +3,9 @@ ghost use Rattle.ks_machine.specs.Room.{event_limit};
 
 use crate::{LoginBody, Made, TrustBody};
 use ks_base::limits::{EVENTS, SELF_REVOCATIONS};
-use ks_base::{Actor, Filter, GrantRow, Id, ImplyRow, Kind, MemberRow, Target, Text};
+use ks_base::{
+    Actor, CatalogIn, CatalogKind, Filter, GrantRow, Id, ImplyRow, Kind, MemberRow, Target, Text,
+};
 
 /// What a request asks for, by the route that it came on.
 pub enum Command {
@@ -54,6 +56,14 @@ pub enum Command {
     RotateKeys,
     /// The keys of the folder are to be held.
     LoadKeys,
+    /// A new region, service or endpoint.
+    CreateCatalog(CatalogIn),
+    ListCatalog(CatalogKind, Filter),
+    GetCatalog(CatalogKind, Id),
+    UpdateCatalog(Id, CatalogIn),
+    DeleteCatalog(CatalogKind, Id),
+    /// The catalog that goes with the caller's token.
+    ShowCatalog,
 }
 
 impl Drop for Command {
@@ -92,7 +102,13 @@ impl Drop for Command {
             | Command::TrustRoles(_)
             | Command::Events
             | Command::RotateKeys
-            | Command::LoadKeys => {}
+            | Command::LoadKeys
+            | Command::CreateCatalog(_)
+            | Command::ListCatalog(_, _)
+            | Command::GetCatalog(_, _)
+            | Command::UpdateCatalog(_, _)
+            | Command::DeleteCatalog(_, _)
+            | Command::ShowCatalog => {}
         }
     }
 }
