@@ -8,7 +8,7 @@ use Rattle.ks_spelling.specs.Leaves.{fixed, number32, number64}
 use Rattle.ks_spelling.specs.Wholes.{both, made, listed}
 use Rattle.ks_spelling.specs.Variants.{Variant, Part, variant, part, there, InPlace, IsThere, one_of}
 use Rattle.ks_spelling.specs.Values.{id_code}
-use Rattle.ks_spelling.specs.Rows.{domain_code, project_code, user_code, group_code, role_code, trust_code, member_code, imply_code, grant_code, key_code}
+use Rattle.ks_spelling.specs.Rows.{domain_code, project_code, user_code, group_code, role_code, trust_code, member_code, imply_code, grant_code, key_code, region_code, service_code, endpoint_code}
 
 -- the place of each variant, and what it holds
 abbrev pub change_parts : Change → Part Change
@@ -34,6 +34,12 @@ change_parts (changes.UseTrust x) = part 18 id_code changes.UseTrust x
 change_parts (changes.RevokeToken x) = part 19 (fixed 16) changes.RevokeToken x
 change_parts (changes.Rotate x) = part 20 key_code changes.Rotate x
 change_parts (changes.Load x) = part 21 (listed number32 (both number32 key_code)) changes.Load x
+change_parts (changes.PutRegion x) = part 22 region_code changes.PutRegion x
+change_parts (changes.PutService x) = part 23 service_code changes.PutService x
+change_parts (changes.PutEndpoint x) = part 24 endpoint_code changes.PutEndpoint x
+change_parts (changes.DropRegion x) = part 25 id_code changes.DropRegion x
+change_parts (changes.DropService x) = part 26 id_code changes.DropService x
+change_parts (changes.DropEndpoint x) = part 27 id_code changes.DropEndpoint x
 
 abbrev pub change_table : List (Variant Change)
 change_table =
@@ -59,11 +65,17 @@ change_table =
     ∷ variant (fixed 16) changes.RevokeToken
     ∷ variant key_code changes.Rotate
     ∷ variant (listed number32 (both number32 key_code)) changes.Load
+    ∷ variant region_code changes.PutRegion
+    ∷ variant service_code changes.PutService
+    ∷ variant endpoint_code changes.PutEndpoint
+    ∷ variant id_code changes.DropRegion
+    ∷ variant id_code changes.DropService
+    ∷ variant id_code changes.DropEndpoint
     ∷ []
 
 pub change_in_place : InPlace change_parts change_table 0
 change_in_place =
-    (λ x. refl, (λ x. refl, (λ x. refl, (λ x. refl, (λ x. refl, (λ x. refl, (λ x. refl, (λ x. refl, (λ x. refl, (λ x. refl, (λ x. refl, (λ x. refl, (λ x. refl, (λ x. refl, (λ x. refl, (λ x. refl, (λ x. refl, (λ x. refl, (λ x. refl, (λ x. refl, (λ x. refl, (λ x. refl, tt))))))))))))))))))))))
+    (λ x. refl, (λ x. refl, (λ x. refl, (λ x. refl, (λ x. refl, (λ x. refl, (λ x. refl, (λ x. refl, (λ x. refl, (λ x. refl, (λ x. refl, (λ x. refl, (λ x. refl, (λ x. refl, (λ x. refl, (λ x. refl, (λ x. refl, (λ x. refl, (λ x. refl, (λ x. refl, (λ x. refl, (λ x. refl, (λ x. refl, (λ x. refl, (λ x. refl, (λ x. refl, (λ x. refl, (λ x. refl, tt))))))))))))))))))))))))))))
 
 pub change_there : (x : Change) → IsThere change_table x (change_parts x)
 change_there (changes.PutDomain x) rest fits = there 0 domain_code changes.PutDomain x rest fits
@@ -88,6 +100,12 @@ change_there (changes.UseTrust x) rest fits = there 18 id_code changes.UseTrust 
 change_there (changes.RevokeToken x) rest fits = there 19 (fixed 16) changes.RevokeToken x rest fits
 change_there (changes.Rotate x) rest fits = there 20 key_code changes.Rotate x rest fits
 change_there (changes.Load x) rest fits = there 21 (listed number32 (both number32 key_code)) changes.Load x rest fits
+change_there (changes.PutRegion x) rest fits = there 22 region_code changes.PutRegion x rest fits
+change_there (changes.PutService x) rest fits = there 23 service_code changes.PutService x rest fits
+change_there (changes.PutEndpoint x) rest fits = there 24 endpoint_code changes.PutEndpoint x rest fits
+change_there (changes.DropRegion x) rest fits = there 25 id_code changes.DropRegion x rest fits
+change_there (changes.DropService x) rest fits = there 26 id_code changes.DropService x rest fits
+change_there (changes.DropEndpoint x) rest fits = there 27 id_code changes.DropEndpoint x rest fits
 
 unfoldable pub change_code : Code Change
 change_code = one_of change_parts change_table change_in_place change_there

@@ -5,8 +5,8 @@ ghost use Rattle.ks_machine.specs.declared.change.Entry.{Entry};
 ghost use Rattle.ks_entries.specs.Changes.{change_code, entry_code, IsEntry};
 
 use ks_base::{
-    Bytes, DomainRow, GrantRow, GroupRow, Id, ImplyRow, Key, KeyList, MemberRow, Memory,
-    ProjectRow, RoleRow, TrustRow, UserRow,
+    Bytes, DomainRow, EndpointRow, GrantRow, GroupRow, Id, ImplyRow, Key, KeyList, MemberRow,
+    Memory, ProjectRow, RegionRow, RoleRow, ServiceRow, TrustRow, UserRow,
 };
 use ks_machine::{Change, Entry};
 use ks_spelling::{Cursor, Spelled, Unread, write_at};
@@ -39,6 +39,12 @@ fn write_change(change: &Change, into: &mut Vec<u8>) -> Result<(), Memory>
         Change::RevokeToken(held) => write_at(19, held, into),
         Change::Rotate(held) => write_at(20, held, into),
         Change::Load(held) => write_at(21, held, into),
+        Change::PutRegion(held) => write_at(22, held, into),
+        Change::PutService(held) => write_at(23, held, into),
+        Change::PutEndpoint(held) => write_at(24, held, into),
+        Change::DropRegion(held) => write_at(25, held, into),
+        Change::DropService(held) => write_at(26, held, into),
+        Change::DropEndpoint(held) => write_at(27, held, into),
     }
 }
 
@@ -69,6 +75,12 @@ fn read_change(alloc: Global, from: &mut Cursor<'_>) -> Result<Change, Unread>
         19 => Ok(Change::RevokeToken(<[u8; 16]>::read_from(alloc, from)?)),
         20 => Ok(Change::Rotate(Key::read_from(alloc, from)?)),
         21 => Ok(Change::Load(KeyList::read_from(alloc, from)?)),
+        22 => Ok(Change::PutRegion(RegionRow::read_from(alloc, from)?)),
+        23 => Ok(Change::PutService(ServiceRow::read_from(alloc, from)?)),
+        24 => Ok(Change::PutEndpoint(EndpointRow::read_from(alloc, from)?)),
+        25 => Ok(Change::DropRegion(Id::read_from(alloc, from)?)),
+        26 => Ok(Change::DropService(Id::read_from(alloc, from)?)),
+        27 => Ok(Change::DropEndpoint(Id::read_from(alloc, from)?)),
         _ => Err(Unread::NoSpelling),
     }
 }

@@ -1,5 +1,5 @@
 -- What the code of the spellings meets at its exits, over plain values.
-use Rattle.std.proofs.Common.{◌≡◌, ℕ, Bool, true, false, cond, List, [], ◌++◌, Option, Some, None, Result, Ok, Err, refl, sym, ap, subst, ◌∙◌, append_assoc}
+use Rattle.std.proofs.Common.{◌≡◌, ℕ, zero, suc, ◌≤◌, Bool, true, false, cond, List, [], ◌∷◌, ◌++◌, length, Option, Some, None, Result, Ok, Err, refl, sym, ap, subst, ◌∙◌, append_assoc, arith}
 use Rattle.std.specs.Prelude.{OnOk, is_ok, option_and_then}
 use Rattle.std.specs.Str.{IsUtf8, is_utf8}
 use Rattle.std.proofs.lemmas.List.{append-nil}
@@ -10,6 +10,7 @@ use Rattle.ks_spelling.specs.Codes.{IsBytes, Code, IsSpelling, Writes}
 use Rattle.ks_spelling.specs.Readings.{same_some}
 use Rattle.ks_spelling.specs.Leaves.{cut, read_byte, counted, read_counted, number32}
 use Rattle.ks_spelling.specs.Wholes.{both, passed}
+use Rattle.ks_spelling.specs.Variants.{Variant, read_at, read_one_of}
 use Rattle.ks_spelling.specs.Values.{id_code, text_code}
 
 -- ---- all of the bytes
@@ -49,6 +50,20 @@ pub writes_last : {T E A B : Type 0} (r : Result T E) (first : Code A) (second :
 writes_last (Ok t) first second x y old mid new front back =
     ((front.0, back.0), back.1 ∙ ap (λ (xs : List ℕ). xs ++ second.spell y) front.1 ∙ append_assoc old (first.spell x) (second.spell y))
 writes_last (Err e) first second x y old mid new front back = tt
+
+-- ---- variants
+
+read_past : {A : Type 0} (table : List (Variant A)) (place : ℕ) (bytes : List ℕ) → length table ≤ place → read_at table place bytes ≡ None
+read_past [] place bytes past = refl
+read_past (v ∷ vs) zero bytes past = absurd (omega (arith, past))
+read_past (v ∷ vs) (suc place) bytes past = read_past vs place bytes (omega (arith, past))
+
+-- a byte past the places of an enum begins no spelling of it
+pub no_variant : {A : Type 0} (table : List (Variant A)) (old : List ℕ) (place : ℕ) (rest : List ℕ) → read_byte old ≡ Some (place, rest) → length table ≤ place → read_one_of table old ≡ None
+no_variant table [] place rest read past = absurd cc
+no_variant table (b ∷ old) place rest read past =
+    let at : b ≡ place = ap (λ (p : ℕ × List ℕ). p.0) (same_some (b, old) (place, rest) read) in
+    subst (λ (k : ℕ). read_at table k old ≡ None) (sym at) (read_past table place old past)
 
 -- ---- ids
 

@@ -1,5 +1,10 @@
 -- The spellings of the rows of a state: their fields in order.
 use Rattle.std.specs.Prelude.{List, [], ◌∷◌, refl}
+use Rattle.ks_base.specs.declared.catalog.EndpointRow.{EndpointRow}
+use Rattle.ks_base.specs.declared.catalog.Interface.{Interface}
+use Rattle.ks_base.specs.declared.catalog.Interface.TheVariants as interfaces
+use Rattle.ks_base.specs.declared.catalog.RegionRow.{RegionRow}
+use Rattle.ks_base.specs.declared.catalog.ServiceRow.{ServiceRow}
 use Rattle.ks_base.specs.declared.rows.DomainRow.{DomainRow}
 use Rattle.ks_base.specs.declared.rows.ProjectRow.{ProjectRow}
 use Rattle.ks_base.specs.declared.rows.GroupRow.{GroupRow}
@@ -159,4 +164,48 @@ key_code = made (both (fixed 16) (fixed 16)) (record {
   of = λ key. (key.signing, key.encryption);
   of_made = λ p. refl;
   made_of = λ key. refl;
+})
+
+unfoldable pub region_code : Code RegionRow
+region_code = made (both id_code (both (optional id_code) text_code)) (record {
+  make = λ p. record { id = p.0; parent = p.1.0; description = p.1.1 };
+  of = λ row. (row.id, (row.parent, row.description));
+  of_made = λ p. refl;
+  made_of = λ row. refl;
+})
+
+unfoldable pub service_code : Code ServiceRow
+service_code = made (both id_code (both text_code (both text_code (both text_code truth)))) (record {
+  make = λ p. record { id = p.0; kind = p.1.0; name = p.1.1.0; description = p.1.1.1.0; enabled = p.1.1.1.1 };
+  of = λ row. (row.id, (row.kind, (row.name, (row.description, row.enabled))));
+  of_made = λ p. refl;
+  made_of = λ row. refl;
+})
+
+-- public at 0, internal at 1, admin at 2
+abbrev pub interface_parts : Interface → Part Interface
+interface_parts interfaces.Public = part 0 nothing (λ x. interfaces.Public) tt
+interface_parts interfaces.Internal = part 1 nothing (λ x. interfaces.Internal) tt
+interface_parts interfaces.Admin = part 2 nothing (λ x. interfaces.Admin) tt
+
+abbrev pub interface_table : List (Variant Interface)
+interface_table = variant nothing (λ x. interfaces.Public) ∷ variant nothing (λ x. interfaces.Internal) ∷ variant nothing (λ x. interfaces.Admin) ∷ []
+
+pub interface_in_place : InPlace interface_parts interface_table 0
+interface_in_place = (λ x. refl, (λ x. refl, (λ x. refl, tt)))
+
+pub interface_there : (x : Interface) → IsThere interface_table x (interface_parts x)
+interface_there interfaces.Public rest fits = refl
+interface_there interfaces.Internal rest fits = refl
+interface_there interfaces.Admin rest fits = refl
+
+unfoldable pub interface_code : Code Interface
+interface_code = one_of interface_parts interface_table interface_in_place interface_there
+
+unfoldable pub endpoint_code : Code EndpointRow
+endpoint_code = made (both id_code (both id_code (both (optional id_code) (both interface_code (both text_code truth))))) (record {
+  make = λ p. record { id = p.0; service = p.1.0; region = p.1.1.0; interface = p.1.1.1.0; url = p.1.1.1.1.0; enabled = p.1.1.1.1.1 };
+  of = λ row. (row.id, (row.service, (row.region, (row.interface, (row.url, row.enabled)))));
+  of_made = λ p. refl;
+  made_of = λ row. refl;
 })

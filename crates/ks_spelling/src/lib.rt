@@ -5,6 +5,7 @@
 //! as they are, and the fields of a struct one behind the other.
 #![tactic(auto)]
 
+mod catalog;
 mod cursor;
 mod grants;
 mod leaves;
