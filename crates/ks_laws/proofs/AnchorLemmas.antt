@@ -34,14 +34,15 @@ use Rattle.ks_base.proofs.RowLemmas.{among_drop, among_filter, among_put, id_fou
 use Rattle.ks_base.proofs.OptionLemmas.{some_is}
 use Rattle.ks_base.proofs.AmongLemmas.{among_mapped, any_to}
 use Rattle.ks_base.proofs.ListLemmas.{find_kept}
-use Rattle.ks_laws.specs.Orderly.{AreAnchored, Each, IsGrantAnchored, IsImplicationAnchored, IsMemberAnchored, IsTrustAnchored}
-use Rattle.ks_laws.proofs.ListLemmas.{after_drop, each_of_all, found_is_among, is_same, is_there, none_apply, stands_put, unless_fault}
+use Rattle.ks_laws.specs.Orderly.{AreAnchored, Each, IsCatalogAnchored, IsGrantAnchored, IsImplicationAnchored, IsMemberAnchored, IsTrustAnchored}
+use Rattle.ks_laws.proofs.CatalogLemmas.{anchored_endpoint_dropped, anchored_endpoint_put, anchored_region_dropped, anchored_region_put, anchored_service_dropped, anchored_service_put}
+use Rattle.ks_laws.proofs.ListLemmas.{after_drop, each_of_all, found_is_among, is_same, is_there, none_apply, other_stands, stands_put, unless_fault}
 use Rattle.ks_machine.specs.declared.change.Change.{Change}
 use Rattle.ks_machine.specs.declared.change.Change.TheVariants as change
 use Rattle.ks_machine.specs.Changes.{domain_dropped, group_dropped, is_actor_gone, is_domain_group, is_domain_project, is_domain_user, is_grant_left, is_id_of, is_left, is_of_domain, is_target_gone, project_dropped, role_dropped, rows_after, touches, user_dropped}
 use Rattle.ks_machine.specs.Lawful.{ActorStands, Fits, IsStanding, IsTrustMade, TargetStands}
 use Rattle.ks_machine.specs.States.{State}
-use Rattle.ks_machine.specs.Tables.{people, roles}
+use Rattle.ks_machine.specs.Tables.{catalogs, people, roles}
 
 -- tests
 
@@ -116,8 +117,9 @@ record TrustStays (old : Rows) (gone : Gone) (trust : TrustRow) : Type 0 where
   roles : Each (λ role. gone.roles role ≡ false) trust.roles
 
 anchored_on : (old new : Rows) (gone : Gone) → Spares old new gone → Each (MemberStays old gone) new.members → Each (ImplicationStays old gone) new.implications →
-    Each (GrantStays old gone) new.grants → Each (TrustStays old gone) new.trusts → AreAnchored new
-anchored_on old new gone spares members implications grants trusts = record {
+    Each (GrantStays old gone) new.grants → Each (TrustStays old gone) new.trusts → IsCatalogAnchored (catalogs new) → AreAnchored new
+anchored_on old new gone spares members implications grants trusts catalog = record {
+  catalog = catalog;
   members = λ row among.
       let stays = members row among in record {
         group = spares.groups row.group stays.group stays.stood.group;
@@ -165,9 +167,9 @@ record Keeps (old new : Rows) : Type 0 where
   roles : (id : Id) → IsStanding (role_of id old.roles) → IsStanding (role_of id new.roles)
 
 anchored_with : (old new : Rows) → Keeps old new → Each (IsMemberAnchored old) new.members → Each (IsImplicationAnchored old) new.implications →
-    Each (IsGrantAnchored old) new.grants → Each (IsTrustAnchored old) new.trusts → AreAnchored new
+    Each (IsGrantAnchored old) new.grants → Each (IsTrustAnchored old) new.trusts → IsCatalogAnchored (catalogs new) → AreAnchored new
 unfolding nothing
-anchored_with old new keeps members implications grants trusts =
+anchored_with old new keeps members implications grants trusts catalog =
     anchored_on old new nothing (record {
       domains = λ id out. keeps.domains id;
       projects = λ id out. keeps.projects id;
@@ -179,6 +181,7 @@ anchored_with old new keeps members implications grants trusts =
     (λ row among. record { stood = implications row among; prior = refl; implied = refl })
     (λ row among. record { stood = grants row among; at = no_target_out row.target; who = no_actor_out row.actor; role = refl })
     (λ trust among. record { stood = trusts trust among; trustor = refl; trustee = refl; project = refl; roles = λ role here. refl })
+    catalog
 
 -- a row that is put in a list of its own order
 each_put_by : {X : Type 0} (cmp : X → X → Ordering) (P : X → Type 0) (row : X) (rows : List X) → P row → Each P rows → Each P (put_row cmp (λ r. r) row rows)
@@ -191,12 +194,7 @@ each_put_by {X} cmp P row rows here each x among = by (among_put cmp (λ r. r) r
 each_drop_by : {X : Type 0} (cmp : X → X → Ordering) (P : X → Type 0) (row : X) (rows : List X) → Each P rows → Each P (drop_row cmp (λ r. r) row rows)
 each_drop_by cmp P row rows each x among = each x (among_drop cmp (λ r. r) row rows x among).0
 
--- what a dropped row leaves standing
-
-other_stands : {R : Type 0} (id_of : R → Id) (gone id : Id) (rows : List R) → same id gone ≡ false → IsStanding (find_row id_cmp id_of id rows) →
-    IsStanding (find_row id_cmp id_of id (drop_row id_cmp id_of gone rows))
-other_stands id_of gone id rows out stands =
-    ap is_some (after_drop id_of gone rows id (λ is. both_ways (same id gone) out (is_same id gone (sym is)))) ∙ stands
+-- what rows that go leave standing
 
 home_apart : {R : Type 0} (id_of : R → Id) (passes : R → Bool) (rows : List R) (id : Id) (row : R) → is_id_of id_of passes rows id ≡ false →
     find_row id_cmp id_of id rows ≡ Some row → passes row ≡ false
@@ -279,6 +277,7 @@ user_anchored rows id old =
       project = refl;
       roles = λ role here. refl;
     })
+    old.catalog
 
 -- a group
 
@@ -318,6 +317,7 @@ group_anchored rows id old =
     let left = among_filter (λ row. not (is_of_actor (actor.Group id) row)) rows.grants row among in
     record { stood = old.grants row left.0; at = no_target_of_group id row.target; who = other_group id row.actor left.1; role = refl })
     (λ trust among. record { stood = old.trusts trust among; trustor = refl; trustee = refl; project = refl; roles = λ role here. refl })
+    old.catalog
 
 -- a project
 
@@ -363,6 +363,7 @@ project_anchored rows id old =
       project = untouched rows.trusts (names_trust (revoke.Project id)) trust left.1;
       roles = λ role here. refl;
     })
+    old.catalog
 
 -- a role
 
@@ -415,6 +416,7 @@ role_anchored rows id old =
       project = refl;
       roles = λ role here. none_of (λ other. same other id) trust.roles role (untouched rows.trusts (has_role id) trust left.1) here;
     })
+    old.catalog
 
 -- a domain
 
@@ -478,6 +480,7 @@ domain_anchored rows id old =
       project = (or_parts (is_domain_user rows id trust.trustee) (is_domain_project rows id trust.project) rest).1;
       roles = λ role here. refl;
     })
+    old.catalog
 
 -- rows that are put
 
@@ -544,7 +547,7 @@ anchored_kept S moment (change.PutDomain row) fits old =
       users = λ id stands. stands;
       groups = λ id stands. stands;
       roles = λ id stands. stands;
-    }) old.members old.implications old.grants old.trusts
+    }) old.members old.implications old.grants old.trusts old.catalog
 anchored_kept S moment (change.PutProject row) fits old =
     anchored_with S.rows (rows_after S.rows (change.PutProject row)) (record {
       domains = λ id stands. stands;
@@ -552,7 +555,7 @@ anchored_kept S moment (change.PutProject row) fits old =
       users = λ id stands. stands;
       groups = λ id stands. stands;
       roles = λ id stands. stands;
-    }) old.members old.implications old.grants old.trusts
+    }) old.members old.implications old.grants old.trusts old.catalog
 anchored_kept S moment (change.PutUser row) fits old =
     anchored_with S.rows (rows_after S.rows (change.PutUser row)) (record {
       domains = λ id stands. stands;
@@ -560,7 +563,7 @@ anchored_kept S moment (change.PutUser row) fits old =
       users = λ id. stands_put (λ (r : UserRow). r.id) row S.rows.users id;
       groups = λ id stands. stands;
       roles = λ id stands. stands;
-    }) old.members old.implications old.grants old.trusts
+    }) old.members old.implications old.grants old.trusts old.catalog
 anchored_kept S moment (change.PutGroup row) fits old =
     anchored_with S.rows (rows_after S.rows (change.PutGroup row)) (record {
       domains = λ id stands. stands;
@@ -568,7 +571,7 @@ anchored_kept S moment (change.PutGroup row) fits old =
       users = λ id stands. stands;
       groups = λ id. stands_put (λ (r : GroupRow). r.id) row S.rows.groups id;
       roles = λ id stands. stands;
-    }) old.members old.implications old.grants old.trusts
+    }) old.members old.implications old.grants old.trusts old.catalog
 anchored_kept S moment (change.PutRole row) fits old =
     anchored_with S.rows (rows_after S.rows (change.PutRole row)) (record {
       domains = λ id stands. stands;
@@ -576,10 +579,10 @@ anchored_kept S moment (change.PutRole row) fits old =
       users = λ id stands. stands;
       groups = λ id stands. stands;
       roles = λ id. stands_put (λ (r : RoleRow). r.id) row S.rows.roles id;
-    }) old.members old.implications old.grants old.trusts
+    }) old.members old.implications old.grants old.trusts old.catalog
 anchored_kept S moment (change.PutTrust row) fits old =
     anchored_with S.rows (rows_after S.rows (change.PutTrust row)) (same_rows S.rows (rows_after S.rows (change.PutTrust row)) refl refl refl refl refl)
-    old.members old.implications old.grants (put_trust_stand S.rows moment row fits old.trusts)
+    old.members old.implications old.grants (put_trust_stand S.rows moment row fits old.trusts) old.catalog
 anchored_kept S moment (change.DropDomain id) fits old = domain_anchored S.rows id old
 anchored_kept S moment (change.DropProject id) fits old = project_anchored S.rows id old
 anchored_kept S moment (change.DropUser id) fits old = user_anchored S.rows id old
@@ -589,27 +592,46 @@ anchored_kept S moment (change.DropTrust id) fits old =
     anchored_with S.rows (rows_after S.rows (change.DropTrust id)) (same_rows S.rows (rows_after S.rows (change.DropTrust id)) refl refl refl refl refl)
     old.members old.implications old.grants
     (λ trust among. old.trusts trust (among_filter (λ trust. not (goes S.rows.trusts (touches S.rows (change.DropTrust id)) trust)) S.rows.trusts trust among).0)
+    old.catalog
 anchored_kept S moment (change.Join row) fits old =
     anchored_with S.rows (rows_after S.rows (change.Join row)) (same_rows S.rows (rows_after S.rows (change.Join row)) refl refl refl refl refl)
-    (each_put_by member_cmp (IsMemberAnchored S.rows) row S.rows.members (member_stands S.rows row fits) old.members) old.implications old.grants old.trusts
+    (each_put_by member_cmp (IsMemberAnchored S.rows) row S.rows.members (member_stands S.rows row fits) old.members) old.implications old.grants old.trusts old.catalog
 anchored_kept S moment (change.Leave row) fits old =
     anchored_with S.rows (rows_after S.rows (change.Leave row)) (same_rows S.rows (rows_after S.rows (change.Leave row)) refl refl refl refl refl)
-    (each_drop_by member_cmp (IsMemberAnchored S.rows) row S.rows.members old.members) old.implications old.grants old.trusts
+    (each_drop_by member_cmp (IsMemberAnchored S.rows) row S.rows.members old.members) old.implications old.grants old.trusts old.catalog
 anchored_kept S moment (change.Imply row) fits old =
     anchored_with S.rows (rows_after S.rows (change.Imply row)) (same_rows S.rows (rows_after S.rows (change.Imply row)) refl refl refl refl refl)
-    old.members (each_put_by imply_cmp (IsImplicationAnchored S.rows) row S.rows.implications (implication_stands S.rows row fits) old.implications) old.grants old.trusts
+    old.members (each_put_by imply_cmp (IsImplicationAnchored S.rows) row S.rows.implications (implication_stands S.rows row fits) old.implications) old.grants old.trusts old.catalog
 anchored_kept S moment (change.Unimply row) fits old =
     anchored_with S.rows (rows_after S.rows (change.Unimply row)) (same_rows S.rows (rows_after S.rows (change.Unimply row)) refl refl refl refl refl)
-    old.members (each_drop_by imply_cmp (IsImplicationAnchored S.rows) row S.rows.implications old.implications) old.grants old.trusts
+    old.members (each_drop_by imply_cmp (IsImplicationAnchored S.rows) row S.rows.implications old.implications) old.grants old.trusts old.catalog
 anchored_kept S moment (change.Grant row) fits old =
     anchored_with S.rows (rows_after S.rows (change.Grant row)) (same_rows S.rows (rows_after S.rows (change.Grant row)) refl refl refl refl refl)
-    old.members old.implications (each_put_by grant_cmp (IsGrantAnchored S.rows) row S.rows.grants (record { target = fits.0.1; actor = fits.0.2; role = fits.0.3 }) old.grants) old.trusts
+    old.members old.implications (each_put_by grant_cmp (IsGrantAnchored S.rows) row S.rows.grants (record { target = fits.0.1; actor = fits.0.2; role = fits.0.3 }) old.grants) old.trusts old.catalog
 anchored_kept S moment (change.Ungrant row) fits old =
     anchored_with S.rows (rows_after S.rows (change.Ungrant row)) (same_rows S.rows (rows_after S.rows (change.Ungrant row)) refl refl refl refl refl)
-    old.members old.implications (each_drop_by grant_cmp (IsGrantAnchored S.rows) row S.rows.grants old.grants) old.trusts
+    old.members old.implications (each_drop_by grant_cmp (IsGrantAnchored S.rows) row S.rows.grants old.grants) old.trusts old.catalog
 anchored_kept S moment (change.UseTrust id) fits old =
     anchored_with S.rows (rows_after S.rows (change.UseTrust id)) (same_rows S.rows (rows_after S.rows (change.UseTrust id)) refl refl refl refl refl)
-    old.members old.implications old.grants (used_stand S.rows id old.trusts)
+    old.members old.implications old.grants (used_stand S.rows id old.trusts) old.catalog
 anchored_kept S moment (change.RevokeToken audit) fits old = old
 anchored_kept S moment (change.Rotate key) fits old = old
 anchored_kept S moment (change.Load keys) fits old = old
+anchored_kept S moment (change.PutRegion row) fits old =
+    anchored_with S.rows (rows_after S.rows (change.PutRegion row)) (same_rows S.rows (rows_after S.rows (change.PutRegion row)) refl refl refl refl refl)
+    old.members old.implications old.grants old.trusts (anchored_region_put row (catalogs S.rows) fits.1 old.catalog)
+anchored_kept S moment (change.PutService row) fits old =
+    anchored_with S.rows (rows_after S.rows (change.PutService row)) (same_rows S.rows (rows_after S.rows (change.PutService row)) refl refl refl refl refl)
+    old.members old.implications old.grants old.trusts (anchored_service_put row (catalogs S.rows) old.catalog)
+anchored_kept S moment (change.PutEndpoint row) fits old =
+    anchored_with S.rows (rows_after S.rows (change.PutEndpoint row)) (same_rows S.rows (rows_after S.rows (change.PutEndpoint row)) refl refl refl refl refl)
+    old.members old.implications old.grants old.trusts (anchored_endpoint_put row (catalogs S.rows) fits.1 old.catalog)
+anchored_kept S moment (change.DropRegion id) fits old =
+    anchored_with S.rows (rows_after S.rows (change.DropRegion id)) (same_rows S.rows (rows_after S.rows (change.DropRegion id)) refl refl refl refl refl)
+    old.members old.implications old.grants old.trusts (anchored_region_dropped id (catalogs S.rows) fits old.catalog)
+anchored_kept S moment (change.DropService id) fits old =
+    anchored_with S.rows (rows_after S.rows (change.DropService id)) (same_rows S.rows (rows_after S.rows (change.DropService id)) refl refl refl refl refl)
+    old.members old.implications old.grants old.trusts (anchored_service_dropped id (catalogs S.rows) old.catalog)
+anchored_kept S moment (change.DropEndpoint id) fits old =
+    anchored_with S.rows (rows_after S.rows (change.DropEndpoint id)) (same_rows S.rows (rows_after S.rows (change.DropEndpoint id)) refl refl refl refl refl)
+    old.members old.implications old.grants old.trusts (anchored_endpoint_dropped id (catalogs S.rows) old.catalog)

@@ -18,6 +18,7 @@ use Rattle.ks_base.specs.declared.kinds.Kind.TheVariants as kind
 use Rattle.ks_base.specs.declared.receipt.Drawn.{Drawn}
 use Rattle.ks_base.specs.declared.shapes.Filter.{Filter}
 use Rattle.ks_base.specs.declared.users.MemberRow.{MemberRow}
+use Rattle.ks_base.specs.CatalogLists.{is_endpoint_listed, is_region_listed, is_service_listed}
 use Rattle.ks_base.specs.Grants.{grant_fault, stands, ungrant_fault}
 use Rattle.ks_base.specs.People.{member_of}
 use Rattle.ks_base.specs.PeopleFaults.{drop_group_fault, drop_user_fault, join_group_fault, leave_group_fault}
@@ -28,6 +29,7 @@ use Rattle.ks_base.specs.RoleLists.{is_implication}
 use Rattle.ks_base.specs.Rows.{Id, Text, Rows, domain_of, group_of, project_of, role_of, user_of}
 use Rattle.ks_base.specs.TreeFaults.{drop_domain_fault, drop_project_fault}
 use Rattle.ks_laws.specs.Orderly.{IsOrderly}
+use Rattle.ks_laws.proofs.CatalogRows.{good_create_catalog, good_delete_endpoint, good_delete_region, good_delete_service, good_update_catalog}
 use Rattle.ks_laws.proofs.GivesLemmas.{Gives, IsGood, gives_bind, gives_blame, gives_fault, gives_found, gives_go, gives_need, gives_past, gives_stop, good_changes, good_tells}
 use Rattle.ks_laws.proofs.ListLemmas.{all_mapped, all_of_each, each_filter}
 use Rattle.ks_laws.proofs.RowCommands.{good_change_password, good_create, good_update}
@@ -49,16 +51,18 @@ use Rattle.ks_machine.specs.declared.command.Command.TheVariants as command
 use Rattle.ks_machine.specs.Actions.{requirements}
 use Rattle.ks_machine.specs.Assignments.{assignments}
 use Rattle.ks_machine.specs.Attempts.{Attempt, Go, Known, found, need}
+use Rattle.ks_machine.specs.CatalogCommands.{show_catalog}
 use Rattle.ks_machine.specs.Fit.{AreFields, IsFolderFor, IsGrant}
 use Rattle.ks_machine.specs.Keys.{keys_read, load_keys, rotate_keys}
 use Rattle.ks_machine.specs.Lawful.{ActorStands, Fits, IsStanding, TakesKeys, TargetStands}
 use Rattle.ks_machine.specs.Listings.{delete, events, get, is_domain_listed, is_group_listed, is_project_listed, is_role_listed, is_user_listed, list, row_at, rows_listed}
 use Rattle.ks_machine.specs.Members.{actor_stands, all_stand, grant, grants_of, list_groups_of, implication, implied, implies, imply, is_granted, is_implied, is_in, join, leave, list_members_of, target_stands, told_inference, ungrant, unimply, unless_standing}
 use Rattle.ks_machine.specs.Moment.{last_moment}
-use Rattle.ks_machine.specs.Outcomes.{Outcome, key, tells}
+use Rattle.ks_machine.specs.Outcomes.{Outcome, key, made_id, tells}
 use Rattle.ks_machine.specs.States.{State}
 use Rattle.ks_machine.specs.Steps.{answered, as_caller, as_caller_about, caller_of, is_allowed, missing, revoked_subject, subject_of, told_subject}
-use Rattle.ks_machine.specs.Tables.{row_cause, tree_cause, people, roles, standing_domain, standing_group, standing_project, standing_role, standing_user, trees, unless_row, unless_tree}
+use Rattle.ks_machine.specs.Tables.{row_cause, tree_cause, people, roles, standing_domain, standing_endpoint, standing_group, standing_project, standing_region, standing_role, standing_service, standing_user, trees, unless_row, unless_tree}
+use Rattle.ks_machine.specs.Targets.{catalog_kind}
 use Rattle.ks_machine.specs.Told.{IsBodyTellable, IsEventTellable, IsRowTellable}
 use Rattle.ks_machine.specs.Validity.{Valid, validity}
 use Rattle.ks_ring.specs.Rings.{highest, refusal_of}
@@ -104,7 +108,7 @@ revoked_good : (S : State) (moment : ℕ) (text : Text) (subject : Valid) → Is
 unfolding Fits
 revoked_good S moment text subject is = record { fits = λ room. is.range.audit.0; told = tt }
 
--- rows of the five kinds
+-- rows of the kinds that have routes of their own
 
 row_tellable : (rows : Rows) (kind_of_row : Kind) (id : Id) → Gives IsRowTellable (row_at rows kind_of_row id)
 unfolding row_at
@@ -118,6 +122,9 @@ row_tellable rows kind.Grant id = gives_stop Row IsRowTellable (cause.Absent kin
 row_tellable rows kind.Member id = gives_stop Row IsRowTellable (cause.Absent kind.Member id)
 row_tellable rows kind.Trust id = gives_stop Row IsRowTellable (cause.Absent kind.Trust id)
 row_tellable rows kind.Event id = gives_stop Row IsRowTellable (cause.Absent kind.Event id)
+row_tellable rows kind.Region id = gives_past IsRowTellable (standing_region rows id) _ (λ found. gives_go Cause IsRowTellable (row.Region found) tt)
+row_tellable rows kind.Service id = gives_past IsRowTellable (standing_service rows id) _ (λ found. gives_go Cause IsRowTellable (row.Service found) tt)
+row_tellable rows kind.Endpoint id = gives_past IsRowTellable (standing_endpoint rows id) _ (λ found. gives_go Cause IsRowTellable (row.Endpoint found) tt)
 
 good_get : (S : State) (moment : ℕ) (kind_of_row : Kind) (id : Id) → Gives (IsGood S moment) (get S.rows kind_of_row id)
 unfolding get
@@ -136,6 +143,9 @@ listed_tellable rows kind.Grant filters = tt
 listed_tellable rows kind.Member filters = tt
 listed_tellable rows kind.Trust filters = tt
 listed_tellable rows kind.Event filters = tt
+listed_tellable rows kind.Region filters = all_mapped IsRowTellable (λ found. row.Region found) (filter (is_region_listed filters.fields) rows.regions) (λ x among. tt)
+listed_tellable rows kind.Service filters = all_mapped IsRowTellable (λ found. row.Service found) (filter (is_service_listed filters.fields) rows.services) (λ x among. tt)
+listed_tellable rows kind.Endpoint filters = all_mapped IsRowTellable (λ found. row.Endpoint found) (filter (is_endpoint_listed filters.fields) rows.endpoints) (λ x among. tt)
 
 good_list : (S : State) (moment : ℕ) (kind_of_row : Kind) (filters : Filter) → Gives {E = Cause} (IsGood S moment) (Go (list S.rows kind_of_row filters))
 unfolding list
@@ -168,6 +178,9 @@ good_delete S moment kind.Grant id = gives_stop Outcome (IsGood S moment) (cause
 good_delete S moment kind.Member id = gives_stop Outcome (IsGood S moment) (cause.Absent kind.Member id)
 good_delete S moment kind.Trust id = gives_stop Outcome (IsGood S moment) (cause.Absent kind.Trust id)
 good_delete S moment kind.Event id = gives_stop Outcome (IsGood S moment) (cause.Absent kind.Event id)
+good_delete S moment kind.Region id = good_delete_region S moment id
+good_delete S moment kind.Service id = good_delete_service S moment id
+good_delete S moment kind.Endpoint id = good_delete_endpoint S moment id
 
 -- memberships, implications and grants
 
@@ -344,6 +357,12 @@ good_assignments : (S : State) (moment : ℕ) (filters : Filter) → Gives {E = 
 unfolding assignments
 good_assignments S moment filters = good_tells S moment _ tt
 
+-- the catalog of the caller's own scope
+
+good_show_catalog : (S : State) (moment : ℕ) (caller : Valid) → Gives {E = Cause} (IsGood S moment) (Go (show_catalog S.rows caller))
+unfolding show_catalog
+good_show_catalog S moment caller = good_tells S moment _ tt
+
 -- all commands
 
 pub good_answered : (known : Known) (S : State) (moment : ℕ) (call : Call) (asked : Command) → IsOrderly S → S.high ≤ last_moment → moment ≤ last_moment →
@@ -393,3 +412,14 @@ good_answered known S moment call (command.TrustRoles id) old high le fields rea
 good_answered known S moment call command.Events old high le fields read = good_as_caller known S moment call _ (λ caller is. good_events S moment old high)
 good_answered known S moment call command.RotateKeys old high le fields read = good_as_caller known S moment call _ (λ caller is. good_rotate S moment call.draw old)
 good_answered known S moment call command.LoadKeys old high le fields read = good_as_caller known S moment call _ (λ caller is. good_load S moment call.folder old read)
+good_answered known S moment call (command.CreateCatalog asked) old high le fields read =
+    good_as_caller known S moment call _ (λ caller is. good_create_catalog S moment (made_id call.draw) asked.of asked fields)
+good_answered known S moment call (command.ListCatalog of filters) old high le fields read =
+    good_as_caller known S moment call _ (λ caller is. good_list S moment (catalog_kind of) filters)
+good_answered known S moment call (command.GetCatalog of id) old high le fields read =
+    good_as_caller known S moment call _ (λ caller is. good_get S moment (catalog_kind of) id)
+good_answered known S moment call (command.UpdateCatalog id asked) old high le fields read =
+    good_as_caller known S moment call _ (λ caller is. good_update_catalog S moment id asked.of asked old fields)
+good_answered known S moment call (command.DeleteCatalog of id) old high le fields read =
+    good_as_caller known S moment call _ (λ caller is. good_delete S moment (catalog_kind of) id)
+good_answered known S moment call command.ShowCatalog old high le fields read = good_as_caller known S moment call _ (λ caller is. good_show_catalog S moment caller)

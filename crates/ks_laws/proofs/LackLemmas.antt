@@ -13,7 +13,7 @@ use Rattle.ks_base.specs.Tables.{Among}
 use Rattle.ks_laws.specs.Lacking.{IsNewOf, IsTestedOf, IsTestedUser, IsTokenOf}
 use Rattle.ks_laws.proofs.AsksLemmas.{Asks, asks_behind_found, asks_behind_need, asks_bind, asks_blame, asks_decided, asks_fault, asks_found, asks_go, asks_map, asks_need, asks_unless}
 use Rattle.ks_laws.proofs.ListLemmas.{found_is_among, found_passes}
-use Rattle.ks_laws.proofs.QuietLemmas.{asks_allows, asks_create_domain, asks_create_group, asks_create_project, asks_create_role, asks_create_trust, asks_delete, asks_get, asks_grant, asks_grants_of, asks_is_granted, asks_is_in, asks_lines, asks_load, asks_room, asks_rotate, asks_scoped, asks_update_domain, asks_update_group, asks_update_project, asks_update_role}
+use Rattle.ks_laws.proofs.QuietLemmas.{asks_allows, asks_create_catalog, asks_create_domain, asks_create_group, asks_create_project, asks_create_role, asks_create_trust, asks_delete, asks_get, asks_grant, asks_grants_of, asks_is_granted, asks_is_in, asks_lines, asks_load, asks_room, asks_rotate, asks_scoped, asks_update_catalog, asks_update_domain, asks_update_group, asks_update_project, asks_update_role}
 use Rattle.ks_machine.specs.declared.bodies.LoginBody.{LoginBody}
 use Rattle.ks_machine.specs.declared.bodies.Made.{Made}
 use Rattle.ks_machine.specs.declared.bodies.Made.TheVariants as made
@@ -215,6 +215,12 @@ module _ (P : Lack → Type 0) (known : Known) (S : State) (call : Call) (checks
   asks_answered moment command.Events is drawn = asks_as_caller moment _ (λ caller. asks_go Cause P _)
   asks_answered moment command.RotateKeys is drawn = asks_as_caller moment _ (λ caller. asks_rotate P S call.draw)
   asks_answered moment command.LoadKeys is drawn = asks_as_caller moment _ (λ caller. asks_load P S call.folder)
+  asks_answered moment (command.CreateCatalog body) is drawn = asks_as_caller moment _ (λ caller. asks_create_catalog P S.rows _ body.of body)
+  asks_answered moment (command.ListCatalog of filters) is drawn = asks_as_caller moment _ (λ caller. asks_go Cause P _)
+  asks_answered moment (command.GetCatalog of id) is drawn = asks_as_caller moment _ (λ caller. asks_get P S.rows _ id)
+  asks_answered moment (command.UpdateCatalog id body) is drawn = asks_as_caller moment _ (λ caller. asks_update_catalog P S.rows id body.of body)
+  asks_answered moment (command.DeleteCatalog of id) is drawn = asks_as_caller moment _ (λ caller. asks_delete P S.rows _ id)
+  asks_answered moment command.ShowCatalog is drawn = asks_as_caller moment _ (λ caller. asks_go Cause P _)
 
   pub asks_checked : (moment : ℕ) → Asks P (checked known S moment call)
   unfolding checked

@@ -2,6 +2,7 @@ pub mod ListLemmas
 mod OpeningLemmas
 pub mod TreeLemmas
 mod PeopleLemmas
+mod CatalogLemmas
 mod TrustLemmas
 mod OrderLemmas
 mod AnchorLemmas
@@ -10,6 +11,7 @@ mod GivesLemmas
 mod LineLemmas
 mod TokenLemmas
 mod RowCommands
+mod CatalogRows
 mod TrustCommands
 mod CommandLemmas
 mod AsksLemmas

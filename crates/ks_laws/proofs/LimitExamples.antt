@@ -1,6 +1,13 @@
 -- Limits, and chains of tokens, on the state of the machine's examples, computed.
 use Rattle.std.proofs.Common.{◌≡◌, ℕ, ◌+◌, List, [], ◌∷◌, ◌++◌, Option, Some, None, true, false, refl}
 use Rattle.std.specs.Prelude.{replicate, codes}
+use Rattle.ks_base.specs.declared.catalog.CatalogIn.{CatalogIn}
+use Rattle.ks_base.specs.declared.catalog.CatalogKind.{CatalogKind}
+use Rattle.ks_base.specs.declared.catalog.CatalogKind.TheVariants as of
+use Rattle.ks_base.specs.declared.catalog.EndpointRow.{EndpointRow}
+use Rattle.ks_base.specs.declared.catalog.Interface.TheVariants as interface
+use Rattle.ks_base.specs.declared.catalog.RegionRow.{RegionRow}
+use Rattle.ks_base.specs.declared.catalog.ServiceRow.{ServiceRow}
 use Rattle.ks_base.specs.declared.events.EventRow.{EventRow}
 use Rattle.ks_base.specs.declared.events.Revoke.TheVariants as revoke
 use Rattle.ks_base.specs.declared.kinds.Kind.TheVariants as kind
@@ -47,6 +54,98 @@ roles_at_their_limit :
     ∷ []
 unfolding the_machine
 roles_at_their_limit = refl
+
+-- the catalog's tables at theirs
+
+abbrev without_fields : CatalogKind → CatalogIn
+without_fields what = record {
+  of = what;
+  id = None;
+  parent = None;
+  service = None;
+  region = None;
+  kind = None;
+  name = None;
+  description = None;
+  interface = None;
+  url = None;
+  enabled = None;
+}
+
+abbrev region_called : Id → RegionRow
+region_called id = record { id = id; parent = None; description = [] }
+
+abbrev with_regions : ℕ → Id → State
+with_regions count id = record start { rows = record start.rows { regions = replicate count (region_called id) } }
+
+abbrev made_region : Option Id → Option Id → Command
+made_region id parent = command.CreateCatalog (record (without_fields of.Region) { id = id; parent = parent })
+
+-- the 256th region has room, and the 257th has none; a region above that does not stand and a given id that stands are told before, and
+-- a drawn id that stands behind
+regions_at_their_limit :
+    cause_of (step known (with_regions 255 (codes "r")) (call (made_region None None) ann))
+    ∷ cause_of (step known (with_regions 256 (codes "r")) (call (made_region None None) ann))
+    ∷ cause_of (step known (with_regions 256 (codes "r")) (call (made_region (Some (codes "r")) (Some (codes "x"))) ann))
+    ∷ cause_of (step known (with_regions 256 (codes "r")) (call (made_region (Some (codes "r")) None) ann))
+    ∷ cause_of (step known (with_regions 256 drawn_id) (call (made_region None None) ann))
+    ∷ cause_of (step known (with_regions 255 drawn_id) (call (made_region None None) ann))
+    ∷ []
+    ≡ None
+    ∷ Some (cause.Full kind.Region)
+    ∷ Some (cause.Absent kind.Region (codes "x"))
+    ∷ Some (cause.NameTaken (codes "r"))
+    ∷ Some (cause.Full kind.Region)
+    ∷ Some (cause.IdTaken drawn_id)
+    ∷ []
+unfolding the_machine
+regions_at_their_limit = refl
+
+abbrev service_called : Id → ServiceRow
+service_called id = record { id = id; kind = codes "compute"; name = []; description = []; enabled = true }
+
+abbrev with_services : ℕ → Id → State
+with_services count id = record start { rows = record start.rows { services = replicate count (service_called id) } }
+
+abbrev made_service : Command
+made_service = command.CreateCatalog (record (without_fields of.Service) { kind = Some (codes "compute") })
+
+-- the 1,024th service has room, and the 1,025th has none
+services_at_their_limit :
+    cause_of (step known (with_services 1023 (codes "s")) (call made_service ann))
+    ∷ cause_of (step known (with_services 1024 (codes "s")) (call made_service ann))
+    ∷ cause_of (step known (with_services 1024 drawn_id) (call made_service ann))
+    ∷ cause_of (step known (with_services 1023 drawn_id) (call made_service ann))
+    ∷ []
+    ≡ None ∷ Some (cause.Full kind.Service) ∷ Some (cause.Full kind.Service) ∷ Some (cause.IdTaken drawn_id) ∷ []
+unfolding the_machine
+services_at_their_limit = refl
+
+abbrev endpoint_called : Id → EndpointRow
+endpoint_called id = record { id = id; service = codes "s"; region = None; interface = interface.Public; url = codes "http://c"; enabled = true }
+
+abbrev with_endpoints : ℕ → Id → State
+with_endpoints count id =
+    record start { rows = record start.rows { services = service_called (codes "s") ∷ []; endpoints = replicate count (endpoint_called id) } }
+
+abbrev made_endpoint : Id → Command
+made_endpoint service =
+    command.CreateCatalog (record (without_fields of.Endpoint) {
+      service = Some service;
+      interface = Some interface.Admin;
+      url = Some (codes "http://c");
+    })
+
+-- the 8,192nd endpoint has room, and the 8,193rd has none; a service that does not stand is told before
+endpoints_at_their_limit :
+    cause_of (step known (with_endpoints 8191 (codes "e")) (call (made_endpoint (codes "s")) ann))
+    ∷ cause_of (step known (with_endpoints 8192 (codes "e")) (call (made_endpoint (codes "s")) ann))
+    ∷ cause_of (step known (with_endpoints 8192 (codes "e")) (call (made_endpoint (codes "x")) ann))
+    ∷ cause_of (step known (with_endpoints 8191 drawn_id) (call (made_endpoint (codes "s")) ann))
+    ∷ []
+    ≡ None ∷ Some (cause.Full kind.Endpoint) ∷ Some (cause.Absent kind.Service (codes "x")) ∷ Some (cause.IdTaken drawn_id) ∷ []
+unfolding the_machine
+endpoints_at_their_limit = refl
 
 -- room for revocations
 

@@ -3,6 +3,7 @@ use Rattle.std.proofs.Common.{◌≡◌, ◌<◌, ◌≤◌, Bool, true, false, 
 use Rattle.std.specs.Prelude.{not}
 use Rattle.std.specs.List.{AllByRecursion, filter, find}
 use Rattle.std.specs.Ordering.{is_eq}
+use Rattle.std.proofs.lemmas.Bool.{both_ways}
 use Rattle.std.proofs.lemmas.Cmp.{nat_list_cmp_total}
 use Rattle.std.proofs.lemmas.Slice.Eq.{bytes_eq-Decides}
 use Rattle.ks_base.specs.OrderLaws.{id_exact}
@@ -127,6 +128,12 @@ stands_put {R} id_of row rows id stands = by (after_put id_of row rows id)
     by (inl (alike, there)) = ap is_some there
     by (inr unchanged) = ap is_some unchanged ∙ stands
 
+-- and when another is dropped
+pub other_stands : {R : Type 0} (id_of : R → Id) (gone id : Id) (rows : List R) → same id gone ≡ false → IsStanding (find_row id_cmp id_of id rows) →
+    IsStanding (find_row id_cmp id_of id (drop_row id_cmp id_of gone rows))
+other_stands id_of gone id rows out stands =
+    ap is_some (after_drop id_of gone rows id (λ is. both_ways (same id gone) out (is_same id gone (sym is)))) ∙ stands
+
 -- faults
 
 -- none of them applies
@@ -162,6 +169,12 @@ pub put_standing : {R F : Type 0} (found : Option R) (added : Option F) (Keeps :
     IsPut found added Keeps set
 put_standing None added Keeps set standing stands keeps fits = cc
 put_standing {R} {F} (Some row) added Keeps set standing stands keeps fits = let is : standing ≡ row = cc in (subst Keeps is keeps, fits)
+
+-- a put is an addition without a fault, or a change without one: what follows from either follows from it
+pub put_gives : {R F : Type 0} (P : Type 0) (found : Option R) (added : Option F) (Keeps : R → Type 0) (set : Option F) → (added ≡ None → P) → (set ≡ None → P) →
+    IsPut found added Keeps set → P
+put_gives P None added Keeps set new changed fits = new fits
+put_gives P (Some row) added Keeps set new changed fits = changed fits.1
 
 -- of two tests, where each row that passes the one passes the other, no fewer pass that, and more where one row passes it alone
 pub no_fewer : {X : Type 0} (p q : X → Bool) → ((x : X) → p x ≡ true → q x ≡ true) → (rows : List X) → length (filter p rows) ≤ length (filter q rows)

@@ -1,13 +1,16 @@
 -- An accepted opening opens an orderly state.
-use Rattle.std.proofs.Common.{◌≡◌, ℕ, ◌≤◌, Bool, true, false, ◌&&◌, ◌⊎◌, inl, inr, List, [], ◌∷◌, ◌++◌, length, Option, Some, None, is_some, option_map, refl, sym, ap, subst, ◌∙◌, append_assoc, arith}
+use Rattle.std.proofs.Common.{◌≡◌, ℕ, ◌≤◌, Bool, true, false, ◌&&◌, ◌⊎◌, inl, inr, List, [], ◌∷◌, ◌++◌, length, Option, Some, None, IfSome, is_some, option_map, refl, sym, ap, subst, ◌∙◌, append_assoc, arith}
 use Rattle.std.specs.Prelude.{not, nat_lt, ◌==◌, if◌then◌else◌}
 use Rattle.std.specs.List.{find, list_any}
-use Rattle.std.specs.Option.{option_or}
+use Rattle.std.specs.Option.{option_and_then, option_or}
 use Rattle.std.specs.declared.cmp.Ordering.{Ordering}
 use Rattle.std.specs.Cmp.{IsTotalOrder}
 use Rattle.std.proofs.lemmas.Bool.Decides.{nat_tests}
 use Rattle.std.proofs.lemmas.Cmp.{nat_list_cmp_total}
 use Rattle.std.proofs.lemmas.Bool.{and_parts, and_from, not-false}
+use Rattle.ks_base.specs.declared.catalog.EndpointRow.{EndpointRow}
+use Rattle.ks_base.specs.declared.catalog.RegionRow.{RegionRow}
+use Rattle.ks_base.specs.declared.catalog.ServiceRow.{ServiceRow}
 use Rattle.ks_base.specs.declared.faults.LoadFault.{LoadFault}
 use Rattle.ks_base.specs.declared.faults.LoadFault.TheVariants.{Empty, TooMany}
 use Rattle.ks_base.specs.declared.grants.Actor.{Actor}
@@ -25,6 +28,7 @@ use Rattle.ks_base.specs.declared.rows.ProjectRow.{ProjectRow}
 use Rattle.ks_base.specs.declared.rows.RoleRow.{RoleRow}
 use Rattle.ks_base.specs.declared.users.MemberRow.{MemberRow}
 use Rattle.ks_base.specs.declared.users.UserRow.{UserRow}
+use Rattle.ks_base.specs.Catalog.{region_of, service_of}
 use Rattle.ks_base.specs.OrderLaws.{grant_total, imply_total, member_total}
 use Rattle.ks_base.specs.Orders.{grant_cmp, imply_cmp, member_cmp}
 use Rattle.ks_base.specs.People.{is_group_named, is_user_named}
@@ -40,14 +44,15 @@ use Rattle.ks_base.proofs.OptionLemmas.{none_mapped}
 use Rattle.ks_base.proofs.AmongLemmas.{among_parts, among_left, among_right, any_to, any_from, among_next}
 use Rattle.ks_laws.specs.Ancestries.{HasAncestry}
 use Rattle.ks_laws.specs.Laws.{OpenedIsOrderly}
-use Rattle.ks_laws.specs.Orderly.{AreAnchored, AreInOrder, AreNamesUnique, ArePeopleOrderly, AreTreesOrderly, AreTrustsOrderly, DomainStands, Each, IsGrantAnchored, IsImplicationAnchored, IsMemberAnchored}
+use Rattle.ks_laws.specs.Orderly.{AreAnchored, AreInOrder, AreNamesUnique, ArePeopleOrderly, AreTreesOrderly, AreTrustsOrderly, DomainStands, Each, IsCatalogAnchored, IsCatalogInOrder, IsCatalogInRange, IsEndpointAnchored, IsGrantAnchored, IsImplicationAnchored, IsMemberAnchored, RegionStands}
 use Rattle.ks_laws.proofs.ListLemmas.{after_put, each_of_all, found_none, is_same, is_there, none_apply, same_is, unless_fault}
 use Rattle.ks_machine.specs.declared.settings.OpenFault.{OpenFault}
 use Rattle.ks_machine.specs.declared.settings.OpenFault.TheVariants as fault
 use Rattle.ks_machine.specs.Lawful.{ActorStands, IsOpeningInRange, IsStanding, TargetStands}
-use Rattle.ks_machine.specs.Opened.{absent_fault, project_below_disabled, first_alone, first_fault, first_in, full_fault, id_repeated, ids_fault, name_repeated, names_fault, no_actor, no_domain, no_group, no_role, no_target, no_user, open_fault, opened_state, parent_absent, prohibited, put_all, rows_opened, project_too_deep}
+use Rattle.ks_machine.specs.Opened.{absent_fault, project_below_disabled, first_alone, first_fault, first_in, full_fault, id_repeated, ids_fault, name_repeated, names_fault, no_actor, no_domain, no_group, no_region, no_role, no_service, no_target, no_user, open_fault, opened_state, parent_absent, prohibited, put_all, rows_opened, project_too_deep, upper_region_absent}
 use Rattle.ks_machine.specs.Openings.{PlainOpening}
-use Rattle.ks_machine.specs.Ranges.{IsDomainInRange, IsGroupInRange, IsProjectInRange, IsRoleInRange, IsUserInRange}
+use Rattle.ks_machine.specs.Ranges.{IsDomainInRange, IsEndpointInRange, IsGroupInRange, IsProjectInRange, IsRegionInRange, IsRoleInRange, IsServiceInRange, IsUserInRange}
+use Rattle.ks_machine.specs.Tables.{catalogs}
 use Rattle.ks_ring.specs.Rings.{no_ring, refusal_of}
 use Rattle.ks_ring.proofs.LawLemmas.{loading_adds_few}
 
@@ -231,7 +236,10 @@ id_faults opening =
     first_fault (id_repeated kind.Project (λ row. row.id)) opening.projects ∷
     first_fault (id_repeated kind.User (λ row. row.id)) opening.users ∷
     first_fault (id_repeated kind.Group (λ row. row.id)) opening.groups ∷
-    first_fault (id_repeated kind.Role (λ row. row.id)) opening.roles ∷ []
+    first_fault (id_repeated kind.Role (λ row. row.id)) opening.roles ∷
+    first_fault (id_repeated kind.Region (λ row. row.id)) opening.regions ∷
+    first_fault (id_repeated kind.Service (λ row. row.id)) opening.services ∷
+    first_fault (id_repeated kind.Endpoint (λ row. row.id)) opening.endpoints ∷ []
 
 abbrev name_faults : PlainOpening → List (Option OpenFault)
 name_faults opening =
@@ -248,6 +256,8 @@ absent_faults rows opening =
     first_alone (λ row. no_domain rows row.domain) opening.groups ∷
     first_alone (λ row. option_or (no_group rows row.group) (no_user rows row.user)) opening.members ∷
     first_alone (λ row. option_or (no_role rows row.prior) (no_role rows row.implied)) opening.implications ∷
+    first_fault upper_region_absent opening.regions ∷
+    first_alone (λ row. option_or (no_service rows row.service) (no_region rows row.region)) opening.endpoints ∷
     first_alone (λ row. first_of (no_actor rows row.actor ∷ no_target rows row.target ∷ no_role rows row.role ∷ [])) opening.assignments ∷ []
 
 abbrev open_faults : PlainOpening → List (Option OpenFault)
@@ -307,6 +317,14 @@ people_opened opening range names absent = record {
 no_trusts : AreTrustsOrderly []
 no_trusts = record { range = λ trust among. absurd among; chains = λ trust among. absurd among }
 
+catalog_in_order : (opening : PlainOpening) → IsCatalogInOrder (catalogs (rows_opened opening))
+unfolding rows_opened
+catalog_in_order opening = record {
+  regions = ascending_all id_cmp (λ (r : RegionRow). r.id) nat_list_cmp_total opening.regions;
+  services = ascending_all id_cmp (λ (r : ServiceRow). r.id) nat_list_cmp_total opening.services;
+  endpoints = ascending_all id_cmp (λ (r : EndpointRow). r.id) nat_list_cmp_total opening.endpoints;
+}
+
 in_order_opened : (opening : PlainOpening) → AreInOrder (rows_opened opening)
 unfolding rows_opened
 in_order_opened opening = record {
@@ -319,6 +337,7 @@ in_order_opened opening = record {
   implications = ascending_all imply_cmp (λ (r : ImplyRow). r) imply_total opening.implications;
   grants = ascending_all grant_cmp (λ (r : GrantRow). r) grant_total opening.assignments;
   trusts = tt;
+  catalog = catalog_in_order opening;
 }
 
 -- what memberships, implications and grants of a file name stands
@@ -361,18 +380,82 @@ grant_anchored rows row none =
 pass_alone : {R : Type 0} (fault_of : R → Option OpenFault) (rows : List R) → first_alone fault_of rows ≡ None → Each (λ row. fault_of row ≡ None) rows
 pass_alone fault_of rows none = each_alone fault_of [] rows (all_pass (λ _. fault_of) [] rows none)
 
-anchored_opened : (opening : PlainOpening) → absent_fault (rows_opened opening) opening ≡ None → AreAnchored (rows_opened opening)
+-- what regions and endpoints of a file name stands: a region above is one before it
+
+abbrev no_upper : List RegionRow → Id → Option OpenFault
+no_upper before id = fault_if (not (list_any (λ other. same other.id id) before)) (fault.Absent kind.Region id)
+
+upper_stands : (regions : List RegionRow) (before : List RegionRow) (row : RegionRow) → upper_region_absent before row ≡ None →
+    ((other : RegionRow) → Among before other → IsStanding (region_of other.id regions)) → IfSome row.parent (λ (id : Id). IsStanding (region_of id regions))
+upper_stands regions before row none stand = by row.parent refl
+  where
+    named : (id : Id) → (other : RegionRow) × Among before other × (same other.id id ≡ true) → IsStanding (region_of id regions)
+    named id (other, among, is) = subst (λ (k : Id). IsStanding (region_of k regions)) (same_is other.id id is) (stand other among)
+
+    by : (parent : Option Id) → row.parent ≡ parent → IfSome parent (λ (id : Id). IsStanding (region_of id regions))
+    by None is = tt
+    by (Some id) is =
+        let free : fault_if (not (list_any (λ (other : RegionRow). same other.id id) before)) (fault.Absent kind.Region id) ≡ None = ap (option_and_then (no_upper before)) (sym is) ∙ none in
+        named id (any_from (λ (other : RegionRow). same other.id id) before (not-false (list_any (λ (other : RegionRow). same other.id id) before) (unless_fault _ _ free)))
+
+regions_anchored : (regions before more : List RegionRow) → AllPass upper_region_absent before more →
+    ((other : RegionRow) → Among (before ++ more) other → IsStanding (region_of other.id regions)) →
+    Each (λ (row : RegionRow). IfSome row.parent (λ (id : Id). IsStanding (region_of id regions))) more
+regions_anchored regions before [] pass stand x among = absurd among
+regions_anchored regions before (row ∷ more) pass stand x (inl is) =
+    subst (λ (y : RegionRow). IfSome y.parent (λ (id : Id). IsStanding (region_of id regions))) is
+    (upper_stands regions before row pass.0 (λ other among. stand other (among_left before (row ∷ more) other among)))
+regions_anchored regions before (row ∷ more) pass stand x (inr among) =
+    regions_anchored regions (before ++ row ∷ []) more pass.1
+    (λ other among. stand other (subst (λ (l : List RegionRow). Among l other) (append_assoc before (row ∷ []) more) among)) x among
+
+region_named : (rows : Rows) (id : Option Id) → no_region rows id ≡ None → IfSome id (RegionStands (catalogs rows))
+region_named rows None none = tt
+region_named rows (Some id) none = stands_unless (region_of id rows.regions) (fault.Absent kind.Region id) none
+
+endpoint_anchored : (rows : Rows) (row : EndpointRow) → option_or (no_service rows row.service) (no_region rows row.region) ≡ None → IsEndpointAnchored (catalogs rows) row
+endpoint_anchored rows row none =
+    let both = or_none (no_service rows row.service) (no_region rows row.region) none in record {
+      service = stands_unless (service_of row.service rows.services) (fault.Absent kind.Service row.service) both.0;
+      region = region_named rows row.region both.1;
+    }
+
+catalog_anchored : (opening : PlainOpening) → ids_fault opening ≡ None → first_fault upper_region_absent opening.regions ≡ None →
+    first_alone (λ row. option_or (no_service (rows_opened opening) row.service) (no_region (rows_opened opening) row.region)) opening.endpoints ≡ None →
+    IsCatalogAnchored (catalogs (rows_opened opening))
+unfolding ids_fault rows_opened
+catalog_anchored opening ids upper named = record {
+  regions = each_opened id_cmp (λ (r : RegionRow). r.id) _ opening.regions
+      (regions_anchored (by_id (λ (r : RegionRow). r.id) opening.regions) [] opening.regions (all_pass upper_region_absent [] opening.regions upper)
+      (λ other among. ap is_some (found_all (λ (r : RegionRow). r.id) opening.regions other unique among)));
+  endpoints = each_opened id_cmp (λ (r : EndpointRow). r.id) (IsEndpointAnchored (catalogs (rows_opened opening))) opening.endpoints
+      (λ row among. endpoint_anchored (rows_opened opening) row (pass_alone _ opening.endpoints named row among));
+}
+  where
+    unique : IsUnique (λ (r : RegionRow). r.id) opening.regions
+    unique = unique_ids kind.Region (λ (r : RegionRow). r.id) opening.regions (none_apply (id_faults opening) ids).1.1.1.1.1.0
+
+anchored_opened : (opening : PlainOpening) → ids_fault opening ≡ None → absent_fault (rows_opened opening) opening ≡ None → AreAnchored (rows_opened opening)
 unfolding absent_fault rows_opened
-anchored_opened opening absent =
+anchored_opened opening ids absent =
     let faults = none_apply (absent_faults (rows_opened opening) opening) absent in record {
       members = each_opened member_cmp (λ (r : MemberRow). r) (IsMemberAnchored (rows_opened opening)) opening.members
           (λ row among. member_anchored (rows_opened opening) row (pass_alone _ opening.members faults.1.1.1.0 row among));
       implications = each_opened imply_cmp (λ (r : ImplyRow). r) (IsImplicationAnchored (rows_opened opening)) opening.implications
           (λ row among. implication_anchored (rows_opened opening) row (pass_alone _ opening.implications faults.1.1.1.1.0 row among));
       grants = each_opened grant_cmp (λ (r : GrantRow). r) (IsGrantAnchored (rows_opened opening)) opening.assignments
-          (λ row among. grant_anchored (rows_opened opening) row (pass_alone _ opening.assignments faults.1.1.1.1.1.0 row among));
+          (λ row among. grant_anchored (rows_opened opening) row (pass_alone _ opening.assignments faults.1.1.1.1.1.1.1.0 row among));
       trusts = λ trust among. absurd among;
+      catalog = catalog_anchored opening ids faults.1.1.1.1.1.0 faults.1.1.1.1.1.1.0;
     }
+
+catalog_opened : (opening : PlainOpening) → IsOpeningInRange opening → IsCatalogInRange (catalogs (rows_opened opening))
+unfolding rows_opened
+catalog_opened opening range = record {
+  regions = each_opened id_cmp (λ r. r.id) IsRegionInRange opening.regions (each_of_all IsRegionInRange opening.regions range.regions);
+  services = each_opened id_cmp (λ r. r.id) IsServiceInRange opening.services (each_of_all IsServiceInRange opening.services range.services);
+  endpoints = each_opened id_cmp (λ r. r.id) IsEndpointInRange opening.endpoints (each_of_all IsEndpointInRange opening.endpoints range.endpoints);
+}
 
 pub opened_is_orderly : OpenedIsOrderly
 unfolding open_fault opened_state rows_opened
@@ -383,8 +466,9 @@ opened_is_orderly opening range none = record {
     people = people_opened opening range names absent;
     roles = each_opened id_cmp (λ r. r.id) IsRoleInRange opening.roles (each_of_all IsRoleInRange opening.roles range.roles);
     trusts = no_trusts;
+    catalog = catalog_opened opening range;
   };
-  anchored = anchored_opened opening absent;
+  anchored = anchored_opened opening ids absent;
   order = in_order_opened opening;
   events = λ event among. absurd among;
   ring = omega (arith, loading_adds_few no_ring opening.ring, few_keys opening.ring ring);

@@ -1,5 +1,9 @@
 -- Checks that lack no fact, whatever is known: none of them is given what is known.
 use Rattle.std.proofs.Common.{ℕ, Bool, List, [], ◌∷◌, Option, Some, None}
+use Rattle.ks_base.specs.declared.catalog.CatalogIn.{CatalogIn}
+use Rattle.ks_base.specs.declared.catalog.CatalogKind.{CatalogKind}
+use Rattle.ks_base.specs.declared.catalog.CatalogKind.TheVariants as of_catalog
+use Rattle.ks_base.specs.declared.catalog.RegionRow.{RegionRow}
 use Rattle.ks_base.specs.declared.grants.Actor.{Actor}
 use Rattle.ks_base.specs.declared.grants.Actor.TheVariants as actor
 use Rattle.ks_base.specs.declared.grants.GrantRow.{GrantRow}
@@ -26,6 +30,7 @@ use Rattle.ks_machine.specs.declared.change.Change.{Change}
 use Rattle.ks_machine.specs.declared.command.Command.{Command}
 use Rattle.ks_machine.specs.declared.lines.ReadToken.{ReadToken}
 use Rattle.ks_machine.specs.Attempts.{Lack}
+use Rattle.ks_machine.specs.CatalogCommands.{create_catalog, create_endpoint, create_region, create_service, given_id_free, update_catalog, update_endpoint, update_region, update_service}
 use Rattle.ks_machine.specs.Creations.{create_domain, create_group, create_project, create_role}
 use Rattle.ks_machine.specs.Keys.{keys_read, load_keys, rotate_keys}
 use Rattle.ks_machine.specs.Listings.{delete, get, row_at}
@@ -103,6 +108,9 @@ module _ (P : Lack → Type 0) where
   asks_row rows kind.Member id = asks_stop _ P _
   asks_row rows kind.Trust id = asks_stop _ P _
   asks_row rows kind.Event id = asks_stop _ P _
+  asks_row rows kind.Region id = asks_map P _ _ (asks_found P _ _)
+  asks_row rows kind.Service id = asks_map P _ _ (asks_found P _ _)
+  asks_row rows kind.Endpoint id = asks_map P _ _ (asks_found P _ _)
 
   pub asks_get : (rows : Rows) (of : Kind) (id : Id) → Asks P (get rows of id)
   unfolding get
@@ -120,6 +128,9 @@ module _ (P : Lack → Type 0) where
   asks_delete rows kind.Member id = asks_stop _ P _
   asks_delete rows kind.Trust id = asks_stop _ P _
   asks_delete rows kind.Event id = asks_stop _ P _
+  asks_delete rows kind.Region id = asks_map P _ _ (asks_fault P _ _)
+  asks_delete rows kind.Service id = asks_map P _ _ (asks_found P _ _)
+  asks_delete rows kind.Endpoint id = asks_map P _ _ (asks_found P _ _)
 
   -- memberships, implications and grants
 
@@ -224,3 +235,22 @@ module _ (P : Lack → Type 0) where
   pub asks_update_role : (rows : Rows) (id : Id) (given : Option Id) (name description : Option Text) → Asks P (update_role rows id given name description)
   unfolding update_role
   asks_update_role rows id given name description = search (asks_bind, asks_go, asks_found, asks_need, asks_fault) depth 16
+
+  -- the catalog
+
+  asks_id_free : (rows : Rows) (new : RegionRow) (given : Option Id) → Asks P (given_id_free rows new given)
+  unfolding given_id_free
+  asks_id_free rows new None = asks_go Cause P _
+  asks_id_free rows new (Some id) = search (asks_bind, asks_need, asks_fault) depth 14
+
+  pub asks_create_catalog : (rows : Rows) (id : Id) (of : CatalogKind) (asked : CatalogIn) → Asks P (create_catalog rows id of asked)
+  unfolding create_catalog create_region create_service create_endpoint
+  asks_create_catalog rows id of_catalog.Region asked = search (asks_bind, asks_go, asks_fault, asks_id_free) depth 16
+  asks_create_catalog rows id of_catalog.Service asked = search (asks_bind, asks_go, asks_found, asks_fault) depth 16
+  asks_create_catalog rows id of_catalog.Endpoint asked = search (asks_bind, asks_go, asks_found, asks_fault) depth 20
+
+  pub asks_update_catalog : (rows : Rows) (id : Id) (of : CatalogKind) (asked : CatalogIn) → Asks P (update_catalog rows id of asked)
+  unfolding update_catalog update_region update_service update_endpoint
+  asks_update_catalog rows id of_catalog.Region asked = search (asks_bind, asks_go, asks_found, asks_need, asks_fault) depth 16
+  asks_update_catalog rows id of_catalog.Service asked = search (asks_bind, asks_go, asks_found, asks_need) depth 16
+  asks_update_catalog rows id of_catalog.Endpoint asked = search (asks_bind, asks_go, asks_found, asks_need, asks_fault) depth 16

@@ -51,7 +51,7 @@ made_name : (given : Option Id) (name : Option Text) → IsMadeName true given n
 made_name given None is = absurd is
 made_name given (Some name) is = is.1
 
-made_description : (description : Option Text) → IfSome description IsDescription → IsDescription (text_or_empty description)
+pub made_description : (description : Option Text) → IfSome description IsDescription → IsDescription (text_or_empty description)
 made_description None is = omega arith
 made_description (Some description) is = is
 
@@ -59,7 +59,7 @@ name_or : (given : Option Text) (old : Text) → IfSome given IsName → IsName 
 name_or None old is was = was
 name_or (Some name) old is was = is
 
-description_or : (given : Option Text) (old : Text) → IfSome given IsDescription → IsDescription old → IsDescription (unwrap_or given old)
+pub description_or : (given : Option Text) (old : Text) → IfSome given IsDescription → IsDescription old → IsDescription (unwrap_or given old)
 description_or None old is was = was
 description_or (Some description) old is was = is
 

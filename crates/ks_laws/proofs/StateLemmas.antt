@@ -8,6 +8,7 @@ use Rattle.ks_base.proofs.AmongLemmas.{among_parts, among_mapped}
 use Rattle.ks_laws.specs.Laws.{ChangesKeepOrderly, TimeKeepsOrderly}
 use Rattle.ks_laws.specs.Orderly.{AreRowsOrderly, Each}
 use Rattle.ks_laws.proofs.AnchorLemmas.{anchored_kept}
+use Rattle.ks_laws.proofs.CatalogLemmas.{endpoint_dropped, endpoint_put, region_dropped, region_put, service_dropped, service_put}
 use Rattle.ks_laws.proofs.ListLemmas.{each_drop, each_put}
 use Rattle.ks_laws.proofs.OpeningLemmas.{few_keys}
 use Rattle.ks_laws.proofs.OrderLemmas.{order_kept}
@@ -20,7 +21,7 @@ use Rattle.ks_machine.specs.Changes.{apply, domain_dropped, ended_by, events_at,
 use Rattle.ks_machine.specs.Lawful.{Fits}
 use Rattle.ks_machine.specs.Ranges.{IsRoleInRange}
 use Rattle.ks_machine.specs.States.{State}
-use Rattle.ks_machine.specs.Tables.{people, trees}
+use Rattle.ks_machine.specs.Tables.{catalogs, people, trees}
 use Rattle.ks_ring.proofs.LawLemmas.{loading_adds_few, rotation_rises}
 
 rows_kept : (S : State) (moment : ℕ) (what : Change) → Fits S moment what → AreRowsOrderly S.rows → AreRowsOrderly (rows_after S.rows what)
@@ -30,88 +31,143 @@ rows_kept S moment (change.PutDomain row) fits old = record {
   people = people_domain_put row S.rows.domains S.rows.users S.rows.groups old.people;
   roles = old.roles;
   trusts = old.trusts;
+  catalog = old.catalog;
 }
 rows_kept S moment (change.PutProject row) fits old = record {
   trees = trees_project_put row S.rows.domains S.rows.projects fits.0 (is_placed (trees S.rows) row _ old.trees fits.1) old.trees;
   people = old.people;
   roles = old.roles;
   trusts = old.trusts;
+  catalog = old.catalog;
 }
 rows_kept S moment (change.PutUser row) fits old = record {
   trees = old.trees;
   people = people_user_put row S.rows.domains S.rows.users S.rows.groups fits.0 fits.1 (is_alone (people S.rows) row fits.2) old.people;
   roles = old.roles;
   trusts = old.trusts;
+  catalog = old.catalog;
 }
 rows_kept S moment (change.PutGroup row) fits old = record {
   trees = old.trees;
   people = people_group_put row S.rows.domains S.rows.users S.rows.groups fits.0 fits.1 old.people;
   roles = old.roles;
   trusts = old.trusts;
+  catalog = old.catalog;
 }
 rows_kept S moment (change.PutRole row) fits old = record {
   trees = old.trees;
   people = old.people;
   roles = each_put (λ (r : RoleRow). r.id) IsRoleInRange row S.rows.roles fits.0 old.roles;
   trusts = old.trusts;
+  catalog = old.catalog;
 }
 rows_kept S moment (change.PutTrust row) fits old = record {
   trees = old.trees;
   people = old.people;
   roles = old.roles;
   trusts = trusts_put S.rows moment row fits old.trusts;
+  catalog = old.catalog;
 }
 rows_kept S moment (change.DropDomain id) fits old = record {
   trees = trees_domain_dropped id S.rows.domains S.rows.projects old.trees;
   people = people_domain_dropped id S.rows.domains S.rows.users S.rows.groups old.people;
   roles = old.roles;
   trusts = trusts_gone_from S.rows.trusts (touches S.rows (change.DropDomain id)) old.trusts;
+  catalog = old.catalog;
 }
 rows_kept S moment (change.DropProject id) fits old = record {
   trees = trees_project_dropped id S.rows.domains S.rows.projects (has_no_children (trees S.rows) id fits) old.trees;
   people = old.people;
   roles = old.roles;
   trusts = trusts_gone_from S.rows.trusts (touches S.rows (change.DropProject id)) old.trusts;
+  catalog = old.catalog;
 }
 rows_kept S moment (change.DropUser id) fits old = record {
   trees = old.trees;
   people = people_user_dropped id S.rows.domains S.rows.users S.rows.groups old.people;
   roles = old.roles;
   trusts = trusts_gone_from S.rows.trusts (touches S.rows (change.DropUser id)) old.trusts;
+  catalog = old.catalog;
 }
 rows_kept S moment (change.DropGroup id) fits old = record {
   trees = old.trees;
   people = people_group_dropped id S.rows.domains S.rows.users S.rows.groups old.people;
   roles = old.roles;
   trusts = old.trusts;
+  catalog = old.catalog;
 }
 rows_kept S moment (change.DropRole id) fits old = record {
   trees = old.trees;
   people = old.people;
   roles = each_drop (λ (r : RoleRow). r.id) IsRoleInRange id S.rows.roles old.roles;
   trusts = trusts_gone_from S.rows.trusts (touches S.rows (change.DropRole id)) old.trusts;
+  catalog = old.catalog;
 }
 rows_kept S moment (change.DropTrust id) fits old = record {
   trees = old.trees;
   people = old.people;
   roles = old.roles;
   trusts = trusts_gone_from S.rows.trusts (touches S.rows (change.DropTrust id)) old.trusts;
+  catalog = old.catalog;
 }
 rows_kept S moment (change.UseTrust id) fits old = record {
   trees = old.trees;
   people = old.people;
   roles = old.roles;
   trusts = trusts_used id S.rows.trusts old.trusts;
+  catalog = old.catalog;
 }
-rows_kept S moment (change.Join row) fits old = record { trees = old.trees; people = old.people; roles = old.roles; trusts = old.trusts }
-rows_kept S moment (change.Leave row) fits old = record { trees = old.trees; people = old.people; roles = old.roles; trusts = old.trusts }
-rows_kept S moment (change.Imply row) fits old = record { trees = old.trees; people = old.people; roles = old.roles; trusts = old.trusts }
-rows_kept S moment (change.Unimply row) fits old = record { trees = old.trees; people = old.people; roles = old.roles; trusts = old.trusts }
-rows_kept S moment (change.Grant row) fits old = record { trees = old.trees; people = old.people; roles = old.roles; trusts = old.trusts }
-rows_kept S moment (change.Ungrant row) fits old = record { trees = old.trees; people = old.people; roles = old.roles; trusts = old.trusts }
+rows_kept S moment (change.Join row) fits old = record { trees = old.trees; people = old.people; roles = old.roles; trusts = old.trusts; catalog = old.catalog }
+rows_kept S moment (change.Leave row) fits old = record { trees = old.trees; people = old.people; roles = old.roles; trusts = old.trusts; catalog = old.catalog }
+rows_kept S moment (change.Imply row) fits old = record { trees = old.trees; people = old.people; roles = old.roles; trusts = old.trusts; catalog = old.catalog }
+rows_kept S moment (change.Unimply row) fits old = record { trees = old.trees; people = old.people; roles = old.roles; trusts = old.trusts; catalog = old.catalog }
+rows_kept S moment (change.Grant row) fits old = record { trees = old.trees; people = old.people; roles = old.roles; trusts = old.trusts; catalog = old.catalog }
+rows_kept S moment (change.Ungrant row) fits old = record { trees = old.trees; people = old.people; roles = old.roles; trusts = old.trusts; catalog = old.catalog }
 rows_kept S moment (change.RevokeToken audit) fits old = old
 rows_kept S moment (change.Rotate key) fits old = old
 rows_kept S moment (change.Load keys) fits old = old
+rows_kept S moment (change.PutRegion row) fits old = record {
+  trees = old.trees;
+  people = old.people;
+  roles = old.roles;
+  trusts = old.trusts;
+  catalog = region_put row (catalogs S.rows) fits.0 old.catalog;
+}
+rows_kept S moment (change.PutService row) fits old = record {
+  trees = old.trees;
+  people = old.people;
+  roles = old.roles;
+  trusts = old.trusts;
+  catalog = service_put row (catalogs S.rows) fits.0 old.catalog;
+}
+rows_kept S moment (change.PutEndpoint row) fits old = record {
+  trees = old.trees;
+  people = old.people;
+  roles = old.roles;
+  trusts = old.trusts;
+  catalog = endpoint_put row (catalogs S.rows) fits.0 old.catalog;
+}
+rows_kept S moment (change.DropRegion id) fits old = record {
+  trees = old.trees;
+  people = old.people;
+  roles = old.roles;
+  trusts = old.trusts;
+  catalog = region_dropped id (catalogs S.rows) old.catalog;
+}
+rows_kept S moment (change.DropService id) fits old = record {
+  trees = old.trees;
+  people = old.people;
+  roles = old.roles;
+  trusts = old.trusts;
+  catalog = service_dropped id (catalogs S.rows) old.catalog;
+}
+rows_kept S moment (change.DropEndpoint id) fits old = record {
+  trees = old.trees;
+  people = old.people;
+  roles = old.roles;
+  trusts = old.trusts;
+  catalog = endpoint_dropped id (catalogs S.rows) old.catalog;
+}
 
 -- the next number of the ring
 
@@ -139,6 +195,12 @@ ring_kept S moment (change.Grant row) fits = omega arith
 ring_kept S moment (change.Ungrant row) fits = omega arith
 ring_kept S moment (change.UseTrust id) fits = omega arith
 ring_kept S moment (change.RevokeToken audit) fits = omega arith
+ring_kept S moment (change.PutRegion row) fits = omega arith
+ring_kept S moment (change.PutService row) fits = omega arith
+ring_kept S moment (change.PutEndpoint row) fits = omega arith
+ring_kept S moment (change.DropRegion id) fits = omega arith
+ring_kept S moment (change.DropService id) fits = omega arith
+ring_kept S moment (change.DropEndpoint id) fits = omega arith
 
 -- revocations
 

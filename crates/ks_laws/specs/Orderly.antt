@@ -1,5 +1,8 @@
 -- What holds of the state of every lawful front: rows have their ranges, and what they name stands.
 use Rattle.std.specs.Prelude.{◌≡◌, ◌+◌, ◌*◌, ◌≤◌, List, length, IfSome}
+use Rattle.ks_base.specs.declared.catalog.EndpointRow.{EndpointRow}
+use Rattle.ks_base.specs.declared.catalog.RegionRow.{RegionRow}
+use Rattle.ks_base.specs.declared.catalog.ServiceRow.{ServiceRow}
 use Rattle.ks_base.specs.declared.events.EventRow.{EventRow}
 use Rattle.ks_base.specs.declared.grants.GrantRow.{GrantRow}
 use Rattle.ks_base.specs.declared.grants.ImplyRow.{ImplyRow}
@@ -11,14 +14,16 @@ use Rattle.ks_base.specs.declared.rows.RoleRow.{RoleRow}
 use Rattle.ks_base.specs.declared.trusts.TrustRow.{TrustRow}
 use Rattle.ks_base.specs.declared.users.MemberRow.{MemberRow}
 use Rattle.ks_base.specs.declared.users.UserRow.{UserRow}
+use Rattle.ks_base.specs.Catalog.{CatalogState, region_of, service_of}
 use Rattle.ks_base.specs.Orders.{grant_cmp, imply_cmp, member_cmp}
 use Rattle.ks_base.specs.Rows.{Id, Rows, domain_of, group_of, project_of, role_of, user_of}
 use Rattle.ks_base.specs.Tables.{Among, IsAscending, id_cmp}
 use Rattle.ks_base.specs.Trusts.{AreChained}
 use Rattle.ks_laws.specs.Ancestries.{HasAncestry}
 use Rattle.ks_machine.specs.Lawful.{ActorStands, IsStanding, TargetStands}
-use Rattle.ks_machine.specs.Ranges.{IsDomainInRange, IsExpiry, IsGroupInRange, IsLastOf, IsProjectInRange, IsRoleInRange, IsSettings, IsUserInRange}
+use Rattle.ks_machine.specs.Ranges.{IsDomainInRange, IsEndpointInRange, IsExpiry, IsGroupInRange, IsLastOf, IsProjectInRange, IsRegionInRange, IsRoleInRange, IsServiceInRange, IsSettings, IsUserInRange}
 use Rattle.ks_machine.specs.States.{State}
+use Rattle.ks_machine.specs.Tables.{catalogs}
 
 -- each of the rows
 abbrev pub Each : {X : Type 0} → (X → Type 0) → List X → Type 0
@@ -61,7 +66,13 @@ pub record AreTrustsOrderly (trusts : List TrustRow) : Type 0 where
   pub range : Each IsTrustHeld trusts
   pub chains : AreChained trusts
 
--- what memberships, implications, grants and trusts name stands
+-- regions, services and endpoints: in range
+pub record IsCatalogInRange (catalog : CatalogState) : Type 0 where
+  pub regions : Each IsRegionInRange catalog.regions
+  pub services : Each IsServiceInRange catalog.services
+  pub endpoints : Each IsEndpointInRange catalog.endpoints
+
+-- what memberships, implications, grants, trusts and the catalog name stands
 
 pub record IsMemberAnchored (rows : Rows) (row : MemberRow) : Type 0 where
   pub group : IsStanding (group_of row.group rows.groups)
@@ -82,13 +93,30 @@ pub record IsTrustAnchored (rows : Rows) (trust : TrustRow) : Type 0 where
   pub project : IsStanding (project_of trust.project rows.projects)
   pub roles : Each (λ role. IsStanding (role_of role rows.roles)) trust.roles
 
+abbrev pub RegionStands : CatalogState → Id → Type 0
+RegionStands catalog id = IsStanding (region_of id catalog.regions)
+
+pub record IsEndpointAnchored (catalog : CatalogState) (row : EndpointRow) : Type 0 where
+  pub service : IsStanding (service_of row.service catalog.services)
+  pub region : IfSome row.region (RegionStands catalog)
+
+pub record IsCatalogAnchored (catalog : CatalogState) : Type 0 where
+  pub regions : Each (λ row. IfSome row.parent (RegionStands catalog)) catalog.regions
+  pub endpoints : Each (IsEndpointAnchored catalog) catalog.endpoints
+
 pub record AreAnchored (rows : Rows) : Type 0 where
   pub members : Each (IsMemberAnchored rows) rows.members
   pub implications : Each (IsImplicationAnchored rows) rows.implications
   pub grants : Each (IsGrantAnchored rows) rows.grants
   pub trusts : Each (IsTrustAnchored rows) rows.trusts
+  pub catalog : IsCatalogAnchored (catalogs rows)
 
 -- each list stands in its order, with no key twice
+pub record IsCatalogInOrder (catalog : CatalogState) : Type 0 where
+  pub regions : IsAscending id_cmp (λ (row : RegionRow). row.id) catalog.regions
+  pub services : IsAscending id_cmp (λ (row : ServiceRow). row.id) catalog.services
+  pub endpoints : IsAscending id_cmp (λ (row : EndpointRow). row.id) catalog.endpoints
+
 pub record AreInOrder (rows : Rows) : Type 0 where
   pub domains : IsAscending id_cmp (λ (row : DomainRow). row.id) rows.domains
   pub projects : IsAscending id_cmp (λ (row : ProjectRow). row.id) rows.projects
@@ -99,12 +127,14 @@ pub record AreInOrder (rows : Rows) : Type 0 where
   pub implications : IsAscending imply_cmp (λ (row : ImplyRow). row) rows.implications
   pub grants : IsAscending grant_cmp (λ (row : GrantRow). row) rows.grants
   pub trusts : IsAscending id_cmp (λ (row : TrustRow). row.id) rows.trusts
+  pub catalog : IsCatalogInOrder (catalogs rows)
 
 pub record AreRowsOrderly (rows : Rows) : Type 0 where
   pub trees : AreTreesOrderly rows.domains rows.projects
   pub people : ArePeopleOrderly rows.domains rows.users rows.groups
   pub roles : Each IsRoleInRange rows.roles
   pub trusts : AreTrustsOrderly rows.trusts
+  pub catalog : IsCatalogInRange (catalogs rows)
 
 -- and no revocation is later than the highest moment, and the opening and each change gave at most 32 numbers to keys
 pub record IsOrderly (S : State) : Type 0 where
