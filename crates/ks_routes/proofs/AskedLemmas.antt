@@ -1,6 +1,7 @@
 -- What an action is asked for is a command, a fault of a body, or no route.
 use Rattle.std.proofs.Common.{◌≡◌, Bool, true, false, List, Option, Some, None, Result, Ok, Err, refl, sym, ap, ◌∙◌}
 use Rattle.std.specs.Prelude.{◌≢◌}
+use Rattle.ks_base.specs.declared.catalog.CatalogIn.{CatalogIn}
 use Rattle.ks_base.specs.declared.method.Method.{Method}
 use Rattle.ks_base.specs.declared.shapes.ShapeFault.{ShapeFault}
 use Rattle.ks_base.specs.Rows.{Id, Text}
@@ -9,7 +10,7 @@ use Rattle.ks_machine.specs.declared.bodies.Made.{Made}
 use Rattle.ks_machine.specs.declared.command.Command.{Command}
 use Rattle.ks_machine.specs.declared.command.Command.TheVariants as command
 use Rattle.ks_machine.specs.Assignments.{user_lacking}
-use Rattle.ks_shape.specs.Bodies.{body_of}
+use Rattle.ks_shape.specs.Bodies.{body_of, catalog_body_of}
 use Rattle.ks_shape.specs.declared.form.BodyIn.{BodyIn}
 use Rattle.ks_shape.specs.declared.form.BodyIn.TheVariants as body
 use Rattle.ks_shape.specs.declared.form.Form.TheVariants as form
@@ -17,7 +18,7 @@ use Rattle.ks_routes.specs.declared.action.Action.{Action}
 use Rattle.ks_routes.specs.declared.action.Action.TheVariants as action
 use Rattle.ks_routes.specs.declared.routed.Routed.{Routed}
 use Rattle.ks_routes.specs.declared.routed.Routed.TheVariants as routed
-use Rattle.ks_routes.specs.Asked.{asked, grant_in, grants_in, id_at, implication_in, kind_of, login_by, made_by, member_in, over, password_by, read_by, token_lacking, trust_by, unless_lacking, with_id}
+use Rattle.ks_routes.specs.Asked.{asked, catalog_by, grant_in, grants_in, id_at, implication_in, kind_of, login_by, made_by, member_in, over, password_by, read_by, token_lacking, trust_by, unless_lacking, with_id}
 use Rattle.ks_routes.specs.Queries.{allows_expired, assignment_filters, filter_in}
 
 abbrev pub is_own : Routed → Bool
@@ -45,8 +46,8 @@ own_lacking : (lacking : Option Text) (asks : Command) → is_own (unless_lackin
 own_lacking (Some name) asks = refl
 own_lacking None asks = refl
 
-own_read : (asks : BodyIn → Routed) (read : Result BodyIn ShapeFault) → ((b : BodyIn) → is_own (asks b) ≡ true) → is_own (read_by asks read) ≡ true
-own_read asks (Ok b) own = own b
+own_read : {A : Type 0} (asks : A → Routed) (read : Result A ShapeFault) → ((a : A) → is_own (asks a) ≡ true) → is_own (read_by asks read) ≡ true
+own_read asks (Ok a) own = own a
 own_read asks (Err fault) own = refl
 
 own_login : (b : BodyIn) → is_own (login_by b) ≡ true
@@ -72,6 +73,9 @@ own_trust (body.Login login) = refl
 own_trust (body.Made made) = refl
 own_trust (body.Password original password) = refl
 own_trust (body.Trust trust) = refl
+
+own_catalog : (asks : CatalogIn → Command) (row : CatalogIn) → is_own (catalog_by asks row) ≡ true
+own_catalog asks row = refl
 
 pub asked_own : (asks : Action) (ids : List Id) (request : Request) → is_own (asked asks ids request) ≡ true
 unfolding asked
@@ -114,3 +118,12 @@ asked_own action.TrustRoles ids request = own_over (id_at ids 0) (λ a. command.
 asked_own action.Events ids request = refl
 asked_own action.RotateKeys ids request = refl
 asked_own action.LoadKeys ids request = refl
+asked_own (action.CreateCatalog kind) ids request =
+    own_read (catalog_by (λ row. command.CreateCatalog row)) (catalog_body_of kind true request.body) (own_catalog (λ row. command.CreateCatalog row))
+asked_own (action.ListCatalog kind) ids request = refl
+asked_own (action.GetCatalog kind) ids request = own_over (id_at ids 0) (λ a. command.GetCatalog kind a)
+asked_own (action.UpdateCatalog kind) ids request =
+    own_with (id_at ids 0) (λ a. read_by (catalog_by (λ row. command.UpdateCatalog a row)) (catalog_body_of kind false request.body))
+    (λ a. own_read (catalog_by (λ row. command.UpdateCatalog a row)) (catalog_body_of kind false request.body) (own_catalog (λ row. command.UpdateCatalog a row)))
+asked_own (action.DeleteCatalog kind) ids request = own_over (id_at ids 0) (λ a. command.DeleteCatalog kind a)
+asked_own action.ShowCatalog ids request = refl

@@ -1,8 +1,10 @@
 -- What requests ask for is in range.
-use Rattle.std.proofs.Common.{◌≡◌, ℕ, ◌+◌, Bool, true, false, List, Option, Some, None, Ok, Err, refl}
+use Rattle.std.proofs.Common.{◌≡◌, ℕ, ◌+◌, Bool, true, false, List, Option, Some, None, Ok, Err, refl, sym, subst}
 use Rattle.std.proofs.lemmas.Bool.{not-true}
 use Rattle.std.specs.Prelude.{Result, IfSome, not, option_map}
 use Rattle.std.specs.List.{list_all}
+use Rattle.ks_base.specs.declared.catalog.CatalogIn.{CatalogIn}
+use Rattle.ks_base.specs.declared.catalog.CatalogKind.{CatalogKind}
 use Rattle.ks_base.specs.declared.grants.Target.TheVariants as target
 use Rattle.ks_base.specs.declared.shapes.ShapeFault.{ShapeFault}
 use Rattle.ks_base.specs.Rows.{Id}
@@ -11,13 +13,14 @@ use Rattle.ks_machine.specs.declared.bodies.Made.{Made}
 use Rattle.ks_machine.specs.declared.command.Command.{Command}
 use Rattle.ks_machine.specs.declared.command.Command.TheVariants as command
 use Rattle.ks_machine.specs.Assignments.{user_lacking}
-use Rattle.ks_machine.specs.Fit.{AreFields, IsGrant, IsMade, IsOwnKind, IsPlace}
-use Rattle.ks_shape.specs.Bodies.{body_of}
-use Rattle.ks_shape.specs.Ranges.{IsBodyFor}
+use Rattle.ks_machine.specs.Fit.{AreFields, IsCatalogBody, IsGrant, IsMade, IsOwnKind, IsPlace}
+use Rattle.ks_shape.specs.Bodies.{body_of, catalog_body_of}
+use Rattle.ks_shape.specs.Ranges.{IsBodyFor, IsCatalogFor}
 use Rattle.ks_shape.specs.declared.form.BodyIn.{BodyIn}
 use Rattle.ks_shape.specs.declared.form.BodyIn.TheVariants as body
 use Rattle.ks_shape.specs.declared.form.Form.{Form}
 use Rattle.ks_shape.specs.declared.form.Form.TheVariants as form
+use Rattle.ks_shape.proofs.CatalogLemmas.{catalog_bodies_in_range}
 use Rattle.ks_shape.proofs.RangeLemmas.{bodies_in_range}
 use Rattle.ks_routes.specs.declared.action.Action.{Action}
 use Rattle.ks_routes.specs.declared.action.Action.TheVariants as action
@@ -27,8 +30,7 @@ use Rattle.ks_routes.specs.declared.action.RowKind.TheVariants as row_kind
 use Rattle.ks_routes.specs.declared.action.TargetKind.{TargetKind}
 use Rattle.ks_routes.specs.declared.action.TargetKind.TheVariants as target_kind
 use Rattle.ks_routes.specs.declared.routed.Routed.{Routed}
-use Rattle.ks_routes.specs.declared.routed.Routed.TheVariants as routed
-use Rattle.ks_routes.specs.Asked.{actor_of, asked, both, grant_in, grants_in, id_at, ids_in, implication_in, kind_of, login_by, made_by, member_in, password_by, read_by, target_ids, target_of, token_lacking, trust_by}
+use Rattle.ks_routes.specs.Asked.{actor_of, asked, both, catalog_by, grant_in, grants_in, id_at, ids_in, implication_in, kind_of, login_by, made_by, member_in, password_by, read_by, target_ids, target_of, token_lacking, trust_by}
 use Rattle.ks_routes.specs.Patterns.{segments}
 use Rattle.ks_routes.specs.Queries.{allows_expired, assignment_filters, filter_in}
 use Rattle.ks_routes.specs.Ranges.{CommandsAreInRange}
@@ -72,6 +74,15 @@ trust_in (body.Trust trust) is = is
 trust_in (body.Login login) is = tt
 trust_in (body.Made made) is = tt
 trust_in (body.Password original password) is = tt
+
+-- the row is of the kind that it names
+named_kind : (kind : CatalogKind) (new : Bool) (row : CatalogIn) → IsCatalogFor kind new row → IsCatalogBody new row.of row
+named_kind kind new row is = subst (λ of. IsCatalogBody new of row) (sym is.0) is.1
+
+catalog_in : (asks : CatalogIn → Command) (kind : CatalogKind) (new : Bool) → ((row : CatalogIn) → IsCatalogBody new row.of row → AreFields (asks row))
+    → (bytes : List ℕ) (read : Result CatalogIn ShapeFault) → catalog_body_of kind new bytes ≡ read → IsInRange (read_by (catalog_by asks) read)
+catalog_in asks kind new on bytes (Ok row) is = on row (named_kind kind new row (catalog_bodies_in_range kind new bytes row is))
+catalog_in asks kind new on bytes (Err fault) is = tt
 
 -- the kinds of rows that have routes
 own_kind : (k : RowKind) → IsOwnKind (kind_of k)
@@ -177,6 +188,15 @@ asked_in action.TrustRoles ids request is = plain_holds AreFields (id_at ids 0) 
 asked_in action.Events ids request is = tt
 asked_in action.RotateKeys ids request is = tt
 asked_in action.LoadKeys ids request is = tt
+asked_in (action.CreateCatalog kind) ids request is =
+    catalog_in (λ row. command.CreateCatalog row) kind true (λ row are. are) request.body (catalog_body_of kind true request.body) refl
+asked_in (action.ListCatalog kind) ids request is = tt
+asked_in (action.GetCatalog kind) ids request is = plain_holds AreFields (id_at ids 0) (λ a. command.GetCatalog kind a) (λ a. tt)
+asked_in (action.UpdateCatalog kind) ids request is =
+    with_holds AreFields (id_at ids 0) _ (λ a.
+    catalog_in (λ row. command.UpdateCatalog a row) kind false (λ row are. are) request.body (catalog_body_of kind false request.body) refl)
+asked_in (action.DeleteCatalog kind) ids request is = plain_holds AreFields (id_at ids 0) (λ a. command.DeleteCatalog kind a) (λ a. tt)
+asked_in action.ShowCatalog ids request is = tt
 
 -- the rows of the table
 

@@ -3,6 +3,7 @@ use Rattle.std.proofs.Common.{◌≡◌, ℕ, suc, ◌+◌, ◌≤◌, Bool, tru
 use Rattle.std.proofs.lemmas.Bool.{and_parts}
 use Rattle.std.specs.Prelude.{◌≢◌, nat_le}
 use Rattle.serde_json.specs.Data.{Data}
+use Rattle.ks_base.specs.declared.catalog.CatalogIn.{CatalogIn}
 use Rattle.ks_base.specs.declared.kinds.Kind.{Kind}
 use Rattle.ks_base.specs.declared.shapes.ShapeFault.{ShapeFault}
 use Rattle.ks_base.specs.declared.shapes.ShapeFault.TheVariants as fault
@@ -16,7 +17,7 @@ use Rattle.ks_machine.specs.declared.bodies.TrustBody.{TrustBody}
 use Rattle.ks_machine.specs.declared.command.Command.{Command}
 use Rattle.ks_machine.specs.declared.command.Command.TheVariants as command
 use Rattle.ks_machine.specs.Assignments.{user_lacking}
-use Rattle.ks_shape.specs.Bodies.{body_of, document, form_of, password_of, whole_document}
+use Rattle.ks_shape.specs.Bodies.{body_of, catalog_body_of, document, form_of, password_of, whole_document}
 use Rattle.ks_shape.specs.Fields.{needed as needed_field}
 use Rattle.ks_shape.specs.Logins.{login_of}
 use Rattle.ks_shape.specs.Places.{names}
@@ -34,7 +35,7 @@ use Rattle.ks_routes.specs.declared.action.TargetKind.{TargetKind}
 use Rattle.ks_routes.specs.declared.action.TargetKind.TheVariants as target_kind
 use Rattle.ks_routes.specs.declared.routed.Routed.{Routed}
 use Rattle.ks_routes.specs.declared.routed.Routed.TheVariants as routed
-use Rattle.ks_routes.specs.Asked.{asked, ids_in, kind_of, login_by, made_by, password_by, read_by, target_ids, token_lacking, trust_by, unless_lacking}
+use Rattle.ks_routes.specs.Asked.{asked, catalog_by, ids_in, kind_of, login_by, made_by, password_by, read_by, target_ids, token_lacking, trust_by, unless_lacking}
 use Rattle.ks_routes.specs.Patterns.{Part, literal, id, fits, takes}
 use Rattle.ks_routes.specs.Queries.{allows_expired, assignment_filters, filter_in}
 use Rattle.ks_routes.specs.Tables.{Row}
@@ -90,6 +91,12 @@ needed action.TrustRoles = 1
 needed action.Events = 0
 needed action.RotateKeys = 0
 needed action.LoadKeys = 0
+needed (action.CreateCatalog kind) = 0
+needed (action.ListCatalog kind) = 0
+needed (action.GetCatalog kind) = 1
+needed (action.UpdateCatalog kind) = 1
+needed (action.DeleteCatalog kind) = 1
+needed action.ShowCatalog = 0
 
 -- bodies that are read have their form
 
@@ -134,6 +141,10 @@ served_trust : (d : Option Data) → is_served (read_by trust_by (found_or d fau
 unfolding form_of
 served_trust (Some value) = read_trust (trust_of (whole_document value))
 served_trust None = refl
+
+served_catalog : (asks : CatalogIn → Command) (r : Result CatalogIn ShapeFault) → is_served (read_by (catalog_by asks) r) ≡ true
+served_catalog asks (Ok row) = refl
+served_catalog asks (Err fault) = refl
 
 -- ids of a path
 
@@ -255,6 +266,15 @@ asked_served action.TrustRoles (a ∷ ids) request le = refl
 asked_served action.Events ids request le = refl
 asked_served action.RotateKeys ids request le = refl
 asked_served action.LoadKeys ids request le = refl
+asked_served (action.CreateCatalog kind) ids request le = served_catalog (λ row. command.CreateCatalog row) (catalog_body_of kind true request.body)
+asked_served (action.ListCatalog kind) ids request le = refl
+asked_served (action.GetCatalog kind) [] request le = absurd (omega (arith, le))
+asked_served (action.GetCatalog kind) (a ∷ ids) request le = refl
+asked_served (action.UpdateCatalog kind) [] request le = absurd (omega (arith, le))
+asked_served (action.UpdateCatalog kind) (a ∷ ids) request le = served_catalog (λ row. command.UpdateCatalog a row) (catalog_body_of kind false request.body)
+asked_served (action.DeleteCatalog kind) [] request le = absurd (omega (arith, le))
+asked_served (action.DeleteCatalog kind) (a ∷ ids) request le = refl
+asked_served action.ShowCatalog ids request le = refl
 
 -- how many ids a pattern has
 

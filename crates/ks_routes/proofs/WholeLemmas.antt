@@ -1,5 +1,6 @@
 -- What requests ask for lacks nothing.
 use Rattle.std.proofs.Common.{◌≡◌, true, false, List, Option, Some, None, Result, Ok, Err, refl}
+use Rattle.ks_base.specs.declared.catalog.CatalogIn.{CatalogIn}
 use Rattle.ks_base.specs.declared.shapes.Filter.{Filter}
 use Rattle.ks_base.specs.declared.shapes.ShapeFault.{ShapeFault}
 use Rattle.ks_base.specs.Rows.{Id, Text}
@@ -10,14 +11,14 @@ use Rattle.ks_machine.specs.declared.command.Command.TheVariants as command
 use Rattle.ks_machine.specs.Actions.{requirements}
 use Rattle.ks_machine.specs.Assignments.{user_lacking}
 use Rattle.ks_machine.specs.Steps.{lacking_of}
-use Rattle.ks_shape.specs.Bodies.{body_of}
+use Rattle.ks_shape.specs.Bodies.{body_of, catalog_body_of}
 use Rattle.ks_shape.specs.declared.form.BodyIn.{BodyIn}
 use Rattle.ks_shape.specs.declared.form.BodyIn.TheVariants as body
 use Rattle.ks_shape.specs.declared.form.Form.TheVariants as form
 use Rattle.ks_routes.specs.declared.action.Action.{Action}
 use Rattle.ks_routes.specs.declared.action.Action.TheVariants as action
 use Rattle.ks_routes.specs.declared.routed.Routed.{Routed}
-use Rattle.ks_routes.specs.Asked.{asked, grant_in, grants_in, id_at, ids_in, implication_in, kind_of, login_by, made_by, member_in, password_by, read_by, token_lacking, trust_by, unless_lacking}
+use Rattle.ks_routes.specs.Asked.{asked, catalog_by, grant_in, grants_in, id_at, ids_in, implication_in, kind_of, login_by, made_by, member_in, password_by, read_by, token_lacking, trust_by, unless_lacking}
 use Rattle.ks_routes.specs.Patterns.{segments}
 use Rattle.ks_routes.specs.Queries.{allows_expired, assignment_filters, filter_in}
 use Rattle.ks_routes.specs.Ranges.{CommandsAreWhole}
@@ -28,8 +29,8 @@ use Rattle.ks_routes.proofs.HoldsLemmas.{IfCommand, plain_holds, with_holds}
 abbrev IsWhole : Option Text → Command → Type 0
 IsWhole subject what = lacking_of (requirements what) subject ≡ None
 
-read_holds : (P : Command → Type 0) (asks : BodyIn → Routed) (read : Result BodyIn ShapeFault) → ((b : BodyIn) → IfCommand P (asks b)) → IfCommand P (read_by asks read)
-read_holds P asks (Ok b) is = is b
+read_holds : (P : Command → Type 0) {A : Type 0} (asks : A → Routed) (read : Result A ShapeFault) → ((a : A) → IfCommand P (asks a)) → IfCommand P (read_by asks read)
+read_holds P asks (Ok a) is = is a
 read_holds P asks (Err fault) is = tt
 
 login_whole : (subject : Option Text) (b : BodyIn) → IfCommand (IsWhole subject) (login_by b)
@@ -58,6 +59,10 @@ trust_whole subject (body.Trust trust) = refl
 trust_whole subject (body.Login login) = tt
 trust_whole subject (body.Made made) = tt
 trust_whole subject (body.Password original password) = tt
+
+catalog_whole : (subject : Option Text) (asks : CatalogIn → Command) → ((row : CatalogIn) → IsWhole subject (asks row)) → (row : CatalogIn)
+    → IfCommand (IsWhole subject) (catalog_by asks row)
+catalog_whole subject asks is row = is row
 
 token_whole : (subject : Option Text) (asks : Command) → ((token : Text) → IsWhole (Some token) asks) → IfCommand (IsWhole subject) (unless_lacking (token_lacking subject) asks)
 token_whole (Some token) asks is = is token
@@ -113,6 +118,17 @@ asked_whole action.TrustRoles ids request = plain_holds (IsWhole request.subject
 asked_whole action.Events ids request = refl
 asked_whole action.RotateKeys ids request = refl
 asked_whole action.LoadKeys ids request = refl
+asked_whole (action.CreateCatalog kind) ids request =
+    read_holds (IsWhole request.subject) (catalog_by (λ row. command.CreateCatalog row)) (catalog_body_of kind true request.body)
+    (catalog_whole request.subject (λ row. command.CreateCatalog row) (λ row. refl))
+asked_whole (action.ListCatalog kind) ids request = refl
+asked_whole (action.GetCatalog kind) ids request = plain_holds (IsWhole request.subject) (id_at ids 0) (λ a. command.GetCatalog kind a) (λ a. refl)
+asked_whole (action.UpdateCatalog kind) ids request =
+    with_holds (IsWhole request.subject) (id_at ids 0) _ (λ a.
+    read_holds (IsWhole request.subject) (catalog_by (λ row. command.UpdateCatalog a row)) (catalog_body_of kind false request.body)
+    (catalog_whole request.subject (λ row. command.UpdateCatalog a row) (λ row. refl)))
+asked_whole (action.DeleteCatalog kind) ids request = plain_holds (IsWhole request.subject) (id_at ids 0) (λ a. command.DeleteCatalog kind a) (λ a. refl)
+asked_whole action.ShowCatalog ids request = refl
 
 answered_whole : (row : Row Action) (asks : Option Action) (request : Request) → IfCommand (IsWhole request.subject) (answered row.pattern row.methods asks request)
 answered_whole row (Some asks) request = asked_whole asks (ids_in row.pattern (segments request.path)) request

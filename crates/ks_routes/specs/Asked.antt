@@ -1,5 +1,6 @@
 -- The command that a request makes of what its route asks for.
 use Rattle.std.specs.Prelude.{ℕ, ◌+◌, true, false, if◌then◌else◌, List, [], ◌∷◌, Option, Some, None, Result, Ok, Err, codes, option_map, slice_get}
+use Rattle.ks_base.specs.declared.catalog.CatalogIn.{CatalogIn}
 use Rattle.ks_base.specs.declared.grants.Actor.{Actor}
 use Rattle.ks_base.specs.declared.grants.Actor.TheVariants as actor
 use Rattle.ks_base.specs.declared.grants.GrantRow.{GrantRow}
@@ -19,8 +20,8 @@ use Rattle.ks_machine.specs.declared.bodies.Made.{Made}
 use Rattle.ks_machine.specs.declared.command.Command.{Command}
 use Rattle.ks_machine.specs.declared.command.Command.TheVariants as command
 use Rattle.ks_machine.specs.Assignments.{user_lacking}
-use Rattle.ks_machine.specs.Targets.{filter_names}
-use Rattle.ks_shape.specs.Bodies.{body_of}
+use Rattle.ks_machine.specs.Targets.{catalog_kind, filter_names}
+use Rattle.ks_shape.specs.Bodies.{body_of, catalog_body_of}
 use Rattle.ks_shape.specs.declared.form.BodyIn.{BodyIn}
 use Rattle.ks_shape.specs.declared.form.BodyIn.TheVariants as body
 use Rattle.ks_shape.specs.declared.form.Form.TheVariants as form
@@ -135,7 +136,7 @@ assignments_by filter = unless_lacking (user_lacking filter.fields) (command.Ass
 
 -- bodies: what is read, or the first fault
 
-abbrev pub read_by : (BodyIn → Routed) → Result BodyIn ShapeFault → Routed
+abbrev pub read_by : {A : Type 0} → (A → Routed) → Result A ShapeFault → Routed
 read_by asks (Ok read) = asks read
 read_by asks (Err why) = routed.Refused why
 
@@ -162,6 +163,10 @@ trust_by (body.Trust trust) = routed.Command (command.CreateTrust trust)
 trust_by (body.Login login) = routed.NoRoute
 trust_by (body.Made made) = routed.NoRoute
 trust_by (body.Password original password) = routed.NoRoute
+
+-- a command over a row of the catalog
+abbrev pub catalog_by : (CatalogIn → Command) → CatalogIn → Routed
+catalog_by asks row = routed.Command (asks row)
 
 -- the command that a request makes of an action, where the path has these ids
 unfoldable pub asked : Action → List Id → Request → Routed
@@ -202,3 +207,12 @@ asked action.TrustRoles ids request = over (id_at ids 0) (λ trust. command.Trus
 asked action.Events ids request = routed.Command command.Events
 asked action.RotateKeys ids request = routed.Command command.RotateKeys
 asked action.LoadKeys ids request = routed.Command command.LoadKeys
+asked (action.CreateCatalog kind) ids request =
+    read_by (catalog_by (λ row. command.CreateCatalog row)) (catalog_body_of kind true request.body)
+asked (action.ListCatalog kind) ids request =
+    routed.Command (command.ListCatalog kind (filter_in (filter_names (catalog_kind kind)) request.query))
+asked (action.GetCatalog kind) ids request = over (id_at ids 0) (λ a. command.GetCatalog kind a)
+asked (action.UpdateCatalog kind) ids request =
+    with_id (id_at ids 0) (λ a. read_by (catalog_by (λ row. command.UpdateCatalog a row)) (catalog_body_of kind false request.body))
+asked (action.DeleteCatalog kind) ids request = over (id_at ids 0) (λ a. command.DeleteCatalog kind a)
+asked action.ShowCatalog ids request = routed.Command command.ShowCatalog

@@ -7,7 +7,6 @@ use Rattle.form_urlencoded.specs.Form.{decode, raw_pairs}
 use Rattle.ks_base.specs.declared.shapes.Filter.{Filter}
 use Rattle.ks_base.specs.Rows.{Text}
 use Rattle.ks_rule.specs.Kinds.{Fields, value_in}
-use Rattle.ks_routes.specs.declared.action.RowKind.TheVariants as row_kind
 
 -- the text that a part of a query stands for; what is not UTF-8 is replaced
 abbrev pub text_in : List ℕ → Text

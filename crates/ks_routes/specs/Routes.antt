@@ -1,5 +1,7 @@
 -- The routes of the Identity API v3, OS-INHERIT, OS-TRUST and OS-REVOKE, and those of the keys, which are own.
 use Rattle.std.specs.Prelude.{◌≡◌, ◌⊎◌, true, false, List, [], ◌∷◌, Option, Some, None, codes}
+use Rattle.ks_base.specs.declared.catalog.CatalogKind.{CatalogKind}
+use Rattle.ks_base.specs.declared.catalog.CatalogKind.TheVariants as catalog_kind
 use Rattle.ks_http.specs.declared.request.Request.{Request}
 use Rattle.ks_routes.specs.declared.action.Action.{Action}
 use Rattle.ks_routes.specs.declared.action.Action.TheVariants as action
@@ -28,6 +30,14 @@ all_of kind = record none { get = Some (action.List kind); post = Some (action.C
 abbrev pub one_of : RowKind → Methods Action
 one_of kind = record none { get = Some (action.Get kind); patch = Some (action.Update kind); delete = Some (action.Delete kind) }
 
+-- the same of a kind of the catalog
+abbrev pub all_of_catalog : CatalogKind → Methods Action
+all_of_catalog kind = record none { get = Some (action.ListCatalog kind); post = Some (action.CreateCatalog kind) }
+
+abbrev pub one_of_catalog : CatalogKind → Methods Action
+one_of_catalog kind =
+    record none { get = Some (action.GetCatalog kind); patch = Some (action.UpdateCatalog kind); delete = Some (action.DeleteCatalog kind) }
+
 -- grants that hold at a target, and those that its projects inherit
 abbrev pub direct : TargetKind → ActorKind → Place
 direct target actor = record { target = target; actor = actor; inherited = false }
@@ -48,6 +58,7 @@ table =
     row (codes "/v3") (record none { get = Some action.Version }) ∷
     row (codes "/v3/") (record none { get = Some action.Version }) ∷
     row (codes "/v3/auth/tokens") (record none { get = Some action.Validate; head = Some action.Check; post = Some action.Login; delete = Some action.RevokeToken }) ∷
+    row (codes "/v3/auth/catalog") (record none { get = Some action.ShowCatalog }) ∷
     row (codes "/v3/domains") (all_of row_kind.Domain) ∷
     row (codes "/v3/domains/{domain}") (one_of row_kind.Domain) ∷
     row (codes "/v3/projects") (all_of row_kind.Project) ∷
@@ -58,6 +69,12 @@ table =
     row (codes "/v3/groups/{group}") (one_of row_kind.Group) ∷
     row (codes "/v3/roles") (all_of row_kind.Role) ∷
     row (codes "/v3/roles/{role}") (one_of row_kind.Role) ∷
+    row (codes "/v3/regions") (all_of_catalog catalog_kind.Region) ∷
+    row (codes "/v3/regions/{region}") (one_of_catalog catalog_kind.Region) ∷
+    row (codes "/v3/services") (all_of_catalog catalog_kind.Service) ∷
+    row (codes "/v3/services/{service}") (one_of_catalog catalog_kind.Service) ∷
+    row (codes "/v3/endpoints") (all_of_catalog catalog_kind.Endpoint) ∷
+    row (codes "/v3/endpoints/{endpoint}") (one_of_catalog catalog_kind.Endpoint) ∷
     row (codes "/v3/users/{user}/password") (record none { post = Some action.ChangePassword }) ∷
     row (codes "/v3/users/{user}/groups") (record none { get = Some action.GroupsOf }) ∷
     row (codes "/v3/groups/{group}/users") (record none { get = Some action.MembersOf }) ∷

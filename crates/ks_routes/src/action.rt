@@ -2,9 +2,9 @@
 ghost use Rattle.std.specs.Prelude.{◌≡◌};
 ghost use Rattle.ks_routes.specs.Asked.{kind_of};
 
-use ks_base::Kind;
+use ks_base::{CatalogKind, Kind};
 
-/// The kinds of rows that have routes of their own.
+/// The kinds of rows that have routes of their own and are not of the catalog.
 #[derive(Clone, Copy)]
 pub enum RowKind {
     Domain,
@@ -74,6 +74,12 @@ pub enum Action {
     Events,
     RotateKeys,
     LoadKeys,
+    CreateCatalog(CatalogKind),
+    ListCatalog(CatalogKind),
+    GetCatalog(CatalogKind),
+    UpdateCatalog(CatalogKind),
+    DeleteCatalog(CatalogKind),
+    ShowCatalog,
 }
 
 impl RowKind {

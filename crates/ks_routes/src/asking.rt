@@ -2,25 +2,26 @@
 ghost use Rattle.std.specs.Prelude.{◌≡◌, true, false, IfOk};
 ghost use Rattle.std.specs.Option.{option_copied};
 ghost use Rattle.ks_machine.specs.declared.command.Command.TheVariants as commands;
-ghost use Rattle.ks_machine.specs.Targets.{filter_names};
-ghost use Rattle.ks_shape.specs.Bodies.{body_of};
+ghost use Rattle.ks_machine.specs.Targets.{catalog_kind, filter_names};
+ghost use Rattle.ks_shape.specs.Bodies.{body_of, catalog_body_of};
 ghost use Rattle.ks_shape.specs.declared.form.Form.TheVariants as forms;
-ghost use Rattle.ks_routes.specs.Asked.{about_token, actor_of, asked, assignments_by, both, grant_in, grants_in, implication_in, kind_of, login_by, made_by, member_in, password_by, read_by, routed_over, target_ids, target_of, token_lacking, trust_by, unless_lacking};
+ghost use Rattle.ks_routes.specs.Asked.{about_token, actor_of, asked, assignments_by, both, catalog_by, grant_in, grants_in, implication_in, kind_of, login_by, made_by, member_in, password_by, read_by, routed_over, target_ids, target_of, token_lacking, trust_by, unless_lacking};
 ghost use Rattle.ks_routes.specs.Queries.{allows_expired, assignment_filters as assignment_names, filter_in, trust_filters as trust_names};
 ghost use Rattle.ks_routes.specs.steps.Reading.{IsAsked, unread_of};
 ghost use Rattle.ks_routes.specs.Routes.{Answers};
 
 use crate::action::{Action, ActorKind, Place, RowKind, TargetKind};
 use crate::captured::Captured;
-use crate::filters::{assignment_filters, kind_filters, trust_filters};
+use crate::filters::{assignment_filters, catalog_filters, kind_filters, trust_filters};
 use crate::query::{allows_expired, filter_in};
 use crate::routed::Routed;
 use ks_base::{
-    Actor, GrantRow, Id, ImplyRow, MemberRow, Memory, ShapeFault, ShapeRefusal, Target, Text,
+    Actor, CatalogKind, GrantRow, Id, ImplyRow, MemberRow, Memory, ShapeFault, ShapeRefusal,
+    Target, Text,
 };
 use ks_http::Request;
 use ks_machine::{Command, user_lacking};
-use ks_shape::{BodyIn, Form, read_body};
+use ks_shape::{BodyIn, Form, read_body, read_catalog_body};
 use std::alloc::Global;
 
 fn actor(kind: ActorKind, id: Id) -> Actor
@@ -181,12 +182,38 @@ fn create_trust(alloc: Global, request: &Request) -> Routed
     }
 }
 
+fn create_catalog(alloc: Global, kind: CatalogKind, request: &Request) -> Routed
+    ensures { Answers (read_by (catalog_by (λ row. commands.CreateCatalog row)) (catalog_body_of kind true request.now.body)) result }
+{
+    match read_catalog_body(alloc, kind, true, request.body.as_slice()) {
+        Ok(row) => Routed::Command(Command::CreateCatalog(row)),
+        Err(refusal) => unread(refusal),
+    }
+}
+
+fn update_catalog(alloc: Global, kind: CatalogKind, id: Id, request: &Request) -> Routed
+    ensures { Answers (read_by (catalog_by (λ row. commands.UpdateCatalog id row)) (catalog_body_of kind false request.now.body)) result }
+{
+    match read_catalog_body(alloc, kind, false, request.body.as_slice()) {
+        Ok(row) => Routed::Command(Command::UpdateCatalog(id, row)),
+        Err(refusal) => unread(refusal),
+    }
+}
+
 /// The listing of a kind that the query asks for.
 fn list(alloc: Global, kind: RowKind, request: &Request) -> Result<Command, Memory>
     ensures { IfOk result (λ command. command ≡ commands.List (kind_of kind) (filter_in (filter_names (kind_of kind)) request.now.query)) }
 {
     let filter = filter_in(alloc, kind_filters(kind), request.query.as_slice())?;
     Ok(Command::List(kind.kind(), filter))
+}
+
+/// The listing of a kind of the catalog that the query asks for.
+fn list_catalog(alloc: Global, kind: CatalogKind, request: &Request) -> Result<Command, Memory>
+    ensures { IfOk result (λ command. command ≡ commands.ListCatalog kind (filter_in (filter_names (catalog_kind kind)) request.now.query)) }
+{
+    let filter = filter_in(alloc, catalog_filters(kind), request.query.as_slice())?;
+    Ok(Command::ListCatalog(kind, filter))
 }
 
 /// The command, or what its request lacks.
@@ -319,6 +346,17 @@ impl Action {
             Action::Events => Routed::Command(Command::Events),
             Action::RotateKeys => Routed::Command(Command::RotateKeys),
             Action::LoadKeys => Routed::Command(Command::LoadKeys),
+            Action::CreateCatalog(kind) => create_catalog(alloc, kind, request),
+            Action::ListCatalog(kind) => asked_of(list_catalog(alloc, kind, request)),
+            Action::GetCatalog(kind) => over(ids.at(0).map(|id| Command::GetCatalog(kind, id))),
+            Action::UpdateCatalog(kind) => match ids.at(0) {
+                Some(id) => update_catalog(alloc, kind, id, request),
+                None => Routed::NoRoute,
+            },
+            Action::DeleteCatalog(kind) => {
+                over(ids.at(0).map(|id| Command::DeleteCatalog(kind, id)))
+            }
+            Action::ShowCatalog => Routed::Command(Command::ShowCatalog),
         }
     }
 }

@@ -6,6 +6,7 @@ ghost use Rattle.ks_routes.specs.Routes.{table};
 use crate::action::{Action, ActorKind, Place, RowKind, TargetKind};
 use crate::methods::Methods;
 use crate::route::Route;
+use ks_base::CatalogKind;
 
 const NONE: Methods<Action> = Methods {
     get: None,
@@ -76,7 +77,7 @@ const INHERITED_DOMAIN_GROUP: Place = Place {
     inherited: true,
 };
 
-static TABLE: [Route<Action>; 44] = [
+static TABLE: [Route<Action>; 51] = [
     Route {
         pattern: "/v3",
         methods: Methods {
@@ -98,6 +99,13 @@ static TABLE: [Route<Action>; 44] = [
             head: Some(Action::Check),
             post: Some(Action::Login),
             delete: Some(Action::RevokeToken),
+            ..NONE
+        },
+    },
+    Route {
+        pattern: "/v3/auth/catalog",
+        methods: Methods {
+            get: Some(Action::ShowCatalog),
             ..NONE
         },
     },
@@ -183,6 +191,57 @@ static TABLE: [Route<Action>; 44] = [
             get: Some(Action::Get(RowKind::Role)),
             patch: Some(Action::Update(RowKind::Role)),
             delete: Some(Action::Delete(RowKind::Role)),
+            ..NONE
+        },
+    },
+    Route {
+        pattern: "/v3/regions",
+        methods: Methods {
+            get: Some(Action::ListCatalog(CatalogKind::Region)),
+            post: Some(Action::CreateCatalog(CatalogKind::Region)),
+            ..NONE
+        },
+    },
+    Route {
+        pattern: "/v3/regions/{region}",
+        methods: Methods {
+            get: Some(Action::GetCatalog(CatalogKind::Region)),
+            patch: Some(Action::UpdateCatalog(CatalogKind::Region)),
+            delete: Some(Action::DeleteCatalog(CatalogKind::Region)),
+            ..NONE
+        },
+    },
+    Route {
+        pattern: "/v3/services",
+        methods: Methods {
+            get: Some(Action::ListCatalog(CatalogKind::Service)),
+            post: Some(Action::CreateCatalog(CatalogKind::Service)),
+            ..NONE
+        },
+    },
+    Route {
+        pattern: "/v3/services/{service}",
+        methods: Methods {
+            get: Some(Action::GetCatalog(CatalogKind::Service)),
+            patch: Some(Action::UpdateCatalog(CatalogKind::Service)),
+            delete: Some(Action::DeleteCatalog(CatalogKind::Service)),
+            ..NONE
+        },
+    },
+    Route {
+        pattern: "/v3/endpoints",
+        methods: Methods {
+            get: Some(Action::ListCatalog(CatalogKind::Endpoint)),
+            post: Some(Action::CreateCatalog(CatalogKind::Endpoint)),
+            ..NONE
+        },
+    },
+    Route {
+        pattern: "/v3/endpoints/{endpoint}",
+        methods: Methods {
+            get: Some(Action::GetCatalog(CatalogKind::Endpoint)),
+            patch: Some(Action::UpdateCatalog(CatalogKind::Endpoint)),
+            delete: Some(Action::DeleteCatalog(CatalogKind::Endpoint)),
             ..NONE
         },
     },

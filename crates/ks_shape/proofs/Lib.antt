@@ -1,3 +1,4 @@
+pub mod CatalogLemmas
 pub mod DocumentLemmas
 pub mod IdLemmas
 pub mod ListLemmas

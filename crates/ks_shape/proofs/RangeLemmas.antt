@@ -28,12 +28,12 @@ use Rattle.ks_shape.specs.declared.method.LoginMethod.TheVariants as method
 use Rattle.ks_shape.specs.declared.misfit.Misfit.TheVariants as misfit
 use Rattle.ks_shape.specs.declared.trust.Limits.{Limits}
 use Rattle.ks_shape.specs.Bodies.{body_of, document, form_of, password_of, whole_document}
-use Rattle.ks_shape.specs.Fields.{judged, needed, optional, unless_null}
+use Rattle.ks_shape.specs.Fields.{judged, needed, needed_if, optional, unless_null}
 use Rattle.ks_shape.specs.Logins.{domain_scope, login_of, object_scope, password_proof, project_scope, proof_by, scope_at, scope_by, scope_from, system_scope, token_proof, trust_scope, unscoped_text}
 use Rattle.ks_shape.specs.Names.{all_named, name_and_domain, named_at, named_by, own_id, own_name, project_at, project_by, user_at, user_by}
 use Rattle.ks_shape.specs.Places.{Place, names, path_at, place_at}
 use Rattle.ks_shape.specs.Ranges.{BodiesAreInRange, IsBodyFor, IsMadeFor}
-use Rattle.ks_shape.specs.Rows.{domain_of, group_of, id_at, made_of, name_at, project_of, role_of, user_of}
+use Rattle.ks_shape.specs.Rows.{domain_of, group_of, id_at, made_of, project_of, role_of, user_of}
 use Rattle.ks_shape.specs.Times.{time_of}
 use Rattle.ks_shape.specs.Trusts.{limits_asked, limits_of, roles_at, trust_of}
 use Rattle.ks_shape.specs.Types.{affirmation, any_text, count_of, description_text, falsehood, id_text, list_of, name_text, one_method, password_text, text_of, time_text, truth, whole}
@@ -185,7 +185,7 @@ abbrev IsIdFor : Bool → Option Id → Type 0
 IsIdFor true id = id ≡ None
 IsIdFor false id = Unit {0}
 
-row_name_in : (new : Bool) (names : List (List ℕ)) (body : Place) → IfOk (name_at new names body) (IsMadeName new None)
+row_name_in : (new : Bool) (names : List (List ℕ)) (body : Place) → IfOk (needed_if new name_text names body) (IsMadeName new None)
 row_name_in true names body = step (IsMadeName true None) IsName (needed name_text names body) _ (needed_in IsName name_text name_in names body) (λ name is. (refl, is))
 row_name_in false names body = optional_in IsName name_text name_in names body
 
@@ -197,7 +197,7 @@ row_id_in : (new : Bool) (names : List (List ℕ)) (body : Place) → IfOk (id_a
 row_id_in true names body = refl
 row_id_in false names body = any_id (optional id_text names body)
 
-described : (names : List (List ℕ)) (body : Place) → IfOk (optional description_text names body) (If IsDescription)
+pub described : (names : List (List ℕ)) (body : Place) → IfOk (optional description_text names body) (If IsDescription)
 described names body = optional_in IsDescription description_text description_in names body
 
 made_name : (new : Bool) (id : Option Id) (name : Option Text) → IsMadeName new None name → IsIdFor new id → IsMadeName new id name
@@ -209,7 +209,7 @@ domain_row_in : (new : Bool) (body : Place) → IfOk (domain_of new body) (IsMad
 unfolding domain_of
 domain_row_in new body =
     let Q : Made → Type 0 = IsMadeFor kind.Domain new in
-    step Q (IsMadeName new None) (name_at new (names (codes "domain.name")) body) _ (row_name_in new _ body) (λ name is_name.
+    step Q (IsMadeName new None) (needed_if new name_text (names (codes "domain.name")) body) _ (row_name_in new _ body) (λ name is_name.
     step Q (If IsDescription) (optional description_text (names (codes "domain.description")) body) _ (described _ body) (λ description is_description.
     skip Q (optional truth (names (codes "domain.enabled")) body) _ (λ enabled.
     step Q (IsIdFor new) (id_at new (names (codes "domain.id")) body) _ (row_id_in new _ body) (λ id is_id.
@@ -219,7 +219,7 @@ project_row_in : (new : Bool) (body : Place) → IfOk (project_of new body) (IsM
 unfolding project_of
 project_row_in new body =
     let Q : Made → Type 0 = IsMadeFor kind.Project new in
-    step Q (IsMadeName new None) (name_at new (names (codes "project.name")) body) _ (row_name_in new _ body) (λ name is_name.
+    step Q (IsMadeName new None) (needed_if new name_text (names (codes "project.name")) body) _ (row_name_in new _ body) (λ name is_name.
     skip Q (optional id_text (names (codes "project.domain_id")) body) _ (λ domain.
     skip Q (optional id_text (names (codes "project.parent_id")) body) _ (λ parent.
     step Q (If IsDescription) (optional description_text (names (codes "project.description")) body) _ (described _ body) (λ description is_description.
@@ -232,7 +232,7 @@ user_row_in : (new : Bool) (body : Place) → IfOk (user_of new body) (IsMadeFor
 unfolding user_of
 user_row_in new body =
     let Q : Made → Type 0 = IsMadeFor kind.User new in
-    step Q (IsMadeName new None) (name_at new (names (codes "user.name")) body) _ (row_name_in new _ body) (λ name is_name.
+    step Q (IsMadeName new None) (needed_if new name_text (names (codes "user.name")) body) _ (row_name_in new _ body) (λ name is_name.
     skip Q (optional id_text (names (codes "user.domain_id")) body) _ (λ domain.
     step Q (If IsPassword) (optional password_text (names (codes "user.password")) body) _ (optional_in IsPassword password_text password_in _ body) (λ password is_password.
     skip Q (optional truth (names (codes "user.enabled")) body) _ (λ enabled.
@@ -243,7 +243,7 @@ group_row_in : (new : Bool) (body : Place) → IfOk (group_of new body) (IsMadeF
 unfolding group_of
 group_row_in new body =
     let Q : Made → Type 0 = IsMadeFor kind.Group new in
-    step Q (IsMadeName new None) (name_at new (names (codes "group.name")) body) _ (row_name_in new _ body) (λ name is_name.
+    step Q (IsMadeName new None) (needed_if new name_text (names (codes "group.name")) body) _ (row_name_in new _ body) (λ name is_name.
     skip Q (optional id_text (names (codes "group.domain_id")) body) _ (λ domain.
     step Q (If IsDescription) (optional description_text (names (codes "group.description")) body) _ (described _ body) (λ description is_description.
     step Q (IsIdFor new) (id_at new (names (codes "group.id")) body) _ (row_id_in new _ body) (λ id is_id.
@@ -253,7 +253,7 @@ role_row_in : (new : Bool) (body : Place) → IfOk (role_of new body) (IsMadeFor
 unfolding role_of
 role_row_in new body =
     let Q : Made → Type 0 = IsMadeFor kind.Role new in
-    step Q (IsMadeName new None) (name_at new (names (codes "role.name")) body) _ (row_name_in new _ body) (λ name is_name.
+    step Q (IsMadeName new None) (needed_if new name_text (names (codes "role.name")) body) _ (row_name_in new _ body) (λ name is_name.
     step Q (If IsDescription) (optional description_text (names (codes "role.description")) body) _ (described _ body) (λ description is_description.
     step Q (IsIdFor new) (id_at new (names (codes "role.id")) body) _ (row_id_in new _ body) (λ id is_id.
     (refl, (made_name new id name is_name is_id, is_description)))))

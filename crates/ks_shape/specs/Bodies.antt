@@ -3,6 +3,8 @@ use Rattle.std.specs.Prelude.{ℕ, Bool, true, if◌then◌else◌, List, [], Op
 use Rattle.std.specs.Str.{is_utf8}
 use Rattle.serde_json.specs.Data.{Data}
 use Rattle.serde_json.specs.Read.{read}
+use Rattle.ks_base.specs.declared.catalog.CatalogIn.{CatalogIn}
+use Rattle.ks_base.specs.declared.catalog.CatalogKind.{CatalogKind}
 use Rattle.ks_base.specs.declared.shapes.ShapeFault.{ShapeFault}
 use Rattle.ks_base.specs.declared.shapes.ShapeFault.TheVariants as fault
 use Rattle.ks_base.specs.Results.{found, ◌>>=◌}
@@ -15,6 +17,7 @@ use Rattle.ks_shape.specs.Fields.{needed}
 use Rattle.ks_shape.specs.Types.{password_text}
 use Rattle.ks_shape.specs.Logins.{login_of}
 use Rattle.ks_shape.specs.Rows.{has_body, made_of}
+use Rattle.ks_shape.specs.Catalog.{catalog_row_of}
 use Rattle.ks_shape.specs.Trusts.{trust_of}
 
 -- the original password, then the new one
@@ -54,3 +57,9 @@ unfoldable pub body_of : Form → List ℕ → Result BodyIn ShapeFault
 body_of form bytes = do
   value ← found (document bytes) fault.NotJson
   form_of form (whole_document value)
+
+-- the body of a new row of the catalog, or of a change of one
+unfoldable pub catalog_body_of : CatalogKind → Bool → List ℕ → Result CatalogIn ShapeFault
+catalog_body_of kind new bytes = do
+  value ← found (document bytes) fault.NotJson
+  catalog_row_of kind new (whole_document value)

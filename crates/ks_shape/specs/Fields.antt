@@ -1,5 +1,5 @@
 -- The fields of a place.
-use Rattle.std.specs.Prelude.{ℕ, if◌then◌else◌, List, Option, Some, None, is_some, Result, Ok, Err}
+use Rattle.std.specs.Prelude.{ℕ, Bool, true, false, if◌then◌else◌, List, Option, Some, None, is_some, Result, Ok, Err}
 use Rattle.serde_json.specs.Data.{Data}
 use Rattle.serde_json.specs.Find.{as_null}
 use Rattle.ks_base.specs.declared.shapes.ShapeFault.{ShapeFault}
@@ -53,3 +53,10 @@ unfoldable pub optional : {A : Type 0} → FieldType A → List (List ℕ) → P
 optional type names place = do
   value ← optional_value names place
   judged (path_at names place) (if_given type value)
+
+-- a field that a new row needs, and a change may give
+abbrev pub needed_if : {A : Type 0} → Bool → FieldType A → List (List ℕ) → Place → Result (Option A) ShapeFault
+needed_if true type names place = do
+  a ← needed type names place
+  Ok (Some a)
+needed_if false type names place = optional type names place

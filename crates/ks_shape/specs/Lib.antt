@@ -6,6 +6,7 @@ pub mod Types
 pub mod Names
 pub mod Logins
 pub mod Rows
+pub mod Catalog
 pub mod Trusts
 pub mod Bodies
 pub mod Ranges

@@ -1,15 +1,17 @@
 -- What bodies ask for is what their forms take, and in range.
 use Rattle.std.specs.Prelude.{◌≡◌, ℕ, Bool, List, Ok}
+use Rattle.ks_base.specs.declared.catalog.CatalogIn.{CatalogIn}
+use Rattle.ks_base.specs.declared.catalog.CatalogKind.{CatalogKind}
 use Rattle.ks_base.specs.declared.kinds.Kind.{Kind}
 use Rattle.ks_machine.specs.declared.bodies.Made.{Made}
-use Rattle.ks_machine.specs.Fit.{IsMade, IsProof, IsScope, IsTrustBody}
+use Rattle.ks_machine.specs.Fit.{IsCatalogBody, IsMade, IsProof, IsScope, IsTrustBody}
 use Rattle.ks_machine.specs.Ranges.{IsPassword}
 use Rattle.ks_machine.specs.Targets.{kind_of}
 use Rattle.ks_shape.specs.declared.form.Form.{Form}
 use Rattle.ks_shape.specs.declared.form.Form.TheVariants as form
 use Rattle.ks_shape.specs.declared.form.BodyIn.{BodyIn}
 use Rattle.ks_shape.specs.declared.form.BodyIn.TheVariants as body
-use Rattle.ks_shape.specs.Bodies.{body_of}
+use Rattle.ks_shape.specs.Bodies.{body_of, catalog_body_of}
 
 -- a row of this kind, in range
 abbrev pub IsMadeFor : Kind → Bool → Made → Type 0
@@ -37,3 +39,11 @@ IsBodyFor form.Trust (body.Trust trust) = IsTrustBody trust
 -- each body that is read is one that its form takes
 abbrev pub BodiesAreInRange : Type 0
 BodiesAreInRange = (form : Form) (bytes : List ℕ) (body : BodyIn) → body_of form bytes ≡ Ok body → IsBodyFor form body
+
+-- a row of the catalog of this kind, in range
+abbrev pub IsCatalogFor : CatalogKind → Bool → CatalogIn → Type 0
+IsCatalogFor kind new asked = (asked.of ≡ kind) × IsCatalogBody new kind asked
+
+abbrev pub CatalogBodiesAreInRange : Type 0
+CatalogBodiesAreInRange =
+    (kind : CatalogKind) (new : Bool) (bytes : List ℕ) (asked : CatalogIn) → catalog_body_of kind new bytes ≡ Ok asked → IsCatalogFor kind new asked

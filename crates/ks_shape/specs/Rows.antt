@@ -1,6 +1,6 @@
 -- The bodies that make and change rows (Identity API v3). A creation needs the name; a change needs nothing, and it
 -- alone reads the id.
-use Rattle.std.specs.Prelude.{ℕ, Bool, true, false, List, Option, Some, None, Result, Ok, Err, codes}
+use Rattle.std.specs.Prelude.{ℕ, Bool, true, false, List, Option, None, Result, Ok, Err, codes}
 use Rattle.ks_base.specs.declared.kinds.Kind.{Kind}
 use Rattle.ks_base.specs.declared.kinds.Kind.TheVariants as kind
 use Rattle.ks_base.specs.declared.shapes.ShapeFault.{ShapeFault}
@@ -9,14 +9,8 @@ use Rattle.ks_base.specs.Results.{◌>>=◌}
 use Rattle.ks_machine.specs.declared.bodies.Made.{Made}
 use Rattle.ks_machine.specs.declared.bodies.Made.TheVariants as made
 use Rattle.ks_shape.specs.Places.{Place, names}
-use Rattle.ks_shape.specs.Fields.{needed, optional}
+use Rattle.ks_shape.specs.Fields.{needed_if, optional}
 use Rattle.ks_shape.specs.Types.{description_text, falsehood, id_text, name_text, password_text, truth}
-
-abbrev pub name_at : Bool → List (List ℕ) → Place → Result (Option (List ℕ)) ShapeFault
-name_at true names body = do
-  name ← needed name_text names body
-  Ok (Some name)
-name_at false names body = optional name_text names body
 
 abbrev pub id_at : Bool → List (List ℕ) → Place → Result (Option (List ℕ)) ShapeFault
 id_at true names body = Ok None
@@ -24,7 +18,7 @@ id_at false names body = optional id_text names body
 
 unfoldable pub domain_of : Bool → Place → Result Made ShapeFault
 domain_of new body = do
-  name ← name_at new (names (codes "domain.name")) body
+  name ← needed_if new name_text (names (codes "domain.name")) body
   description ← optional description_text (names (codes "domain.description")) body
   enabled ← optional truth (names (codes "domain.enabled")) body
   id ← id_at new (names (codes "domain.id")) body
@@ -32,7 +26,7 @@ domain_of new body = do
 
 unfoldable pub project_of : Bool → Place → Result Made ShapeFault
 project_of new body = do
-  name ← name_at new (names (codes "project.name")) body
+  name ← needed_if new name_text (names (codes "project.name")) body
   domain ← optional id_text (names (codes "project.domain_id")) body
   parent ← optional id_text (names (codes "project.parent_id")) body
   description ← optional description_text (names (codes "project.description")) body
@@ -43,7 +37,7 @@ project_of new body = do
 
 unfoldable pub user_of : Bool → Place → Result Made ShapeFault
 user_of new body = do
-  name ← name_at new (names (codes "user.name")) body
+  name ← needed_if new name_text (names (codes "user.name")) body
   domain ← optional id_text (names (codes "user.domain_id")) body
   password ← optional password_text (names (codes "user.password")) body
   enabled ← optional truth (names (codes "user.enabled")) body
@@ -52,7 +46,7 @@ user_of new body = do
 
 unfoldable pub group_of : Bool → Place → Result Made ShapeFault
 group_of new body = do
-  name ← name_at new (names (codes "group.name")) body
+  name ← needed_if new name_text (names (codes "group.name")) body
   domain ← optional id_text (names (codes "group.domain_id")) body
   description ← optional description_text (names (codes "group.description")) body
   id ← id_at new (names (codes "group.id")) body
@@ -60,12 +54,12 @@ group_of new body = do
 
 unfoldable pub role_of : Bool → Place → Result Made ShapeFault
 role_of new body = do
-  name ← name_at new (names (codes "role.name")) body
+  name ← needed_if new name_text (names (codes "role.name")) body
   description ← optional description_text (names (codes "role.description")) body
   id ← id_at new (names (codes "role.id")) body
   Ok (made.Role id name description)
 
--- the kinds of rows that have a body
+-- the kinds of rows that have a body in this form
 abbrev pub has_body : Kind → Bool
 has_body kind.Domain = true
 has_body kind.Project = true
@@ -77,6 +71,9 @@ has_body kind.Grant = false
 has_body kind.Member = false
 has_body kind.Trust = false
 has_body kind.Event = false
+has_body kind.Region = false
+has_body kind.Service = false
+has_body kind.Endpoint = false
 
 abbrev pub made_of : Kind → Bool → Place → Result Made ShapeFault
 made_of kind.Domain new body = domain_of new body

@@ -4,7 +4,10 @@ use Rattle.std.specs.Int.{is_in_range}
 use Rattle.std.specs.Str.{bytes_eq}
 use Rattle.serde_json.specs.Data.{Items, no_items, item}
 use Rattle.serde_json.specs.Find.{as_array, as_bool, as_number, as_str, as_u64}
-use Rattle.ks_base.specs.declared.limits.TheConstants.{DESCRIPTION_BYTES, NAME_BYTES, PASSWORD_BYTES}
+use Rattle.ks_base.specs.declared.limits.TheConstants.{DESCRIPTION_BYTES, ENDPOINT_URL_BYTES, NAME_BYTES, PASSWORD_BYTES}
+use Rattle.ks_base.specs.declared.catalog.Interface.{Interface}
+use Rattle.ks_base.specs.declared.catalog.Interface.TheVariants as interface
+use Rattle.ks_base.specs.Catalog.{interface_word}
 use Rattle.ks_base.specs.Ids.{is_id}
 use Rattle.ks_base.specs.Results.{found, need, ◌>>=◌}
 use Rattle.ks_shape.specs.declared.method.LoginMethod.{LoginMethod}
@@ -32,6 +35,13 @@ description_text = text_of 0 DESCRIPTION_BYTES
 
 abbrev pub password_text : FieldType (List ℕ)
 password_text = text_of 1 PASSWORD_BYTES
+
+-- the type or the name of a service
+abbrev pub service_text : FieldType (List ℕ)
+service_text = text_of 0 NAME_BYTES
+
+abbrev pub endpoint_url : FieldType (List ℕ)
+endpoint_url = text_of 1 ENDPOINT_URL_BYTES
 
 unfoldable pub id_in : List ℕ → Result (List ℕ) Misfit
 id_in text = do
@@ -101,3 +111,15 @@ one_method value = do
   items ← found (as_array value) misfit.Kind
   text ← found (only_text items) misfit.Range
   found (method_named text) misfit.Range
+
+abbrev pub interface_named : List ℕ → Option Interface
+interface_named text =
+    if bytes_eq text (interface_word interface.Public) then Some interface.Public
+    else (if bytes_eq text (interface_word interface.Internal) then Some interface.Internal
+    else (if bytes_eq text (interface_word interface.Admin) then Some interface.Admin else None))
+
+-- the word of an interface
+unfoldable pub interface_text : FieldType Interface
+interface_text value = do
+  text ← any_text value
+  found (interface_named text) misfit.Range

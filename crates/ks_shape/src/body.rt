@@ -1,17 +1,18 @@
 ghost use Rattle.std.specs.Prelude.{◌≡◌, Some, IsTrue};
 ghost use Rattle.serde_json.specs.View.{view};
 ghost use Rattle.ks_base.specs.declared.shapes.ShapeFault.TheVariants as fault;
-ghost use Rattle.ks_shape.specs.Bodies.{body_of, document, form_of, is_form, password_of, whole_document};
+ghost use Rattle.ks_shape.specs.Bodies.{body_of, catalog_body_of, document, form_of, is_form, password_of, whole_document};
 ghost use Rattle.ks_shape.specs.Places.{place_of};
 ghost use Rattle.ks_base.specs.Results.{found};
 ghost use Rattle.ks_shape.specs.Readings.{Reads, ReadsBy};
 
+use crate::catalog::catalog_row;
 use crate::form::{BodyIn, Form};
 use crate::login::login;
 use crate::node::Node;
 use crate::rows::{PASSWORD, made};
 use crate::trust::trust;
-use ks_base::{ShapeFault, ShapeRefusal, Text};
+use ks_base::{CatalogIn, CatalogKind, ShapeFault, ShapeRefusal, Text};
 use serde_json::Value;
 use std::alloc::Global;
 
@@ -60,4 +61,21 @@ pub fn read_body(alloc: Global, form: Form, bytes: &[u8]) -> Result<BodyIn, Shap
     let path = Text::of(alloc, "")?;
     let body = Node::known_as(alloc, path, &value);
     read_form(form, &body)
+}
+
+/// What the bytes of a body say of a row of the catalog, or the first fault in the order of the kind's fields. In a creation, which
+/// is `new`, what the row can't do without is needed; in a change nothing is.
+#[tactic(auto, unfolding(crate::specs::Bodies::catalog_body_of))]
+pub fn read_catalog_body(
+    alloc: Global,
+    kind: CatalogKind,
+    new: bool,
+    bytes: &[u8],
+) -> Result<CatalogIn, ShapeRefusal>
+    ensures { Reads result (catalog_body_of kind new bytes.now) }
+{
+    let value = read_document(alloc, bytes)?;
+    let path = Text::of(alloc, "")?;
+    let body = Node::known_as(alloc, path, &value);
+    catalog_row(kind, new, &body)
 }

@@ -2,7 +2,7 @@ ghost use Rattle.std.specs.Prelude.{◌≡◌, Result, option_map};
 ghost use Rattle.serde_json.specs.Data.{Data};
 ghost use Rattle.serde_json.specs.View.{items_view, view};
 ghost use Rattle.ks_shape.specs.declared.misfit.Misfit.{Misfit};
-ghost use Rattle.ks_shape.specs.Fields.{fault_at, judged, needed, needed_value, optional, optional_value, unless_null};
+ghost use Rattle.ks_shape.specs.Fields.{fault_at, judged, needed, needed_if, needed_value, optional, optional_value, unless_null};
 ghost use Rattle.ks_shape.specs.Places.{names_in, path_at, place_of};
 ghost use Rattle.ks_shape.specs.Readings.{Fits, Reads, ReadsBy, Refuses};
 ghost use Rattle.ks_shape.specs.Types.{list_of};
@@ -109,6 +109,22 @@ impl<'a> Node<'a> {
         };
         let field = self.judged(names, of.read(self.alloc, value))?;
         Ok(Some(field))
+    }
+
+    /// A field that a new row needs, and a change may give.
+    pub fn needed_if<T: FieldType>(
+        &self,
+        new: bool,
+        names: &[&str],
+        of: &T,
+    ) -> Result<Option<T::Field>, ShapeRefusal>
+        ensures { Reads result (needed_if new (T.reads of.now) (names_in names.now) (place_of self.now)) }
+    {
+        if new {
+            let field = self.needed(names, of)?;
+            return Ok(Some(field));
+        }
+        self.optional(names, of)
     }
 
     /// The list that a value is, of so many values at most.

@@ -3,6 +3,7 @@
 #![tactic(auto)]
 
 mod body;
+mod catalog;
 mod fields;
 mod form;
 mod laws;
@@ -16,11 +17,12 @@ mod scope;
 mod trust;
 mod types;
 
-pub use body::{read_body, read_document};
+pub use body::{read_body, read_catalog_body, read_document};
+pub use catalog::{ENDPOINT_URL, InterfaceWord, SERVICE_TEXT};
 pub use fields::FieldType;
 pub use form::{BodyIn, Form};
-pub use laws::{bodies_are_in_range, moments_are_of_time_texts};
+pub use laws::{bodies_are_in_range, catalog_bodies_are_in_range, moments_are_of_time_texts};
 pub use misfit::{Misfit, Unread};
 pub use node::Node;
 pub use rows::{DESCRIPTION, NAME, PASSWORD};
-pub use types::{AnyText, Count, Falsehood, IdText, TextOf, TimeText, Truth, Whole};
+pub use types::{Affirmation, AnyText, Count, Falsehood, IdText, TextOf, TimeText, Truth, Whole};

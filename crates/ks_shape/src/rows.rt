@@ -1,12 +1,12 @@
 ghost use Rattle.std.specs.Prelude.{IsTrue};
 ghost use Rattle.ks_shape.specs.Places.{names_in, place_of};
 ghost use Rattle.ks_shape.specs.Readings.{Reads};
-ghost use Rattle.ks_shape.specs.Rows.{domain_of, group_of, has_body, id_at, made_of, name_at, project_of, role_of, user_of};
+ghost use Rattle.ks_shape.specs.Rows.{domain_of, group_of, has_body, id_at, made_of, project_of, role_of, user_of};
 
 use crate::node::Node;
 use crate::types::{Falsehood, IdText, TextOf, Truth};
 use ks_base::limits::{DESCRIPTION_BYTES, NAME_BYTES, PASSWORD_BYTES};
-use ks_base::{Id, Kind, ShapeRefusal, Text};
+use ks_base::{Id, Kind, ShapeRefusal};
 use ks_machine::Made;
 
 /// A name: 1 to 255 bytes.
@@ -27,19 +27,8 @@ pub const PASSWORD: TextOf = TextOf {
     most: PASSWORD_BYTES,
 };
 
-/// The name, which a creation needs.
-fn name_at(new: bool, names: &[&str], body: &Node) -> Result<Option<Text>, ShapeRefusal>
-    ensures { Reads result (name_at new (names_in names.now) (place_of body.now)) }
-{
-    if new {
-        let name = body.needed(names, &NAME)?;
-        return Ok(Some(name));
-    }
-    body.optional(names, &NAME)
-}
-
 /// The id, which a change alone reads.
-fn id_at(new: bool, names: &[&str], body: &Node) -> Result<Option<Id>, ShapeRefusal>
+pub(crate) fn id_at(new: bool, names: &[&str], body: &Node) -> Result<Option<Id>, ShapeRefusal>
     ensures { Reads result (id_at new (names_in names.now) (place_of body.now)) }
 {
     if new {
@@ -52,7 +41,7 @@ fn id_at(new: bool, names: &[&str], body: &Node) -> Result<Option<Id>, ShapeRefu
 fn domain(new: bool, body: &Node) -> Result<Made, ShapeRefusal>
     ensures { Reads result (domain_of new (place_of body.now)) }
 {
-    let name = name_at(new, &["domain", "name"], body)?;
+    let name = body.needed_if(new, &["domain", "name"], &NAME)?;
     let description = body.optional(&["domain", "description"], &DESCRIPTION)?;
     let enabled = body.optional(&["domain", "enabled"], &Truth)?;
     let id = id_at(new, &["domain", "id"], body)?;
@@ -68,7 +57,7 @@ fn domain(new: bool, body: &Node) -> Result<Made, ShapeRefusal>
 fn project(new: bool, body: &Node) -> Result<Made, ShapeRefusal>
     ensures { Reads result (project_of new (place_of body.now)) }
 {
-    let name = name_at(new, &["project", "name"], body)?;
+    let name = body.needed_if(new, &["project", "name"], &NAME)?;
     let domain = body.optional(&["project", "domain_id"], &IdText)?;
     let parent = body.optional(&["project", "parent_id"], &IdText)?;
     let description = body.optional(&["project", "description"], &DESCRIPTION)?;
@@ -89,7 +78,7 @@ fn project(new: bool, body: &Node) -> Result<Made, ShapeRefusal>
 fn user(new: bool, body: &Node) -> Result<Made, ShapeRefusal>
     ensures { Reads result (user_of new (place_of body.now)) }
 {
-    let name = name_at(new, &["user", "name"], body)?;
+    let name = body.needed_if(new, &["user", "name"], &NAME)?;
     let domain = body.optional(&["user", "domain_id"], &IdText)?;
     let password = body.optional(&["user", "password"], &PASSWORD)?;
     let enabled = body.optional(&["user", "enabled"], &Truth)?;
@@ -107,7 +96,7 @@ fn user(new: bool, body: &Node) -> Result<Made, ShapeRefusal>
 fn group(new: bool, body: &Node) -> Result<Made, ShapeRefusal>
     ensures { Reads result (group_of new (place_of body.now)) }
 {
-    let name = name_at(new, &["group", "name"], body)?;
+    let name = body.needed_if(new, &["group", "name"], &NAME)?;
     let domain = body.optional(&["group", "domain_id"], &IdText)?;
     let description = body.optional(&["group", "description"], &DESCRIPTION)?;
     let id = id_at(new, &["group", "id"], body)?;
@@ -123,7 +112,7 @@ fn group(new: bool, body: &Node) -> Result<Made, ShapeRefusal>
 fn role(new: bool, body: &Node) -> Result<Made, ShapeRefusal>
     ensures { Reads result (role_of new (place_of body.now)) }
 {
-    let name = name_at(new, &["role", "name"], body)?;
+    let name = body.needed_if(new, &["role", "name"], &NAME)?;
     let description = body.optional(&["role", "description"], &DESCRIPTION)?;
     let id = id_at(new, &["role", "id"], body)?;
     Ok(Made::Role {
