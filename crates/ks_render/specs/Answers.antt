@@ -37,6 +37,7 @@ status_of_granted (body_out.Trusts rows path) = 200
 status_of_granted (body_out.TrustRoles roles path) = 200
 status_of_granted (body_out.Events events path) = 200
 status_of_granted (body_out.Keys held primary) = 200
+status_of_granted (body_out.Catalog services path) = 200
 
 abbrev pub status_of : Reply → ℕ
 status_of (reply.Ok granted) = status_of_granted granted
@@ -67,6 +68,7 @@ granted_fields (body_out.Trusts rows path) = body_fields
 granted_fields (body_out.TrustRoles roles path) = body_fields
 granted_fields (body_out.Events events path) = body_fields
 granted_fields (body_out.Keys held primary) = body_fields
+granted_fields (body_out.Catalog services path) = body_fields
 
 abbrev pub first_fields : Reply → List Named
 first_fields (reply.Ok granted) = granted_fields granted
@@ -135,6 +137,7 @@ told_fields (body_out.Trusts rows path) = []
 told_fields (body_out.TrustRoles roles path) = []
 told_fields (body_out.Events events path) = []
 told_fields (body_out.Keys held primary) = []
+told_fields (body_out.Catalog services path) = []
 
 abbrev pub own_fields : Reply → List ℕ → List Named
 own_fields (reply.Ok granted) url = told_fields granted

@@ -1,6 +1,8 @@
--- A token whose body is known byte for byte.
-use Rattle.std.specs.Prelude.{ℕ, List, [], ◌∷◌, Option, Some, None, true, false, codes}
-use Rattle.ks_machine.specs.declared.body_out.Homed.{Homed}
+-- A token and a catalog whose bodies are known byte for byte.
+use Rattle.std.specs.Prelude.{ℕ, List, [], ◌∷◌, Some, None, true, false, codes}
+use Rattle.ks_base.specs.declared.catalog.Interface.TheVariants as interface
+use Rattle.ks_catalog.specs.declared.offers.EndpointOut.{EndpointOut}
+use Rattle.ks_catalog.specs.declared.offers.ServiceOut.{ServiceOut}
 use Rattle.ks_machine.specs.declared.body_out.Titled.{Titled}
 use Rattle.ks_machine.specs.declared.body_out.TokenOut.{TokenOut}
 
@@ -26,4 +28,17 @@ plain_login = record {
   trust = None;
   roles = Some (titled (codes "b0000000000000000000000000000001") (codes "admin") ∷ []);
   system = false;
+  catalog = Some [];
 }
+
+abbrev pub plain_endpoint : EndpointOut
+plain_endpoint = record {
+  id = codes "e0000000000000000000000000000001";
+  interface = interface.Public;
+  region = None;
+  url = codes "http://c:8774/a0000000000000000000000000000001";
+}
+
+-- a service with one endpoint, without a region
+abbrev pub plain_catalog : List ServiceOut
+plain_catalog = record { id = codes "50000000000000000000000000000001"; kind = codes "compute"; name = codes "nova"; endpoints = plain_endpoint ∷ [] } ∷ []

@@ -4,6 +4,7 @@ pub mod Values
 pub mod Versions
 pub mod Named
 pub mod Tokens
+pub mod Catalog
 pub mod Rows
 pub mod Grants
 pub mod Events

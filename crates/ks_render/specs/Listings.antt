@@ -36,6 +36,9 @@ many_body kind.Grant rows url path = rows_then_links (codes "grants") rows url p
 many_body kind.Member rows url path = links_then_rows (codes "members") rows url path
 many_body kind.Trust rows url path = links_then_rows (codes "trusts") rows url path
 many_body kind.Event rows url path = rows_then_links (codes "events") rows url path
+many_body kind.Region rows url path = links_then_rows (codes "regions") rows url path
+many_body kind.Service rows url path = links_then_rows (codes "services") rows url path
+many_body kind.Endpoint rows url path = rows_then_links (codes "endpoints") rows url path
 
 -- {"role_inference": {"implies": .., "prior_role": ..}}
 unfoldable pub inference_body : Data → Titled → Data

@@ -1,6 +1,5 @@
 -- The names by which errors tell kinds and faults.
 use Rattle.std.specs.Prelude.{ℕ, List, codes}
-use Rattle.ks_base.specs.declared.kinds.Kind.TheVariants as kind
 use Rattle.ks_base.specs.declared.faults.KeysFault.{KeysFault}
 use Rattle.ks_base.specs.declared.faults.KeysFault.TheVariants as keys
 use Rattle.ks_base.specs.declared.faults.TreeFault.{TreeFault}

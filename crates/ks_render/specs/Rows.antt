@@ -11,6 +11,7 @@ use Rattle.ks_machine.specs.declared.body_out.Row.{Row}
 use Rattle.ks_machine.specs.declared.body_out.Row.TheVariants as rows
 use Rattle.ks_machine.specs.declared.body_out.Titled.{Titled}
 use Rattle.ks_time.specs.TimeTexts.{time_text}
+use Rattle.ks_render.specs.Catalog.{endpoint_value, region_value, service_value}
 use Rattle.ks_render.specs.Values.{object_of, or_null}
 use Rattle.ks_render.specs.Named.{self_value, titles_value}
 
@@ -98,6 +99,9 @@ row_value url (rows.User user) = user_value url user
 row_value url (rows.Group group) = group_value url group
 row_value url (rows.Role role) = role_value url role
 row_value url (rows.Trust trust roles) = trust_value url trust roles
+row_value url (rows.Region region) = region_value url region
+row_value url (rows.Service service) = service_value url service
+row_value url (rows.Endpoint endpoint) = endpoint_value url endpoint
 
 -- the name of a row that is told alone
 unfoldable pub row_name : Row → List ℕ
@@ -107,6 +111,9 @@ row_name (rows.User user) = codes "user"
 row_name (rows.Group group) = codes "group"
 row_name (rows.Role role) = codes "role"
 row_name (rows.Trust trust roles) = codes "trust"
+row_name (rows.Region region) = codes "region"
+row_name (rows.Service service) = codes "service"
+row_name (rows.Endpoint endpoint) = codes "endpoint"
 
 -- {KIND: ..}
 unfoldable pub one_body : List ℕ → Row → Data

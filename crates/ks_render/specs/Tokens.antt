@@ -7,6 +7,7 @@ use Rattle.ks_machine.specs.declared.body_out.Homed.{Homed}
 use Rattle.ks_machine.specs.declared.body_out.TokenOut.{TokenOut}
 use Rattle.ks_machine.specs.declared.body_out.TrustUse.{TrustUse}
 use Rattle.ks_time.specs.TimeTexts.{time_text}
+use Rattle.ks_render.specs.Catalog.{services_told}
 use Rattle.ks_render.specs.Values.{Entry, array_of, entry_of, object_of}
 use Rattle.ks_render.specs.Named.{id_value, titled_value, titles_value, homed_value}
 
@@ -62,13 +63,13 @@ abbrev pub system_entries : Bool → List Entry
 system_entries false = []
 system_entries true = (codes "system", system_value) ∷ []
 
--- a token with a scope has an empty catalog and its roles, and one of a project tells that the project is no domain
+-- a token with a scope has its catalog and its roles, and one of a project tells that the project is no domain
 unfoldable pub token_value : TokenOut → Data
 token_value told =
     object_of (
     entry_of (codes "OS-TRUST:trust") trust_use_value told.trust
     ++ ((codes "audit_ids", audit_ids told)
-    ∷ (entry_of (codes "catalog") (λ roles. array_of []) told.roles
+    ∷ (entry_of (codes "catalog") services_told told.catalog
     ++ (entry_of (codes "domain") titled_value told.domain
     ++ ((codes "expires_at", string (time_text told.expires))
     ∷ (entry_of (codes "is_domain") (λ project. boolean false) told.project

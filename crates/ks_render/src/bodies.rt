@@ -16,6 +16,7 @@ use crate::tokens::write_token;
 use crate::version::write_version;
 use json::Writer;
 use ks_base::{Bytes, Memory, Text};
+use ks_catalog::ServiceOutList;
 use ks_http::HttpCause;
 use ks_machine::{BodyOut, Reply, TokenOut};
 use std::alloc::{AllocError, Global};
@@ -31,11 +32,25 @@ fn room_for(count: usize) -> usize {
     ROOM + count.min(4096) * 256
 }
 
-fn token_room(told: &TokenOut) -> usize {
-    match &told.roles {
-        Some(roles) => room_for(roles.as_slice().len()),
-        None => ROOM,
+/// How many services and endpoints a catalog has, together.
+fn catalog_size(services: &ServiceOutList) -> usize {
+    let mut size = services.as_slice().len();
+    for service in services.as_slice() {
+        size = size.saturating_add(service.endpoints.as_slice().len());
     }
+    size
+}
+
+fn token_room(told: &TokenOut) -> usize {
+    let roles = match &told.roles {
+        Some(roles) => roles.as_slice().len(),
+        None => 0,
+    };
+    let offers = match &told.catalog {
+        Some(services) => catalog_size(services),
+        None => 0,
+    };
+    room_for(roles.saturating_add(offers))
 }
 
 /// Room for most bodies of what is told.
@@ -54,6 +69,7 @@ fn granted_room(granted: &BodyOut) -> usize {
         BodyOut::TrustRoles(roles, _) => room_for(roles.as_slice().len()),
         BodyOut::Events(events, _) => room_for(events.as_slice().len()),
         BodyOut::Keys(_, _) => ROOM,
+        BodyOut::Catalog(services, _) => room_for(catalog_size(services)),
     }
 }
 
@@ -98,6 +114,9 @@ fn write_granted(
             write_rows_then_links(out, "events", events, url, path, link)
         }
         BodyOut::Keys(held, primary) => write_keys(out, held, *primary, url, link),
+        BodyOut::Catalog(services, path) => {
+            write_rows_then_links(out, "catalog", services, url, path, link)
+        }
     }
 }
 

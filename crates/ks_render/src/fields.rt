@@ -79,6 +79,7 @@ fn granted_fields(alloc: Global, granted: &BodyOut) -> Result<FieldList, Memory>
         BodyOut::TrustRoles(_, _) => body_fields(alloc),
         BodyOut::Events(_, _) => body_fields(alloc),
         BodyOut::Keys(_, _) => body_fields(alloc),
+        BodyOut::Catalog(_, _) => body_fields(alloc),
     }
 }
 
@@ -184,6 +185,7 @@ fn push_told(fields: &mut FieldList, alloc: Global, granted: &BodyOut) -> Result
         BodyOut::TrustRoles(_, _) => Ok(()),
         BodyOut::Events(_, _) => Ok(()),
         BodyOut::Keys(_, _) => Ok(()),
+        BodyOut::Catalog(_, _) => Ok(()),
     }
 }
 

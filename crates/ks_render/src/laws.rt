@@ -5,8 +5,9 @@ ghost use Rattle.ks_http.specs.Responses.{head_of, content, memory_response};
 ghost use Rattle.ks_machine.specs.declared.reply.Reply.{Reply as AnyReply};
 ghost use Rattle.ks_machine.specs.declared.reply.Reply.TheVariants.{Refused};
 ghost use Rattle.ks_machine.specs.declared.cause.Cause.TheVariants.{Credentials, Memory};
+ghost use Rattle.ks_render.specs.Catalog.{services_told};
 ghost use Rattle.ks_render.specs.Errors.{refused_body};
-ghost use Rattle.ks_render.specs.Examples.{plain_login};
+ghost use Rattle.ks_render.specs.Examples.{plain_catalog, plain_login};
 ghost use Rattle.ks_render.specs.Tokens.{token_body};
 ghost use Rattle.ks_render.specs.Versions.{version_body};
 ghost use Rattle.ks_render.specs.Answers.{response_of, wire};
@@ -30,6 +31,12 @@ pub fn token_document()
     ensures text { compact_text (token_body plain_login)
         ≡ codes "{\"token\":{\"audit_ids\":[\"AAECAwQFBgcICQoLDA0ODw\"],\"catalog\":[],\"expires_at\":\"1985-10-26T09:20:00.000000Z\",\"is_domain\":false,\"issued_at\":\"1985-10-26T08:20:00.000000Z\",\"methods\":[\"password\"],\"project\":{\"domain\":{\"id\":\"default\",\"name\":\"Default\"},\"id\":\"a0000000000000000000000000000001\",\"name\":\"demo\"},\"roles\":[{\"id\":\"b0000000000000000000000000000001\",\"name\":\"admin\"}],\"user\":{\"domain\":{\"id\":\"default\",\"name\":\"Default\"},\"id\":\"00112233445566778899aabbccddeeff\",\"name\":\"ann\",\"password_expires_at\":null}}}" }
     ensures size { length (compact_text (token_body plain_login)) ≡ 497 }
+{}
+
+/// The catalog of a token with one service, byte for byte.
+pub fn catalog_document()
+    ensures { compact_text (services_told plain_catalog)
+        ≡ codes "[{\"endpoints\":[{\"id\":\"e0000000000000000000000000000001\",\"interface\":\"public\",\"region\":null,\"region_id\":null,\"url\":\"http://c:8774/a0000000000000000000000000000001\"}],\"id\":\"50000000000000000000000000000001\",\"name\":\"nova\",\"type\":\"compute\"}]" }
 {}
 
 /// Want of memory is told in one way, by the reply and where there is no memory for any response.

@@ -2,6 +2,7 @@
 #![tactic(auto)]
 
 mod bodies;
+mod catalog;
 mod errors;
 mod events;
 mod fields;
@@ -19,7 +20,7 @@ mod version;
 mod writing;
 
 pub use laws::{
-    head_has_no_body, memory_ends_the_connection, token_document, unauthorized_document,
-    version_document,
+    catalog_document, head_has_no_body, memory_ends_the_connection, token_document,
+    unauthorized_document, version_document,
 };
 pub use responses::{render, render_bad};

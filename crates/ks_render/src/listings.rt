@@ -41,7 +41,8 @@ fn write_links(
     out.end_object()
 }
 
-fn write_rows<T: Tell>(
+/// Writes rows under a name.
+pub fn write_rows<T: Tell>(
     out: &mut Writer,
     name: &str,
     rows: &ListOf<T>,
@@ -114,6 +115,9 @@ pub fn write_many(
         Kind::Member => write_links_then_rows(out, "members", rows, url, path, link),
         Kind::Trust => write_links_then_rows(out, "trusts", rows, url, path, link),
         Kind::Event => write_rows_then_links(out, "events", rows, url, path, link),
+        Kind::Region => write_links_then_rows(out, "regions", rows, url, path, link),
+        Kind::Service => write_links_then_rows(out, "services", rows, url, path, link),
+        Kind::Endpoint => write_rows_then_links(out, "endpoints", rows, url, path, link),
     }
 }
 

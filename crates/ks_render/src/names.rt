@@ -19,6 +19,9 @@ pub fn kind_name(kind: Kind) -> &'static str
         Kind::Member => "member",
         Kind::Trust => "trust",
         Kind::Event => "event",
+        Kind::Region => "region",
+        Kind::Service => "service",
+        Kind::Endpoint => "endpoint",
     }
 }
 

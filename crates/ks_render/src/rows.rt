@@ -4,6 +4,7 @@ ghost use Rattle.ks_machine.specs.Told.{IsRowTellable};
 ghost use Rattle.ks_render.specs.Rows.{domain_value, group_value, one_body, project_value, role_value, row_name, row_value, trust_value, user_value};
 ghost use Rattle.ks_render.specs.steps.Writing.{Enters, Tells};
 
+use crate::catalog::{write_endpoint, write_region, write_service};
 use crate::named::write_titles;
 use crate::tell::Tell;
 use crate::writing::{
@@ -143,6 +144,9 @@ fn write_row(out: &mut Writer, row: &Row, url: &Text, link: &mut String) -> Resu
         Row::Group(row) => write_group(out, row, url, link),
         Row::Role(row) => write_role(out, row, url, link),
         Row::Trust(row, roles) => write_trust(out, row, roles, url, link),
+        Row::Region(row) => write_region(out, row, url, link),
+        Row::Service(row) => write_service(out, row, url, link),
+        Row::Endpoint(row) => write_endpoint(out, row, url, link),
     }
 }
 
@@ -158,6 +162,9 @@ fn row_name(row: &Row) -> &'static str
         Row::Group(_) => "group",
         Row::Role(_) => "role",
         Row::Trust(_, _) => "trust",
+        Row::Region(_) => "region",
+        Row::Service(_) => "service",
+        Row::Endpoint(_) => "endpoint",
     }
 }
 

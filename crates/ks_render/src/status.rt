@@ -30,6 +30,7 @@ fn status_of_granted(granted: &BodyOut) -> u16
         BodyOut::TrustRoles(_, _) => 200,
         BodyOut::Events(_, _) => 200,
         BodyOut::Keys(_, _) => 200,
+        BodyOut::Catalog(_, _) => 200,
     }
 }
 
