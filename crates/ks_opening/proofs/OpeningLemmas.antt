@@ -12,6 +12,7 @@ use Rattle.ks_base.specs.declared.kinds.Kind.TheVariants as kind
 use Rattle.ks_base.specs.declared.limits.TheConstants.{LEVELS}
 use Rattle.ks_base.specs.declared.rows.DomainRow.{DomainRow}
 use Rattle.ks_base.specs.declared.rows.ProjectRow.{ProjectRow}
+use Rattle.ks_base.specs.Catalog.{region_of, service_of}
 use Rattle.ks_base.specs.Refusals.{fault_if, fault_in, first_of}
 use Rattle.ks_base.specs.RoleFaults.{is_admin}
 use Rattle.ks_base.specs.Rows.{Id, Rows, domain_of, group_of, project_of, role_of, user_of}
@@ -20,7 +21,7 @@ use Rattle.ks_base.specs.Tree.{above, above_within, is_top, parent_of}
 use Rattle.ks_base.proofs.RowLemmas.{length_put_new}
 use Rattle.ks_machine.specs.declared.settings.OpenFault.{OpenFault}
 use Rattle.ks_machine.specs.declared.settings.OpenFault.TheVariants as fault
-use Rattle.ks_machine.specs.Opened.{absent_fault, first_alone, first_fault, id_repeated, ids_fault, names_fault, no_actor, no_domain, no_group, no_project, no_role, no_target, no_user, parent_absent, put_all, rows_opened}
+use Rattle.ks_machine.specs.Opened.{absent_fault, first_alone, first_fault, id_repeated, ids_fault, names_fault, no_actor, no_domain, no_group, no_project, no_region, no_role, no_service, no_target, no_user, parent_absent, put_all, rows_opened, upper_region_absent}
 use Rattle.ks_machine.specs.Openings.{PlainOpening}
 use Rattle.ks_opening.specs.steps.Listed.{AreRowsOf, listed_fault, rows_fault, rows_listed}
 use Rattle.ks_opening.specs.declared.listed.Listed.{Listed}
@@ -36,6 +37,8 @@ pub record Alike (a b : Rows) : Type 0 where
   pub users : (id : Id) → user_of id a.users ≡ user_of id b.users
   pub groups : (id : Id) → group_of id a.groups ≡ group_of id b.groups
   pub roles : (id : Id) → role_of id a.roles ≡ role_of id b.roles
+  pub regions : (id : Id) → region_of id a.regions ≡ region_of id b.regions
+  pub services : (id : Id) → service_of id a.services ≡ service_of id b.services
   pub many : length a.projects ≡ length b.projects
 
 no_domain_alike : (a b : Rows) → Alike a b → (id : Id) → no_domain a id ≡ no_domain b id
@@ -52,6 +55,13 @@ no_group_alike a b alike id = λ i. fault_if (is_none (alike.groups id i)) (faul
 
 no_role_alike : (a b : Rows) → Alike a b → (id : Id) → no_role a id ≡ no_role b id
 no_role_alike a b alike id = λ i. fault_if (is_none (alike.roles id i)) (fault.Absent kind.Role id)
+
+no_service_alike : (a b : Rows) → Alike a b → (id : Id) → no_service a id ≡ no_service b id
+no_service_alike a b alike id = λ i. fault_if (is_none (alike.services id i)) (fault.Absent kind.Service id)
+
+no_region_alike : (a b : Rows) → Alike a b → (region : Option Id) → no_region a region ≡ no_region b region
+no_region_alike a b alike None = refl
+no_region_alike a b alike (Some id) = λ i. fault_if (is_none (alike.regions id i)) (fault.Absent kind.Region id)
 
 no_actor_alike : (a b : Rows) → Alike a b → (who : Actor) → no_actor a who ≡ no_actor b who
 no_actor_alike a b alike (actor.User id) = no_user_alike a b alike id
@@ -70,6 +80,8 @@ absent_alike a b opening alike = λ i. first_of (
     first_alone (λ row. no_domain_alike a b alike row.domain i) opening.groups ∷
     first_alone (λ row. option_or (no_group_alike a b alike row.group i) (no_user_alike a b alike row.user i)) opening.members ∷
     first_alone (λ row. option_or (no_role_alike a b alike row.prior i) (no_role_alike a b alike row.implied i)) opening.implications ∷
+    first_fault upper_region_absent opening.regions ∷
+    first_alone (λ row. option_or (no_service_alike a b alike row.service i) (no_region_alike a b alike row.region i)) opening.endpoints ∷
     first_alone (λ row. first_of (no_actor_alike a b alike row.actor i ∷ no_target_alike a b alike row.target i ∷ no_role_alike a b alike row.role i ∷ [])) opening.assignments ∷ [])
 
 -- what lies above a project
@@ -118,6 +130,8 @@ opened_alike listed opening are apart = record {
   users = found_alike (λ row. row.id) listed.users opening.users are.users;
   groups = found_alike (λ row. row.id) listed.groups opening.groups are.groups;
   roles = found_alike (λ row. row.id) listed.roles opening.roles are.roles;
+  regions = found_alike (λ row. row.id) listed.regions opening.regions are.regions;
+  services = found_alike (λ row. row.id) listed.services opening.services are.services;
   many = ap length are.projects ∙ sym (length_all (λ row. row.id) opening.projects apart);
 }
 
@@ -133,6 +147,9 @@ pub record AreAllApart (opening : PlainOpening) : Type 0 where
   pub users : AreApart id_cmp (λ row. row.id) opening.users
   pub groups : AreApart id_cmp (λ row. row.id) opening.groups
   pub roles : AreApart id_cmp (λ row. row.id) opening.roles
+  pub regions : AreApart id_cmp (λ row. row.id) opening.regions
+  pub services : AreApart id_cmp (λ row. row.id) opening.services
+  pub endpoints : AreApart id_cmp (λ row. row.id) opening.endpoints
 
 pub first_none : (o : Option OpenFault) (rest : List (Option OpenFault)) → first_of (o ∷ rest) ≡ None → (o ≡ None) × (first_of rest ≡ None)
 first_none None rest none = (refl, none)
@@ -145,12 +162,18 @@ apart_all opening none =
     let projects = first_none (first_fault (id_repeated kind.Project (λ row. row.id)) opening.projects) _ domains.1 in
     let users = first_none (first_fault (id_repeated kind.User (λ row. row.id)) opening.users) _ projects.1 in
     let groups = first_none (first_fault (id_repeated kind.Group (λ row. row.id)) opening.groups) _ users.1 in
-    let roles = first_none (first_fault (id_repeated kind.Role (λ row. row.id)) opening.roles) _ groups.1 in record {
+    let roles = first_none (first_fault (id_repeated kind.Role (λ row. row.id)) opening.roles) _ groups.1 in
+    let regions = first_none (first_fault (id_repeated kind.Region (λ row. row.id)) opening.regions) _ roles.1 in
+    let services = first_none (first_fault (id_repeated kind.Service (λ row. row.id)) opening.services) _ regions.1 in
+    let endpoints = first_none (first_fault (id_repeated kind.Endpoint (λ row. row.id)) opening.endpoints) _ services.1 in record {
       domains = apart_if_new kind.Domain (λ row. row.id) opening.domains domains.0;
       projects = apart_if_new kind.Project (λ row. row.id) opening.projects projects.0;
       users = apart_if_new kind.User (λ row. row.id) opening.users users.0;
       groups = apart_if_new kind.Group (λ row. row.id) opening.groups groups.0;
       roles = apart_if_new kind.Role (λ row. row.id) opening.roles roles.0;
+      regions = apart_if_new kind.Region (λ row. row.id) opening.regions regions.0;
+      services = apart_if_new kind.Service (λ row. row.id) opening.services services.0;
+      endpoints = apart_if_new kind.Endpoint (λ row. row.id) opening.endpoints endpoints.0;
     }
 
 -- the checks of the rows, one after the other

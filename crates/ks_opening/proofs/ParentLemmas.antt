@@ -1,8 +1,10 @@
 -- Parents that come earlier.
-use Rattle.std.proofs.Common.{◌≡◌, ℕ, zero, suc, Bool, true, false, not, ◌&&◌, ◌||◌, cond, List, [], ◌∷◌, take, Option, Some, refl, sym, ap, ◌∙◌}
+use Rattle.std.proofs.Common.{◌≡◌, ℕ, zero, suc, Bool, true, false, not, ◌&&◌, ◌||◌, cond, List, [], ◌∷◌, take, Option, Some, None, is_none, is_some, refl, sym, ap, ◌∙◌}
 use Rattle.std.specs.List.{AllByRecursion, find, list_any}
-use Rattle.std.specs.Option.{option_map_or}
+use denote.Ref.{Bor}
+use Rattle.std.specs.Option.{option_copied, option_map_or}
 use Rattle.std.proofs.lemmas.Slice.Eq.{bytes_eq-Decides}
+use Rattle.ks_base.specs.declared.catalog.RegionRow.{RegionRow}
 use Rattle.ks_base.specs.declared.kinds.Kind.TheVariants as kind
 use Rattle.ks_base.specs.declared.rows.ProjectRow.{ProjectRow}
 use Rattle.ks_base.specs.Refusals.{fault_if}
@@ -11,7 +13,7 @@ use Rattle.ks_base.specs.Tables.{find_row, has_key, id_cmp}
 use Rattle.ks_base.specs.Tree.{is_top}
 use Rattle.ks_base.proofs.RowLemmas.{find_by_id, id_same}
 use Rattle.ks_machine.specs.declared.settings.OpenFault.TheVariants as fault
-use Rattle.ks_machine.specs.Opened.{parent_absent}
+use Rattle.ks_machine.specs.Opened.{parent_absent, upper_region_absent}
 use Rattle.ks_opening.specs.steps.Indexed.{AreApart}
 
 all_take : {X : Type 0} (P : X → Type 0) (n : ℕ) (rows : List X) → AllByRecursion P rows → AllByRecursion P (take n rows)
@@ -64,3 +66,28 @@ parent_is rows at row found apart lower is =
     ∙ ap (λ b. fault_if (not b) (fault.Absent kind.Project row.parent))
     (any_of (λ r. r.id) (λ parent. same parent.domain row.domain) row.parent (take at rows) (apart_take (λ r. r.id) at rows apart)
     ∙ ap (λ (o : Option ProjectRow). option_map_or (λ parent. same parent.domain row.domain) o false) (sym (find_by_id (λ r. r.id) row.parent (take at rows)) ∙ sym is))
+
+-- the fault of a region above that is found, or not
+
+any_found : {X : Type 0} (test : X → Bool) (rows : List X) → not (list_any test rows) ≡ is_none (find test rows)
+any_found test [] = refl
+any_found test (row ∷ rows) = by_first (test row) (any_found test rows)
+  where
+    by_first : (b : Bool) → not (list_any test rows) ≡ is_none (find test rows) → not (b || list_any test rows) ≡ is_none (cond b (Some row) (find test rows))
+    by_first true later = refl
+    by_first false later = later
+
+none_copied : {X : Type 0} (o : Option (Bor X)) (absent : Bool) → is_some o ≡ not absent → absent ≡ is_none (option_copied o)
+none_copied None true is = refl
+none_copied None false is = cc
+none_copied (Some x) true is = cc
+none_copied (Some x) false is = refl
+
+pub upper_is : (rows : List RegionRow) (at : ℕ) (row : RegionRow) (upper : Id) (found : Option (Bor RegionRow)) (absent : Bool) → row.parent ≡ Some upper →
+    option_copied found ≡ find_row id_cmp (λ r. r.id) upper (take at rows) → is_some found ≡ not absent →
+    fault_if absent (fault.Absent kind.Region upper) ≡ upper_region_absent (take at rows) row
+upper_is rows at row upper found absent names is none =
+    ap (λ b. fault_if b (fault.Absent kind.Region upper))
+    (none_copied found absent none ∙ ap (λ (o : Option RegionRow). is_none o) (is ∙ find_by_id (λ r. r.id) upper (take at rows))
+    ∙ sym (any_found (λ r. same r.id upper) (take at rows)))
+    ∙ sym (ap (λ (o : Option Id). upper_region_absent (take at rows) (record row { parent = o })) names)

@@ -2,6 +2,7 @@
 use Rattle.std.specs.Prelude.{◌≡◌, ◌⊎◌, List, [], Option, Some, None, Result, Ok, Err}
 use Rattle.ks_base.specs.declared.grants.GrantRow.{GrantRow}
 use Rattle.ks_base.specs.declared.trusts.TrustRow.{TrustRow}
+use Rattle.ks_base.specs.Catalog.{CatalogState}
 use Rattle.ks_base.specs.People.{PeopleState}
 use Rattle.ks_base.specs.RoleLists.{RolesState}
 use Rattle.ks_base.specs.Rows.{Rows}
@@ -12,8 +13,8 @@ use Rattle.ks_machine.specs.declared.settings.OpenFault.TheVariants as fault
 use Rattle.ks_opening.specs.declared.opened.Opened.{Opened}
 
 -- the rows of the tables
-abbrev pub rows_in : TreeState → PeopleState → RolesState → List GrantRow → List TrustRow → Rows
-rows_in tree people roles grants trusts = record {
+abbrev pub rows_in : TreeState → PeopleState → RolesState → List GrantRow → List TrustRow → CatalogState → Rows
+rows_in tree people roles grants trusts catalog = record {
   domains = tree.domains;
   projects = tree.projects;
   users = people.users;
@@ -23,6 +24,9 @@ rows_in tree people roles grants trusts = record {
   implications = roles.implications;
   grants = grants;
   trusts = trusts;
+  regions = catalog.regions;
+  services = catalog.services;
+  endpoints = catalog.endpoints;
 }
 
 -- the state before any change: no trust stands, and nothing is revoked
@@ -31,7 +35,7 @@ state_of opened = record {
   settings = opened.settings;
   rules = opened.rules;
   ring = opened.ring;
-  rows = rows_in opened.tree opened.people opened.roles opened.grants [];
+  rows = rows_in opened.tree opened.people opened.roles opened.grants [] opened.catalog;
   events = [];
   high = 0;
   made = 0;

@@ -8,9 +8,10 @@ ghost use Rattle.ks_ring.specs.Rings.{loaded_unless, new_of, refusal_of};
 
 use crate::Opened;
 use crate::limits::check_full;
-use crate::tables::{parties_of, rights_of};
+use crate::tables::{catalog_of, parties_of, rights_of};
 use ks_assign::Grants;
 use ks_base::{KeyList, Memory};
+use ks_catalog::Catalog;
 use ks_machine::{OpenFault, Settings};
 use ks_people::People;
 use ks_policy::{Opening, Rules};
@@ -28,6 +29,7 @@ pub(crate) struct Filled {
     pub(crate) people: People,
     pub(crate) roles: Roles,
     pub(crate) grants: Grants,
+    pub(crate) catalog: Catalog,
 }
 
 impl Drop for Filled {
@@ -40,6 +42,7 @@ impl Drop for Filled {
             people: _,
             roles: _,
             grants: _,
+            catalog: _,
         } = self;
     }
 }
@@ -61,10 +64,14 @@ impl Filled {
             members,
             roles,
             implications,
+            regions,
+            services,
+            endpoints,
             assignments,
         } = opening;
         let (tree, people) = parties_of(alloc, domains, projects, users, groups, members)?;
         let (roles, grants) = rights_of(alloc, roles, implications, assignments)?;
+        let catalog = catalog_of(alloc, regions, services, endpoints)?;
         Ok(Filled {
             settings,
             rules,
@@ -73,6 +80,7 @@ impl Filled {
             people,
             roles,
             grants,
+            catalog,
         })
     }
 
@@ -80,7 +88,13 @@ impl Filled {
     pub(crate) fn check_full(&self) -> Result<(), OpenFault>
         ensures { fault_in result ≡ full_fault (rows_of self.now) }
     {
-        check_full(&self.tree, &self.people, &self.roles, &self.grants)
+        check_full(
+            &self.tree,
+            &self.people,
+            &self.roles,
+            &self.grants,
+            &self.catalog,
+        )
     }
 
     /// The ring of the keys, or why they are none.
@@ -106,6 +120,7 @@ impl Filled {
             people,
             roles,
             grants,
+            catalog,
         } = self;
         Opened {
             settings,
@@ -115,6 +130,7 @@ impl Filled {
             people,
             roles,
             grants,
+            catalog,
         }
     }
 }

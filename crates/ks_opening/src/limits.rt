@@ -1,14 +1,18 @@
 //! How many rows may stand.
 ghost use Rattle.std.specs.Prelude.{◌≡◌, []};
-ghost use Rattle.ks_base.specs.declared.limits.TheConstants.{DOMAINS, GRANTS, GROUPS, IMPLICATIONS, MEMBERS, PROJECTS, ROLES, USERS};
+ghost use Rattle.ks_base.specs.declared.limits.TheConstants.{DOMAINS, ENDPOINTS, GRANTS, GROUPS, IMPLICATIONS, MEMBERS, PROJECTS, REGIONS, ROLES, SERVICES, USERS};
 ghost use Rattle.ks_base.specs.Limits.{limit};
 ghost use Rattle.ks_base.specs.Refusals.{fault_in};
 ghost use Rattle.ks_machine.specs.Opened.{full, full_fault};
 ghost use Rattle.ks_opening.specs.Opened.{rows_in};
 
 use ks_assign::Grants;
-use ks_base::limits::{DOMAINS, GRANTS, GROUPS, IMPLICATIONS, MEMBERS, PROJECTS, ROLES, USERS};
+use ks_base::limits::{
+    DOMAINS, ENDPOINTS, GRANTS, GROUPS, IMPLICATIONS, MEMBERS, PROJECTS, REGIONS, ROLES, SERVICES,
+    USERS,
+};
 use ks_base::{Kind, refuse_if};
+use ks_catalog::Catalog;
 use ks_machine::OpenFault;
 use ks_people::People;
 use ks_roles::Roles;
@@ -29,8 +33,9 @@ pub(crate) fn check_full(
     people: &People,
     roles: &Roles,
     grants: &Grants,
+    catalog: &Catalog,
 ) -> Result<(), OpenFault>
-    ensures { fault_in result ≡ full_fault (rows_in tree.now people.now roles.now grants.now []) }
+    ensures { fault_in result ≡ full_fault (rows_in tree.now people.now roles.now grants.now [] catalog.now) }
 {
     check_limit(Kind::Domain, tree.domains().len(), DOMAINS)?;
     check_limit(Kind::Project, tree.projects().len(), PROJECTS)?;
@@ -39,5 +44,8 @@ pub(crate) fn check_full(
     check_limit(Kind::Member, people.members().len(), MEMBERS)?;
     check_limit(Kind::Role, roles.roles().len(), ROLES)?;
     check_limit(Kind::Implication, roles.implications().len(), IMPLICATIONS)?;
+    check_limit(Kind::Region, catalog.regions().len(), REGIONS)?;
+    check_limit(Kind::Service, catalog.services().len(), SERVICES)?;
+    check_limit(Kind::Endpoint, catalog.endpoints().len(), ENDPOINTS)?;
     check_limit(Kind::Grant, grants.as_slice().len(), GRANTS)
 }

@@ -3,16 +3,16 @@ ghost use Rattle.std.specs.Prelude.{◌≡◌, IfOk, option_copied, take};
 ghost use Rattle.std.specs.Option.{option_or};
 ghost use Rattle.ks_base.specs.Refusals.{fault_in, first_of};
 ghost use Rattle.ks_base.specs.Tables.{find_row, id_cmp};
-ghost use Rattle.ks_machine.specs.Opened.{absent_fault, first_fault, ids_fault, no_actor, no_domain, no_group, no_project, no_role, no_target, no_user, parent_absent};
+ghost use Rattle.ks_machine.specs.Opened.{absent_fault, ids_fault, no_actor, no_domain, no_group, no_project, no_region, no_role, no_service, no_target, no_user, parent_absent, upper_region_absent};
 ghost use Rattle.ks_policy.specs.Openings.{plain};
 ghost use Rattle.ks_opening.specs.Opened.{TellsFault};
 ghost use Rattle.ks_opening.specs.steps.Listed.{AreRowsOf, rows_listed};
 
-use crate::check::{Check, check_each};
+use crate::check::{Check, CheckBehind, check_each, check_each_behind};
 use crate::index::Index;
 use ks_base::{
-    Actor, DomainRow, GrantRow, GroupRow, Id, ImplyRow, Kind, MemberRow, ProjectList, ProjectRow,
-    RoleRow, Target, UserRow, refuse_if,
+    Actor, DomainRow, EndpointRow, GrantRow, GroupRow, Id, ImplyRow, Kind, MemberRow, ProjectRow,
+    RegionRow, RoleRow, ServiceRow, Target, UserRow, refuse_if,
 };
 use ks_machine::OpenFault;
 use ks_policy::Opening;
@@ -25,6 +25,9 @@ pub(crate) struct Listed<'a> {
     pub(crate) users: Index<'a, UserRow>,
     pub(crate) groups: Index<'a, GroupRow>,
     pub(crate) roles: Index<'a, RoleRow>,
+    pub(crate) regions: Index<'a, RegionRow>,
+    pub(crate) services: Index<'a, ServiceRow>,
+    pub(crate) endpoints: Index<'a, EndpointRow>,
 }
 
 impl Drop for Listed<'_> {
@@ -35,6 +38,9 @@ impl Drop for Listed<'_> {
             users: _,
             groups: _,
             roles: _,
+            regions: _,
+            services: _,
+            endpoints: _,
         } = self;
     }
 }
@@ -52,6 +58,9 @@ impl<'a> Listed<'a> {
             users: Index::new(alloc, Kind::User, opening.users.as_slice())?,
             groups: Index::new(alloc, Kind::Group, opening.groups.as_slice())?,
             roles: Index::new(alloc, Kind::Role, opening.roles.as_slice())?,
+            regions: Index::new(alloc, Kind::Region, opening.regions.as_slice())?,
+            services: Index::new(alloc, Kind::Service, opening.services.as_slice())?,
+            endpoints: Index::new(alloc, Kind::Endpoint, opening.endpoints.as_slice())?,
         })
     }
 
@@ -61,30 +70,14 @@ impl<'a> Listed<'a> {
         requires { AreRowsOf self.now (plain opening.now) }
         ensures { fault_in result ≡ absent_fault (rows_listed self.now) (plain opening.now) }
     {
-        self.check_projects(&opening.projects)?;
+        check_each_behind(self, &opening.projects)?;
         check_each(self, &opening.users)?;
         check_each(self, &opening.groups)?;
         check_each(self, &opening.members)?;
         check_each(self, &opening.implications)?;
+        check_each_behind(self, &opening.regions)?;
+        check_each(self, &opening.endpoints)?;
         check_each(self, &opening.assignments)
-    }
-
-    /// The domain of each project stands, and its parent comes earlier, in the same domain.
-    fn check_projects(&self, rows: &ProjectList) -> Result<(), OpenFault>
-        requires { self.now.projects ≡ rows.now }
-        ensures { fault_in result ≡ first_fault (λ before row. option_or (no_domain (rows_listed self.now) row.domain) (parent_absent before row)) rows.now }
-    {
-        for (at, row) in rows.as_slice().iter().enumerate() {
-            self.check_project(at, row)?;
-        }
-        Ok(())
-    }
-
-    fn check_project(&self, at: usize, row: &ProjectRow) -> Result<(), OpenFault>
-        ensures { fault_in result ≡ option_or (no_domain (rows_listed self.now) row.now.domain) (parent_absent (take at self.now.projects) row.now) }
-    {
-        self.domain_stands(&row.domain)?;
-        self.parent_stands(at, row)
     }
 
     /// The parent is the domain, or a project of the domain that comes before this place.
@@ -100,6 +93,19 @@ impl<'a> Listed<'a> {
                 OpenFault::Absent(Kind::Project, row.parent),
             ),
             None => Err(OpenFault::Absent(Kind::Project, row.parent)),
+        }
+    }
+
+    /// The region above comes before this place.
+    fn upper_stands(&self, at: usize, row: &RegionRow) -> Result<(), OpenFault>
+        ensures { fault_in result ≡ upper_region_absent (take at self.now.regions) row.now }
+    {
+        match row.parent {
+            Some(upper) => {
+                let absent = self.regions.get_before(at, &upper).is_none();
+                refuse_if(absent, OpenFault::Absent(Kind::Region, upper))
+            }
+            None => Ok(()),
         }
     }
 
@@ -147,6 +153,26 @@ impl<'a> Listed<'a> {
         }
     }
 
+    fn service_stands(&self, id: &Id) -> Result<(), OpenFault>
+        ensures { fault_in result ≡ no_service (rows_listed self.now) id.now }
+    {
+        let absent = self.services.get(id).is_none();
+        refuse_if(absent, OpenFault::Absent(Kind::Service, *id))
+    }
+
+    /// The region stands, where one is named.
+    fn region_stands(&self, region: &Option<Id>) -> Result<(), OpenFault>
+        ensures { fault_in result ≡ no_region (rows_listed self.now) region.now }
+    {
+        match region {
+            Some(id) => {
+                let absent = self.regions.get(id).is_none();
+                refuse_if(absent, OpenFault::Absent(Kind::Region, *id))
+            }
+            None => Ok(()),
+        }
+    }
+
     fn target_stands(&self, target: &Target) -> Result<(), OpenFault>
         ensures { fault_in result ≡ no_target (rows_listed self.now) target.now }
     {
@@ -155,6 +181,29 @@ impl<'a> Listed<'a> {
             Target::Domain(id) => self.domain_stands(id),
             Target::System => Ok(()),
         }
+    }
+}
+
+/// The domain of a project stands, and its parent comes earlier, in the same domain.
+impl CheckBehind<ProjectRow> for Listed<'_> {
+    ghost rows = { λ listed. listed.projects };
+
+    ghost fault_behind = { λ listed before row. option_or (no_domain (rows_listed listed) row.domain) (parent_absent before row) };
+
+    fn check_behind(&self, at: usize, row: &ProjectRow) -> Result<(), OpenFault> {
+        self.domain_stands(&row.domain)?;
+        self.parent_stands(at, row)
+    }
+}
+
+/// The region above a region comes earlier.
+impl CheckBehind<RegionRow> for Listed<'_> {
+    ghost rows = { λ listed. listed.regions };
+
+    ghost fault_behind = { λ listed. upper_region_absent };
+
+    fn check_behind(&self, at: usize, row: &RegionRow) -> Result<(), OpenFault> {
+        self.upper_stands(at, row)
     }
 }
 
@@ -189,6 +238,15 @@ impl Check<ImplyRow> for Listed<'_> {
     fn check(&self, row: &ImplyRow) -> Result<(), OpenFault> {
         self.role_stands(&row.prior)?;
         self.role_stands(&row.implied)
+    }
+}
+
+impl Check<EndpointRow> for Listed<'_> {
+    ghost fault = { λ listed row. option_or (no_service (rows_listed listed) row.service) (no_region (rows_listed listed) row.region) };
+
+    fn check(&self, row: &EndpointRow) -> Result<(), OpenFault> {
+        self.service_stands(&row.service)?;
+        self.region_stands(&row.region)
     }
 }
 

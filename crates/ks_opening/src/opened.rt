@@ -9,6 +9,7 @@ use crate::filled::Filled;
 use crate::listed::Listed;
 use crate::names::check_names;
 use ks_assign::Grants;
+use ks_catalog::Catalog;
 use ks_machine::{OpenFault, Settings};
 use ks_people::People;
 use ks_policy::{Opening, Rules};
@@ -27,6 +28,7 @@ pub struct Opened {
     pub people: People,
     pub roles: Roles,
     pub grants: Grants,
+    pub catalog: Catalog,
 }
 
 /// Puts the rows of an opening into their tables, and its keys into a ring. A membership, implication or grant that is listed
@@ -36,8 +38,9 @@ pub struct Opened {
 /// - a row whose id an earlier one of its kind has (`IdRepeated`);
 /// - a row whose name an earlier one of its kind has, in its domain where it lies in one (`Name`, with the id of the
 ///   earlier one);
-/// - a row that names a domain, project, user, group or role which does not stand, or a project whose parent does not come
-///   before it, in its domain (`Absent`, with what is missing);
+/// - a row that names a domain, project, user, group, role, region or service which does not stand, a project whose parent
+///   does not come before it, in its domain, or a region whose parent does not come before it (`Absent`, with what is
+///   missing);
 /// - a project more than 5 levels below its domain (`TooDeep`);
 /// - a project below a disabled one (`DisabledAbove`, with the nearest disabled one);
 /// - an implication of the role named `admin` (`Prohibited`, with that role);

@@ -3,13 +3,14 @@ ghost use Rattle.std.specs.Prelude.{◌≡◌, IfOk};
 ghost use Rattle.ks_base.specs.Tables.{id_cmp, put_row};
 ghost use Rattle.ks_machine.specs.Opened.{put_all};
 ghost use Rattle.ks_opening.specs.steps.Indexed.{AreApart};
-ghost use Rattle.ks_opening.specs.steps.Tables.{grants_with, people_with, roles_with, tree_with};
+ghost use Rattle.ks_opening.specs.steps.Tables.{catalog_with, grants_with, people_with, roles_with, tree_with};
 
 use ks_assign::Grants;
 use ks_base::{
-    DomainList, GrantList, GroupList, ImplyList, ListOf, MemberList, Memory, Named, Ordered,
-    ProjectList, RoleList, RowSet, Table, UserList,
+    DomainList, EndpointList, GrantList, GroupList, IdTable, ImplyList, ListOf, MemberList, Memory,
+    Named, Ordered, ProjectList, RegionList, RoleList, Row, RowSet, ServiceList, Table, UserList,
 };
+use ks_catalog::Catalog;
 use ks_people::People;
 use ks_roles::Roles;
 use ks_tree::Tree;
@@ -23,6 +24,20 @@ fn table_of<R: Named>(alloc: Global, rows: ListOf<R>) -> Result<Table<R>, Memory
     let mut rows = rows.into_vec();
     rows.sort_unstable_by(|a, b| b.id().cmp(a.id()));
     let mut table = Table::new(alloc);
+    while let Some(row) = rows.pop() {
+        table.put(row)?;
+    }
+    Ok(table)
+}
+
+/// The same of rows that are found by their ids alone.
+fn id_table_of<R: Row>(alloc: Global, rows: ListOf<R>) -> Result<IdTable<R>, Memory>
+    requires { AreApart id_cmp R.key rows }
+    ensures { IfOk result (λ table. table ≡ put_all (put_row id_cmp R.key) rows) }
+{
+    let mut rows = rows.into_vec();
+    rows.sort_unstable_by(|a, b| b.id().cmp(a.id()));
+    let mut table = IdTable::new(alloc);
     while let Some(row) = rows.pop() {
         table.put(row)?;
     }
@@ -122,4 +137,22 @@ pub(crate) fn rights_of(
     let roles = roles_of(alloc, roles, implications)?;
     let grants = grants_of(alloc, assignments)?;
     Ok((roles, grants))
+}
+
+/// The catalog of these regions, services and endpoints.
+pub(crate) fn catalog_of(
+    alloc: Global,
+    regions: RegionList,
+    services: ServiceList,
+    endpoints: EndpointList,
+) -> Result<Catalog, Memory>
+    requires regions { AreApart id_cmp (λ row. row.id) regions }
+    requires services { AreApart id_cmp (λ row. row.id) services }
+    requires endpoints { AreApart id_cmp (λ row. row.id) endpoints }
+    ensures { IfOk result (λ catalog. catalog ≡ catalog_with regions services endpoints) }
+{
+    let regions = id_table_of(alloc, regions)?;
+    let services = id_table_of(alloc, services)?;
+    let endpoints = id_table_of(alloc, endpoints)?;
+    Ok(Catalog::from_tables(alloc, regions, services, endpoints))
 }

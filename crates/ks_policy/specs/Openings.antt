@@ -14,5 +14,8 @@ plain opening = record {
   members = opening.members;
   roles = opening.roles;
   implications = opening.implications;
+  regions = opening.regions;
+  services = opening.services;
+  endpoints = opening.endpoints;
   assignments = opening.assignments;
 }

@@ -8,7 +8,7 @@ pub struct DefaultRule {
 }
 
 /// In the order of the names. A row stands here and in `defaults` of `specs/Defaults.antt`.
-static DEFAULTS: [DefaultRule; 21] = [
+static DEFAULTS: [DefaultRule; 23] = [
     DefaultRule {
         name: "admin_or_owner",
         text: "rule:admin_required or rule:owner",
@@ -46,6 +46,10 @@ static DEFAULTS: [DefaultRule; 21] = [
         text: "rule:admin_required or project_id:%(target.project.id)s",
     },
     DefaultRule {
+        name: "identity:get_region",
+        text: "@",
+    },
+    DefaultRule {
         name: "identity:get_trust",
         text: "rule:admin_required or rule:trust_party",
     },
@@ -56,6 +60,10 @@ static DEFAULTS: [DefaultRule; 21] = [
     DefaultRule {
         name: "identity:list_groups_for_user",
         text: "rule:admin_or_owner",
+    },
+    DefaultRule {
+        name: "identity:list_regions",
+        text: "@",
     },
     DefaultRule {
         name: "identity:list_revoke_events",

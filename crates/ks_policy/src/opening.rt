@@ -1,7 +1,7 @@
 use crate::rules::Rules;
 use ks_base::{
-    DomainList, GrantList, GroupList, ImplyList, KeyList, MemberList, ProjectList, RoleList,
-    UserList,
+    DomainList, EndpointList, GrantList, GroupList, ImplyList, KeyList, MemberList, ProjectList,
+    RegionList, RoleList, ServiceList, UserList,
 };
 use ks_machine::Settings;
 
@@ -19,5 +19,8 @@ pub struct Opening {
     pub members: MemberList,
     pub roles: RoleList,
     pub implications: ImplyList,
+    pub regions: RegionList,
+    pub services: ServiceList,
+    pub endpoints: EndpointList,
     pub assignments: GrantList,
 }

@@ -21,7 +21,7 @@ use Rattle.ks_setup.specs.declared.written.KeysFrom.TheVariants.{Folder, File}
 use Rattle.ks_setup.specs.declared.written.Written.{Written}
 use Rattle.ks_setup.specs.Entries.{Entry, entries, entries_from, listed}
 use Rattle.ks_setup.specs.Steps.{AreFew}
-use Rattle.ks_setup.specs.Written.{default_settings, document_of, domain_in, file_of, folder_named, folder_text, grant_in, group_in, implication_in, key_in, key_texts, keys_from, keys_of, listed_or_named, member_in, project_in, role_in, settings_at, settings_in, settings_of, url_text, user_in, written_in}
+use Rattle.ks_setup.specs.Written.{default_settings, document_of, domain_in, endpoint_in, file_of, folder_named, folder_text, grant_in, group_in, implication_in, key_in, key_texts, keys_from, keys_of, listed_or_named, member_in, project_in, region_in, role_in, service_in, settings_at, settings_in, settings_of, url_text, user_in, written_in}
 
 -- what was read in two parts was read in each
 parts : {A B F : Type 0} (r : Result A F) (f : A → Result B F) (b : B) → (r >>= f) ≡ Ok b → (a : A) × (r ≡ Ok a) × (f a ≡ Ok b)
@@ -182,7 +182,10 @@ written_bounded file written h =
     let members = parts (entries member_in (names (codes "members")) file) _ written groups.2 in
     let roles = parts (entries role_in (names (codes "roles")) file) _ written members.2 in
     let implications = parts (entries implication_in (names (codes "implications")) file) _ written roles.2 in
-    let assignments = parts (entries grant_in (names (codes "assignments")) file) _ written implications.2 in
+    let regions = parts (entries region_in (names (codes "regions")) file) _ written implications.2 in
+    let services = parts (entries service_in (names (codes "services")) file) _ written regions.2 in
+    let endpoints = parts (entries endpoint_in (names (codes "endpoints")) file) _ written services.2 in
+    let assignments = parts (entries grant_in (names (codes "assignments")) file) _ written endpoints.2 in
     subst IsBounded (same _ written assignments.2) (settings_bound file settings.0 settings.1, keys_few file keys.0 keys.1)
 
 pub file_bounded : (text : List ℕ) (written : Written) → file_of text ≡ Ok written → IsBounded written

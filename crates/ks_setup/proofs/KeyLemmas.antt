@@ -1,5 +1,5 @@
 -- Reading one key more.
-use Rattle.std.proofs.Common.{◌≡◌, ℕ, zero, suc, ◌+◌, ◌<◌, ◌≤◌, List, [], ◌∷◌, ◌++◌, length, get_or, drop, refl, sym, ap, subst, arith, append-nil}
+use Rattle.std.proofs.Common.{◌≡◌, ℕ, zero, suc, ◌<◌, ◌≤◌, List, [], ◌∷◌, ◌++◌, length, get_or, drop, refl, sym, ap, subst, arith, append-nil}
 use Rattle.ks_base.specs.declared.key.Key.{Key}
 use Rattle.ks_setup.specs.Openings.{AreKeys, IsFirstBad}
 

@@ -1,5 +1,4 @@
 pub mod BoundLemmas
-pub mod ChoiceLemmas
 pub mod CountLemmas
 pub mod DrawLemmas
 pub mod EntryLemmas

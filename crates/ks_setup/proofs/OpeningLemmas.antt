@@ -15,7 +15,6 @@ use Rattle.ks_shape.specs.Readings.{ReadsBy}
 use Rattle.ks_setup.proofs.DrawLemmas.{drew_nothing}
 use Rattle.ks_setup.specs.declared.derive.DeriveFault.{DeriveFault}
 use Rattle.ks_setup.specs.declared.derive.DeriveFault.TheVariants as derive
-use Rattle.ks_setup.specs.declared.keys.RingFault.TheVariants as keys
 use Rattle.ks_setup.specs.declared.opening.Checked.{Checked}
 use Rattle.ks_setup.specs.declared.opening.OpeningFault.{OpeningFault}
 use Rattle.ks_setup.specs.declared.opening.OpeningFault.TheVariants.{Shape, Policy, BadKey, Random, Memory}

@@ -7,12 +7,12 @@ use Rattle.serde_json.specs.Data.{Data, Items, no_items, item}
 use Rattle.ks_base.specs.declared.limits.TheConstants.{OPENING_BYTES}
 use Rattle.ks_base.specs.declared.shapes.ShapeFault.{ShapeFault}
 use Rattle.ks_machine.specs.declared.settings.Settings.{Settings}
-use Rattle.ks_machine.specs.Ranges.{AreRounds, IsDescription, IsDomainInRange, IsGroupInRange, IsName, IsProjectInRange, IsRoleInRange, IsSettings, IsUserInRange}
-use Rattle.ks_shape.specs.declared.misfit.Misfit.TheVariants as misfit
+use Rattle.ks_machine.specs.Ranges.{AreRounds, IsDescription, IsDomainInRange, IsEndpointInRange, IsEndpointUrl, IsGroupInRange, IsName, IsProjectInRange, IsRegionInRange, IsRoleInRange, IsServiceInRange, IsServiceText, IsSettings, IsUserInRange}
 use Rattle.ks_shape.specs.Bodies.{whole_document}
 use Rattle.ks_shape.specs.Fields.{needed, optional, optional_value}
 use Rattle.ks_shape.specs.Places.{Place, entry_at, names}
-use Rattle.ks_shape.specs.Types.{description_text, id_text, list_of, name_text, password_text, truth, whole}
+use Rattle.ks_shape.specs.Types.{description_text, endpoint_url, id_text, interface_text, list_of, name_text, password_text, service_text, truth, whole}
+use Rattle.ks_shape.proofs.CatalogLemmas.{service_text_in, url_in}
 use Rattle.ks_shape.proofs.PropertyLemmas.{If, needed_in, optional_in, skip, step}
 use Rattle.ks_shape.proofs.RangeLemmas.{name_in, description_in, whole_in}
 use Rattle.ks_setup.specs.declared.written.Written.{Written}
@@ -20,7 +20,7 @@ use Rattle.ks_setup.specs.declared.written.WrittenUser.{WrittenUser}
 use Rattle.ks_setup.specs.Entries.{Entry, entries, entries_from, if_listed, listed}
 use Rattle.ks_setup.specs.Openings.{password_row, users_from}
 use Rattle.ks_setup.specs.Ranges.{OpensInRange}
-use Rattle.ks_setup.specs.Written.{default_domain, default_settings, document_of, domain_in, file_of, grant_in, group_in, implication_in, is_folder, keys_of, member_in, project_in, role_in, settings_at, settings_in, settings_of, url_text, user_in, written_in}
+use Rattle.ks_setup.specs.Written.{default_domain, default_settings, document_of, domain_in, endpoint_in, file_of, grant_in, group_in, implication_in, is_folder, keys_of, member_in, project_in, region_in, role_in, service_in, settings_at, settings_in, settings_of, url_text, user_in, written_in}
 
 -- fields
 
@@ -114,6 +114,34 @@ role_is entry =
     step IsRoleInRange (If IsDescription) (optional description_text (names (codes "description")) entry) _ (optional_in IsDescription description_text description_in _ entry) (λ description is.
     (is_name, or_else IsDescription description [] is (omega arith)))))
 
+region_is : (entry : Place) → IfOk (region_in entry) IsRegionInRange
+unfolding region_in
+region_is entry =
+    skip IsRegionInRange (needed id_text (names (codes "id")) entry) _ (λ id.
+    skip IsRegionInRange (optional id_text (names (codes "parent_region_id")) entry) _ (λ parent.
+    step IsRegionInRange (If IsDescription) (optional description_text (names (codes "description")) entry) _ (optional_in IsDescription description_text description_in _ entry) (λ description is.
+    or_else IsDescription description [] is (omega arith))))
+
+service_is : (entry : Place) → IfOk (service_in entry) IsServiceInRange
+unfolding service_in
+service_is entry =
+    skip IsServiceInRange (needed id_text (names (codes "id")) entry) _ (λ id.
+    step IsServiceInRange IsServiceText (needed service_text (names (codes "type")) entry) _ (needed_in IsServiceText service_text service_text_in _ entry) (λ kind is_kind.
+    step IsServiceInRange (If IsServiceText) (optional service_text (names (codes "name")) entry) _ (optional_in IsServiceText service_text service_text_in _ entry) (λ name is_name.
+    step IsServiceInRange (If IsDescription) (optional description_text (names (codes "description")) entry) _ (optional_in IsDescription description_text description_in _ entry) (λ description is.
+    skip IsServiceInRange (optional truth (names (codes "enabled")) entry) _ (λ enabled.
+    (is_kind, or_else IsServiceText name [] is_name (omega arith), or_else IsDescription description [] is (omega arith)))))))
+
+endpoint_is : (entry : Place) → IfOk (endpoint_in entry) IsEndpointInRange
+unfolding endpoint_in
+endpoint_is entry =
+    skip IsEndpointInRange (needed id_text (names (codes "id")) entry) _ (λ id.
+    skip IsEndpointInRange (needed id_text (names (codes "service_id")) entry) _ (λ service.
+    skip IsEndpointInRange (needed interface_text (names (codes "interface")) entry) _ (λ interface.
+    step IsEndpointInRange IsEndpointUrl (needed endpoint_url (names (codes "url")) entry) _ (needed_in IsEndpointUrl endpoint_url url_in _ entry) (λ url is_url.
+    skip IsEndpointInRange (optional id_text (names (codes "region_id")) entry) _ (λ region.
+    skip IsEndpointInRange (optional truth (names (codes "enabled")) entry) _ (λ enabled. is_url))))))
+
 -- lists
 
 abbrev Are : {A : Type 0} → (A → Type 0) → List A → Type 0
@@ -156,6 +184,9 @@ record AreInRange (written : Written) : Type 0 where
   users : Are HasName written.users
   groups : Are IsGroupInRange written.groups
   roles : Are IsRoleInRange written.roles
+  regions : Are IsRegionInRange written.regions
+  services : Are IsServiceInRange written.services
+  endpoints : Are IsEndpointInRange written.endpoints
 
 with_folder : (settings : Settings) (folder : Bool) → IsSettings settings → IsSettings (record settings { folder = folder })
 with_folder settings folder is = record {
@@ -181,6 +212,9 @@ written_are file =
     skip AreInRange (entries member_in (names (codes "members")) file) _ (λ members.
     step AreInRange (Are IsRoleInRange) (entries role_in (names (codes "roles")) file) _ (entries_in IsRoleInRange role_in role_is _ file) (λ roles are_roles.
     skip AreInRange (entries implication_in (names (codes "implications")) file) _ (λ implications.
+    step AreInRange (Are IsRegionInRange) (entries region_in (names (codes "regions")) file) _ (entries_in IsRegionInRange region_in region_is _ file) (λ regions are_regions.
+    step AreInRange (Are IsServiceInRange) (entries service_in (names (codes "services")) file) _ (entries_in IsServiceInRange service_in service_is _ file) (λ services are_services.
+    step AreInRange (Are IsEndpointInRange) (entries endpoint_in (names (codes "endpoints")) file) _ (entries_in IsEndpointInRange endpoint_in endpoint_is _ file) (λ endpoints are_endpoints.
     skip AreInRange (entries grant_in (names (codes "assignments")) file) _ (λ assignments.
     record {
       settings = with_folder settings (is_folder keys) are_settings;
@@ -189,7 +223,10 @@ written_are file =
       users = are_users;
       groups = are_groups;
       roles = are_roles;
-    }))))))))))
+      regions = are_regions;
+      services = are_services;
+      endpoints = are_endpoints;
+    })))))))))))))
 
 file_are : (text : List ℕ) → IfOk (file_of text) AreInRange
 unfolding file_of
@@ -218,4 +255,7 @@ opens_in_range text held drawn opening opens =
       users = subst (Are IsUserInRange) (sym opens.users) (users_are written.settings.rounds written.users drawn said.settings.rounds said.users);
       groups = subst (Are IsGroupInRange) (sym opens.groups) said.groups;
       roles = subst (Are IsRoleInRange) (sym opens.roles) said.roles;
+      regions = subst (Are IsRegionInRange) (sym opens.regions) said.regions;
+      services = subst (Are IsServiceInRange) (sym opens.services) said.services;
+      endpoints = subst (Are IsEndpointInRange) (sym opens.endpoints) said.endpoints;
     }

@@ -22,27 +22,43 @@ begins path front = starts_with (λ a b. a == b) path front
 abbrev pub ends : List ℕ → List ℕ → Bool
 ends path back = ends_with (λ a b. a == b) path back
 
--- of two ids of an assignment exactly one stands
+-- of an assignment exactly one actor and one target stand
 abbrev pub grant_wanted : List ℕ → List ℕ
 grant_wanted path =
     if ends path (codes ".user") then codes "an id, of a user or else of a group," else
     (if ends path (codes ".group") then codes "an id, of a user or else of a group," else
-    (if ends path (codes ".project") then codes "an id, of a project or else of a domain," else
-    (if ends path (codes ".domain") then codes "an id, of a project or else of a domain," else
-    codes "an id of 1 to 64 of the characters 0-9 A-Z a-z _ -")))
+    (if ends path (codes ".project") then codes "an id, of a project or else of a domain, or else \"system\": true," else
+    (if ends path (codes ".domain") then codes "an id, of a project or else of a domain, or else \"system\": true," else
+    (if ends path (codes ".system") then codes "true, in place of a project or a domain," else
+    codes "an id of 1 to 64 of the characters 0-9 A-Z a-z _ -"))))
 
 abbrev pub id_wanted : List ℕ → List ℕ
 id_wanted path =
     if begins path (codes "assignments[") then grant_wanted path
     else codes "an id of 1 to 64 of the characters 0-9 A-Z a-z _ -"
 
-abbrev pub field_wanted : List ℕ → List ℕ
-field_wanted path =
+abbrev pub row_wanted : List ℕ → List ℕ
+row_wanted path =
     if ends path (codes ".name") then codes "a text of 1 to 255 bytes" else
     (if ends path (codes ".description") then codes "a text of at most 4096 bytes" else
     (if ends path (codes ".password") then codes "a text of 1 to 4096 bytes" else
     (if ends path (codes ".enabled") then codes "true or false" else
-    (if ends path (codes ".inherited") then codes "true or false" else id_wanted path))))
+    (if ends path (codes ".inherited") then codes "true or false, and not true on the system," else id_wanted path))))
+
+abbrev pub service_wanted : List ℕ → List ℕ
+service_wanted path =
+    if ends path (codes ".type") then codes "a text of at most 255 bytes" else
+    (if ends path (codes ".name") then codes "a text of at most 255 bytes" else row_wanted path)
+
+abbrev pub endpoint_wanted : List ℕ → List ℕ
+endpoint_wanted path =
+    if ends path (codes ".interface") then codes "the text \"public\", \"internal\" or \"admin\"" else
+    (if ends path (codes ".url") then codes "a text of 1 to 2048 bytes" else row_wanted path)
+
+abbrev pub field_wanted : List ℕ → List ℕ
+field_wanted path =
+    if begins path (codes "services[") then service_wanted path else
+    (if begins path (codes "endpoints[") then endpoint_wanted path else row_wanted path)
 
 abbrev pub url_wanted : List ℕ
 url_wanted = codes "a URL of at most 1024 visible characters that begins with http:// or https://"

@@ -7,29 +7,28 @@ use Rattle.ks_base.specs.declared.rows.ProjectRow.{ProjectRow}
 use Rattle.ks_base.specs.declared.rows.RoleRow.{RoleRow}
 use Rattle.ks_setup.specs.declared.written.WrittenUser.{WrittenUser}
 
--- how a row is known: by its id, and by its name in its domain, or among all where it lies in none
+-- what a row is named, in its domain, or among all where it lies in none
 pub record NamedRow : Type 0 where
-  pub id : Id
   pub domain : Option Id
   pub name : List ℕ
 
 abbrev pub domain_named : DomainRow → NamedRow
-domain_named row = record { id = row.id; domain = None; name = row.name }
+domain_named row = record { domain = None; name = row.name }
 
 abbrev pub project_named : ProjectRow → NamedRow
-project_named row = record { id = row.id; domain = Some row.domain; name = row.name }
+project_named row = record { domain = Some row.domain; name = row.name }
 
 abbrev pub user_named : WrittenUser → NamedRow
-user_named row = record { id = row.id; domain = Some row.domain; name = row.name }
+user_named row = record { domain = Some row.domain; name = row.name }
 
 abbrev pub group_named : GroupRow → NamedRow
-group_named row = record { id = row.id; domain = Some row.domain; name = row.name }
+group_named row = record { domain = Some row.domain; name = row.name }
 
 abbrev pub role_named : RoleRow → NamedRow
-role_named row = record { id = row.id; domain = None; name = row.name }
+role_named row = record { domain = None; name = row.name }
 
-abbrev pub has_id : {R : Type 0} → (R → NamedRow) → Id → R → Bool
-has_id named id row = same (named row).id id
+abbrev pub has_id : {R : Type 0} → (R → Id) → Id → R → Bool
+has_id key id row = same (key row) id
 
 abbrev pub in_one_domain : Option Id → Option Id → Bool
 in_one_domain None None = true
@@ -42,8 +41,8 @@ has_name named row other =
     in_one_domain (named row).domain (named other).domain && same (named row).name (named other).name
 
 -- the place of the first row with the id
-abbrev pub first_place : {R : Type 0} → (R → NamedRow) → Id → List R → Option ℕ
-first_place named id rows = position (has_id named id) rows
+abbrev pub first_place : {R : Type 0} → (R → Id) → Id → List R → Option ℕ
+first_place key id rows = position (has_id key id) rows
 
 -- the place of the first row behind this place that passes
 abbrev pub next_place : {R : Type 0} → (R → Bool) → ℕ → List R → Option ℕ
@@ -55,13 +54,13 @@ meeting None next = None
 meeting (Some first) next = option_map (λ later. (first, later)) (next first)
 
 -- the first row with an id, and the next one
-abbrev pub id_meeting : {R : Type 0} → (R → NamedRow) → Id → List R → Option (ℕ × ℕ)
-id_meeting named id rows = meeting (first_place named id rows) (λ first. next_place (has_id named id) first rows)
+abbrev pub id_meeting : {R : Type 0} → (R → Id) → Id → List R → Option (ℕ × ℕ)
+id_meeting key id rows = meeting (first_place key id rows) (λ first. next_place (has_id key id) first rows)
 
 abbrev pub next_named : {R : Type 0} → (R → NamedRow) → Option R → List R → ℕ → Option ℕ
 next_named named None rows first = None
 next_named named (Some row) rows first = next_place (has_name named row) first rows
 
 -- the row with an id, and the next one with its name
-abbrev pub name_meeting : {R : Type 0} → (R → NamedRow) → Id → List R → Option (ℕ × ℕ)
-name_meeting named id rows = meeting (first_place named id rows) (next_named named (find (has_id named id) rows) rows)
+abbrev pub name_meeting : {R : Type 0} → (R → Id) → (R → NamedRow) → Id → List R → Option (ℕ × ℕ)
+name_meeting key named id rows = meeting (first_place key id rows) (next_named named (find (has_id key id) rows) rows)

@@ -103,6 +103,9 @@ pub record Opens (text : List ℕ) (held : List (ℕ × Key)) (drawn : List ℕ)
   pub members : opening.members ≡ written.members
   pub roles : opening.roles ≡ written.roles
   pub implications : opening.implications ≡ written.implications
+  pub regions : opening.regions ≡ written.regions
+  pub services : opening.services ≡ written.services
+  pub endpoints : opening.endpoints ≡ written.endpoints
   pub assignments : opening.assignments ≡ written.assignments
 
 -- so many calls for the 16 bytes of a salt

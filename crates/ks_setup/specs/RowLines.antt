@@ -2,6 +2,7 @@
 use Rattle.std.specs.Prelude.{ℕ, Bool, not, ◌&&◌, if◌then◌else◌, List, [], ◌∷◌, ◌++◌, length, find, position, Option, Some, None, option_map, codes, decimal}
 use Rattle.std.specs.List.{concat, list_any}
 use Rattle.std.specs.Option.{option_or}
+use Rattle.ks_base.specs.declared.catalog.RegionRow.{RegionRow}
 use Rattle.ks_base.specs.declared.faults.LoadFault.{LoadFault}
 use Rattle.ks_base.specs.declared.faults.LoadFault.TheVariants as load
 use Rattle.ks_base.specs.declared.grants.Actor.TheVariants as actor
@@ -11,6 +12,7 @@ use Rattle.ks_base.specs.declared.kinds.Kind.{Kind}
 use Rattle.ks_base.specs.declared.kinds.Kind.TheVariants as kind
 use Rattle.ks_base.specs.declared.limits.TheConstants.{KEYS, LEVELS}
 use Rattle.ks_base.specs.declared.rows.ProjectRow.{ProjectRow}
+use Rattle.ks_base.specs.Catalog.{is_below, is_in_region, is_of_service}
 use Rattle.ks_base.specs.Limits.{limit}
 use Rattle.ks_base.specs.Rows.{Id, same}
 use Rattle.ks_base.specs.Tree.{is_child_of}
@@ -33,16 +35,19 @@ id_line kind id (Some places) =
     located (spot_at kind field.Id (Some places.1)) (concat (quoted id ∷ codes " is the id of " ∷ row_path kind places.0 ∷ codes " too" ∷ []))
 
 abbrev pub ids_meeting : Written → Kind → Id → Option (ℕ × ℕ)
-ids_meeting written kind.Domain id = id_meeting domain_named id written.domains
-ids_meeting written kind.Project id = id_meeting project_named id written.projects
-ids_meeting written kind.User id = id_meeting user_named id written.users
-ids_meeting written kind.Group id = id_meeting group_named id written.groups
-ids_meeting written kind.Role id = id_meeting role_named id written.roles
+ids_meeting written kind.Domain id = id_meeting (λ row. row.id) id written.domains
+ids_meeting written kind.Project id = id_meeting (λ row. row.id) id written.projects
+ids_meeting written kind.User id = id_meeting (λ row. row.id) id written.users
+ids_meeting written kind.Group id = id_meeting (λ row. row.id) id written.groups
+ids_meeting written kind.Role id = id_meeting (λ row. row.id) id written.roles
 ids_meeting written kind.Implication id = None
 ids_meeting written kind.Grant id = None
 ids_meeting written kind.Member id = None
 ids_meeting written kind.Trust id = None
 ids_meeting written kind.Event id = None
+ids_meeting written kind.Region id = id_meeting (λ row. row.id) id written.regions
+ids_meeting written kind.Service id = id_meeting (λ row. row.id) id written.services
+ids_meeting written kind.Endpoint id = id_meeting (λ row. row.id) id written.endpoints
 
 -- two rows with one name, the first of which has this id
 
@@ -62,20 +67,23 @@ name_placed kind id None places = name_unplaced kind id
 name_placed kind id (Some row) None = name_unplaced kind id
 name_placed kind id (Some row) (Some places) = name_at kind row places.0 places.1
 
-abbrev pub name_line_in : {R : Type 0} → (R → NamedRow) → Kind → Id → List R → List ℕ
-name_line_in named kind id rows = name_placed kind id (option_map named (find (has_id named id) rows)) (name_meeting named id rows)
+abbrev pub name_line_in : {R : Type 0} → (R → Id) → (R → NamedRow) → Kind → Id → List R → List ℕ
+name_line_in key named kind id rows = name_placed kind id (option_map named (find (has_id key id) rows)) (name_meeting key named id rows)
 
 abbrev pub name_line : Written → Kind → Id → List ℕ
-name_line written kind.Domain id = name_line_in domain_named kind.Domain id written.domains
-name_line written kind.Project id = name_line_in project_named kind.Project id written.projects
-name_line written kind.User id = name_line_in user_named kind.User id written.users
-name_line written kind.Group id = name_line_in group_named kind.Group id written.groups
-name_line written kind.Role id = name_line_in role_named kind.Role id written.roles
+name_line written kind.Domain id = name_line_in (λ row. row.id) domain_named kind.Domain id written.domains
+name_line written kind.Project id = name_line_in (λ row. row.id) project_named kind.Project id written.projects
+name_line written kind.User id = name_line_in (λ row. row.id) user_named kind.User id written.users
+name_line written kind.Group id = name_line_in (λ row. row.id) group_named kind.Group id written.groups
+name_line written kind.Role id = name_line_in (λ row. row.id) role_named kind.Role id written.roles
 name_line written kind.Implication id = name_unplaced kind.Implication id
 name_line written kind.Grant id = name_unplaced kind.Grant id
 name_line written kind.Member id = name_unplaced kind.Member id
 name_line written kind.Trust id = name_unplaced kind.Trust id
 name_line written kind.Event id = name_unplaced kind.Event id
+name_line written kind.Region id = name_unplaced kind.Region id
+name_line written kind.Service id = name_unplaced kind.Service id
+name_line written kind.Endpoint id = name_unplaced kind.Endpoint id
 
 -- rows that name what does not stand
 
@@ -112,28 +120,46 @@ role_spot written id =
 abbrev pub absent_at : Option Spot → Kind → Id → List ℕ
 absent_at place kind id = located place (concat (codes "no " ∷ row_name kind ∷ codes " has the id " ∷ quoted id ∷ []))
 
--- a project below this one, which does not stand before it in its domain
+-- a row below one that does not stand before it
+
 abbrev pub is_orphan : Id → List ProjectRow → ProjectRow → Bool
 is_orphan id before row =
     is_child_of id row && not (list_any (λ other. same other.id id && same other.domain row.domain) before)
 
-unfoldable pub orphan_place : Id → List ProjectRow → List ProjectRow → Option ℕ
-orphan_place id before [] = None
-orphan_place id before (row ∷ rows) =
-    if is_orphan id before row then Some (length before) else orphan_place id (before ++ row ∷ []) rows
+abbrev pub is_region_orphan : Id → List RegionRow → RegionRow → Bool
+is_region_orphan id before row = is_below id row && not (list_any (λ other. same other.id id) before)
 
-abbrev pub orphan_line : ℕ → Id → List ℕ
-orphan_line place id = located (spot_at kind.Project field.ParentId (Some place))
-    (concat (codes "no project before it in its domain has the id " ∷ quoted id ∷ []))
+unfoldable pub orphan_place : {R : Type 0} → (List R → R → Bool) → List R → List R → Option ℕ
+orphan_place orphan before [] = None
+orphan_place orphan before (row ∷ rows) =
+    if orphan before row then Some (length before) else orphan_place orphan (before ++ row ∷ []) rows
 
-abbrev pub orphan_or : Option ℕ → Id → List ℕ → List ℕ
-orphan_or None id other = other
-orphan_or (Some place) id other = orphan_line place id
+abbrev pub orphan_line : Spot → List ℕ → Id → List ℕ
+orphan_line spot said id = located (Some spot) (concat (said ∷ quoted id ∷ []))
+
+abbrev pub orphan_or : Option Spot → List ℕ → Id → List ℕ → List ℕ
+orphan_or None said id other = other
+orphan_or (Some spot) said id other = orphan_line spot said id
+
+abbrev pub orphan_project : Written → Id → Option Spot
+orphan_project written id = spot_at kind.Project field.ParentId (orphan_place (is_orphan id) [] written.projects)
+
+abbrev pub orphan_region : Written → Id → Option Spot
+orphan_region written id = spot_at kind.Region field.ParentRegionId (orphan_place (is_region_orphan id) [] written.regions)
+
+abbrev pub project_spot : Written → Id → Option Spot
+project_spot written id = spot_at kind.Grant field.Project (position (is_at_target (target.Project id)) written.assignments)
+
+abbrev pub region_spot : Written → Id → Option Spot
+region_spot written id = spot_at kind.Endpoint field.RegionId (position (is_in_region id) written.endpoints)
+
+abbrev pub service_spot : Written → Id → Option Spot
+service_spot written id = spot_at kind.Endpoint field.ServiceId (position (is_of_service id) written.endpoints)
 
 abbrev pub absent_line : Written → Kind → Id → List ℕ
 absent_line written kind.Domain id = absent_at (domain_spot written id) kind.Domain id
-absent_line written kind.Project id = orphan_or (orphan_place id [] written.projects) id
-    (absent_at (spot_at kind.Grant field.Project (position (is_at_target (target.Project id)) written.assignments)) kind.Project id)
+absent_line written kind.Project id =
+    orphan_or (orphan_project written id) (codes "no project before it in its domain has the id ") id (absent_at (project_spot written id) kind.Project id)
 absent_line written kind.User id = absent_at (user_spot written id) kind.User id
 absent_line written kind.Group id = absent_at (group_spot written id) kind.Group id
 absent_line written kind.Role id = absent_at (role_spot written id) kind.Role id
@@ -142,11 +168,15 @@ absent_line written kind.Grant id = absent_at None kind.Grant id
 absent_line written kind.Member id = absent_at None kind.Member id
 absent_line written kind.Trust id = absent_at None kind.Trust id
 absent_line written kind.Event id = absent_at None kind.Event id
+absent_line written kind.Region id =
+    orphan_or (orphan_region written id) (codes "no region before it has the id ") id (absent_at (region_spot written id) kind.Region id)
+absent_line written kind.Service id = absent_at (service_spot written id) kind.Service id
+absent_line written kind.Endpoint id = absent_at None kind.Endpoint id
 
 -- the tree, roles, room and keys
 
 abbrev pub deep_line : List ProjectRow → Id → List ℕ
-deep_line projects id = located (spot_at kind.Project field.ParentId (first_place project_named id projects))
+deep_line projects id = located (spot_at kind.Project field.ParentId (first_place (λ row. row.id) id projects))
     (concat (codes "the project " ∷ quoted id ∷ codes " lies more than " ∷ decimal LEVELS ∷ codes " levels below its domain" ∷ []))
 
 abbrev pub disabled_line : List ProjectRow → Id → List ℕ

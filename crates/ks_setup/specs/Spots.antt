@@ -20,6 +20,9 @@ list_name kind.Grant = codes "assignments"
 list_name kind.Member = codes "members"
 list_name kind.Trust = codes "trusts"
 list_name kind.Event = codes "events"
+list_name kind.Region = codes "regions"
+list_name kind.Service = codes "services"
+list_name kind.Endpoint = codes "endpoints"
 
 unfoldable pub row_name : Kind → List ℕ
 row_name kind.Domain = codes "domain"
@@ -32,6 +35,9 @@ row_name kind.Grant = codes "assignment"
 row_name kind.Member = codes "member"
 row_name kind.Trust = codes "trust"
 row_name kind.Event = codes "event"
+row_name kind.Region = codes "region"
+row_name kind.Service = codes "service"
+row_name kind.Endpoint = codes "endpoint"
 
 unfoldable pub field_name : Field → List ℕ
 field_name field.Id = codes "id"
@@ -45,6 +51,9 @@ field_name field.Implied = codes "implied"
 field_name field.Project = codes "project"
 field_name field.Domain = codes "domain"
 field_name field.Role = codes "role"
+field_name field.ParentRegionId = codes "parent_region_id"
+field_name field.ServiceId = codes "service_id"
+field_name field.RegionId = codes "region_id"
 
 -- between double quotes, as JSON writes a text
 abbrev pub quoted : List ℕ → List ℕ

@@ -130,6 +130,9 @@ opened checked users = record {
   members = checked.written.members;
   roles = checked.written.roles;
   implications = checked.written.implications;
+  regions = checked.written.regions;
+  services = checked.written.services;
+  endpoints = checked.written.endpoints;
   assignments = checked.written.assignments;
 }
 

@@ -6,7 +6,12 @@ use Rattle.std.specs.List.{list_all, starts_with}
 use Rattle.std.specs.Str.{bytes_eq}
 use Rattle.serde_json.specs.Data.{Data, Items}
 use Rattle.serde_json.specs.Find.{as_array}
+use Rattle.ks_base.specs.declared.catalog.EndpointRow.{EndpointRow}
+use Rattle.ks_base.specs.declared.catalog.RegionRow.{RegionRow}
+use Rattle.ks_base.specs.declared.catalog.ServiceRow.{ServiceRow}
+use Rattle.ks_base.specs.declared.grants.Actor.{Actor}
 use Rattle.ks_base.specs.declared.grants.Actor.TheVariants as actor
+use Rattle.ks_base.specs.declared.grants.Target.{Target}
 use Rattle.ks_base.specs.declared.grants.Target.TheVariants as target
 use Rattle.ks_base.specs.declared.grants.GrantRow.{GrantRow}
 use Rattle.ks_base.specs.declared.grants.ImplyRow.{ImplyRow}
@@ -24,7 +29,7 @@ use Rattle.ks_shape.specs.declared.misfit.Misfit.TheVariants as misfit
 use Rattle.ks_shape.specs.Bodies.{document, whole_document}
 use Rattle.ks_shape.specs.Fields.{FieldType, needed, optional, optional_value}
 use Rattle.ks_shape.specs.Places.{Place, names, path_at}
-use Rattle.ks_shape.specs.Types.{any_text, count_of, description_text, id_text, list_of, name_text, password_text, text_of, truth, whole}
+use Rattle.ks_shape.specs.Types.{affirmation, any_text, count_of, description_text, endpoint_url, falsehood, id_text, interface_text, list_of, name_text, password_text, service_text, text_of, truth, whole}
 use Rattle.ks_setup.specs.declared.written.KeysFrom.{KeysFrom}
 use Rattle.ks_setup.specs.declared.written.KeysFrom.TheVariants as keys
 use Rattle.ks_setup.specs.declared.written.Written.{Written}
@@ -172,37 +177,118 @@ implication_in entry = do
   implied ← needed id_text (names (codes "implied")) entry
   Ok (record { prior = prior; implied = implied })
 
+unfoldable pub region_in : Entry RegionRow
+region_in entry = do
+  id ← needed id_text (names (codes "id")) entry
+  parent ← optional id_text (names (codes "parent_region_id")) entry
+  description ← optional description_text (names (codes "description")) entry
+  Ok (record { id = id; parent = parent; description = unwrap_or description [] })
+
+unfoldable pub service_in : Entry ServiceRow
+service_in entry = do
+  id ← needed id_text (names (codes "id")) entry
+  kind ← needed service_text (names (codes "type")) entry
+  name ← optional service_text (names (codes "name")) entry
+  description ← optional description_text (names (codes "description")) entry
+  enabled ← optional truth (names (codes "enabled")) entry
+  Ok (record {
+    id = id;
+    kind = kind;
+    name = unwrap_or name [];
+    description = unwrap_or description [];
+    enabled = unwrap_or enabled true;
+  })
+
+unfoldable pub endpoint_in : Entry EndpointRow
+endpoint_in entry = do
+  id ← needed id_text (names (codes "id")) entry
+  service ← needed id_text (names (codes "service_id")) entry
+  interface ← needed interface_text (names (codes "interface")) entry
+  url ← needed endpoint_url (names (codes "url")) entry
+  region ← optional id_text (names (codes "region_id")) entry
+  enabled ← optional truth (names (codes "enabled")) entry
+  Ok (record {
+    id = id;
+    service = service;
+    region = region;
+    interface = interface;
+    url = url;
+    enabled = unwrap_or enabled true;
+  })
+
 -- no value fits a field that may not be given
 abbrev pub nothing : FieldType (Unit {0})
 nothing value = Err misfit.Range
 
--- where neither of two ids is given, the first is needed
-abbrev pub second_or_needed : {A : Type 0} → (List ℕ → A) → (List ℕ → A) → List (List ℕ) → Option (List ℕ) → Entry A
-second_or_needed first second a (Some id) entry = Ok (second id)
-second_or_needed first second a None entry = do
-  id ← needed id_text a entry
-  Ok (first id)
+-- nothing stands there, or null
+unfoldable pub absent : List (List ℕ) → Place → Result (Unit {0}) ShapeFault
+absent names entry = do
+  _ ← optional nothing names entry
+  Ok tt
 
-abbrev pub first_or_second : {A : Type 0} → (List ℕ → A) → (List ℕ → A) → List (List ℕ) → List (List ℕ) → Option (List ℕ) → Entry A
-first_or_second first second a b (Some id) entry = do
-  _ ← optional nothing b entry
-  Ok (first id)
-first_or_second first second a b None entry = do
-  other ← optional id_text b entry
-  second_or_needed first second a other entry
+-- exactly one of a user and a group; where neither is given, the user is needed
 
--- exactly one of two ids: the second may not stand beside the first
-unfoldable pub one_of_two : {A : Type 0} → (List ℕ → A) → (List ℕ → A) → List (List ℕ) → List (List ℕ) → Entry A
-one_of_two first second a b entry = do
-  one ← optional id_text a entry
-  first_or_second first second a b one entry
+abbrev pub group_or_needed : Option (List ℕ) → Entry Actor
+group_or_needed (Some id) entry = Ok (actor.Group id)
+group_or_needed None entry = do
+  id ← needed id_text (names (codes "user")) entry
+  Ok (actor.User id)
+
+abbrev pub user_or_group : Option (List ℕ) → Entry Actor
+user_or_group (Some id) entry = do
+  _ ← absent (names (codes "group")) entry
+  Ok (actor.User id)
+user_or_group None entry = do
+  group ← optional id_text (names (codes "group")) entry
+  group_or_needed group entry
+
+unfoldable pub actor_in : Entry Actor
+actor_in entry = do
+  user ← optional id_text (names (codes "user")) entry
+  user_or_group user entry
+
+-- exactly one of a project, a domain and the system, which true alone names; where none is given, the project is needed
+
+abbrev pub system_or_needed : Option Bool → Entry Target
+system_or_needed (Some all) entry = Ok target.System
+system_or_needed None entry = do
+  id ← needed id_text (names (codes "project")) entry
+  Ok (target.Project id)
+
+abbrev pub domain_or_system : Option (List ℕ) → Entry Target
+domain_or_system (Some id) entry = do
+  _ ← absent (names (codes "system")) entry
+  Ok (target.Domain id)
+domain_or_system None entry = do
+  system ← optional affirmation (names (codes "system")) entry
+  system_or_needed system entry
+
+abbrev pub project_or_other : Option (List ℕ) → Entry Target
+project_or_other (Some id) entry = do
+  _ ← absent (names (codes "domain")) entry
+  _ ← absent (names (codes "system")) entry
+  Ok (target.Project id)
+project_or_other None entry = do
+  domain ← optional id_text (names (codes "domain")) entry
+  domain_or_system domain entry
+
+unfoldable pub target_in : Entry Target
+target_in entry = do
+  project ← optional id_text (names (codes "project")) entry
+  project_or_other project entry
+
+-- no grant on the system is inherited
+abbrev pub inherited_at : Target → Place → Result (Option Bool) ShapeFault
+inherited_at (target.Project id) entry = optional truth (names (codes "inherited")) entry
+inherited_at (target.Domain id) entry = optional truth (names (codes "inherited")) entry
+inherited_at target.System entry = optional falsehood (names (codes "inherited")) entry
 
 unfoldable pub grant_in : Entry GrantRow
 grant_in entry = do
-  actor ← one_of_two actor.User actor.Group (names (codes "user")) (names (codes "group")) entry
-  target ← one_of_two target.Project target.Domain (names (codes "project")) (names (codes "domain")) entry
+  actor ← actor_in entry
+  target ← target_in entry
   role ← needed id_text (names (codes "role")) entry
-  inherited ← optional truth (names (codes "inherited")) entry
+  inherited ← inherited_at target entry
   Ok (record { actor = actor; target = target; inherited = unwrap_or inherited false; role = role })
 
 -- the whole file
@@ -226,6 +312,9 @@ written_in file = do
   members ← entries member_in (names (codes "members")) file
   roles ← entries role_in (names (codes "roles")) file
   implications ← entries implication_in (names (codes "implications")) file
+  regions ← entries region_in (names (codes "regions")) file
+  services ← entries service_in (names (codes "services")) file
+  endpoints ← entries endpoint_in (names (codes "endpoints")) file
   assignments ← entries grant_in (names (codes "assignments")) file
   Ok (record {
     settings = record settings { folder = is_folder keys };
@@ -237,6 +326,9 @@ written_in file = do
     members = members;
     roles = roles;
     implications = implications;
+    regions = regions;
+    services = services;
+    endpoints = endpoints;
     assignments = assignments;
   })
 

@@ -81,6 +81,9 @@ pub(crate) fn read_written(alloc: Global, file: &Value) -> Result<Written, Shape
     let members = entries(alloc, &file, &["members"])?;
     let roles = entries(alloc, &file, &["roles"])?;
     let implications = entries(alloc, &file, &["implications"])?;
+    let regions = entries(alloc, &file, &["regions"])?;
+    let services = entries(alloc, &file, &["services"])?;
+    let endpoints = entries(alloc, &file, &["endpoints"])?;
     let assignments = entries(alloc, &file, &["assignments"])?;
     Ok(Written {
         settings: Settings {
@@ -95,6 +98,9 @@ pub(crate) fn read_written(alloc: Global, file: &Value) -> Result<Written, Shape
         members,
         roles,
         implications,
+        regions,
+        services,
+        endpoints,
         assignments,
     })
 }

@@ -1,58 +1,68 @@
 ghost use Rattle.std.specs.Prelude.{codes};
-ghost use Rattle.ks_base.specs.declared.grants.Actor.TheVariants as actor;
-ghost use Rattle.ks_base.specs.declared.grants.Target.TheVariants as target;
 ghost use Rattle.ks_shape.specs.Places.{names, names_in, place_of};
 ghost use Rattle.ks_shape.specs.Readings.{Reads};
-ghost use Rattle.ks_setup.specs.declared.grants.OneOfTwo.TheVariants as choice;
-ghost use Rattle.ks_setup.specs.Written.{grant_in, one_of_two};
+ghost use Rattle.ks_setup.specs.Written.{absent, actor_in, grant_in, inherited_at, target_in};
 
 use crate::entries::Entry;
-use ks_base::{Actor, GrantRow, Id, ShapeRefusal, Target};
-use ks_shape::{IdText, Misfit, Node, Truth};
+use ks_base::{Actor, GrantRow, ShapeRefusal, Target};
+use ks_shape::{Affirmation, Falsehood, IdText, Misfit, Node, Truth};
 use std::alloc::Global;
 
-/// The id of one of two fields.
-#[derive(Clone, Copy)]
-pub(crate) enum OneOfTwo {
-    First(Id),
-    Second(Id),
-}
-
-/// The id of the one of two fields that is given.
-#[tactic(auto, unfolding(crate::specs::Written::one_of_two, ks_shape::specs::Fields::optional))]
-fn one_of_two(entry: &Node, first: &[&str], second: &[&str]) -> Result<OneOfTwo, ShapeRefusal>
-    ensures { Reads result (one_of_two choice.First choice.Second (names_in first.now) (names_in second.now) (place_of entry.now)) }
+/// Refuses what stands beside the field that is given.
+#[tactic(auto, using(ks_shape::proofs::RefusalLemmas::refused), unfolding(crate::specs::Written::absent, ks_shape::specs::Fields::optional))]
+fn absent(entry: &Node, names: &[&str]) -> Result<(), ShapeRefusal>
+    ensures { Reads result (absent (names_in names.now) (place_of entry.now)) }
 {
-    if let Some(id) = entry.optional(first, &IdText)? {
-        if entry.optional_value(second)?.is_some() {
-            return entry.refuse(second, Misfit::Range);
-        }
-        return Ok(OneOfTwo::First(id));
+    match entry.optional_value(names)? {
+        Some(_) => entry.refuse(names, Misfit::Range),
+        None => Ok(()),
     }
-    if let Some(id) = entry.optional(second, &IdText)? {
-        return Ok(OneOfTwo::Second(id));
-    }
-    let id = entry.needed(first, &IdText)?;
-    Ok(OneOfTwo::First(id))
 }
 
-#[tactic(auto, using(crate::proofs::ChoiceLemmas::chosen_is))]
+/// The user or the group that has the role.
+#[tactic(auto, unfolding(crate::specs::Written::actor_in))]
 fn actor(entry: &Node) -> Result<Actor, ShapeRefusal>
-    ensures { Reads result (one_of_two actor.User actor.Group (names (codes "user")) (names (codes "group")) (place_of entry.now)) }
+    ensures { Reads result (actor_in (place_of entry.now)) }
 {
-    match one_of_two(entry, &["user"], &["group"])? {
-        OneOfTwo::First(id) => Ok(Actor::User(id)),
-        OneOfTwo::Second(id) => Ok(Actor::Group(id)),
+    if let Some(id) = entry.optional(&["user"], &IdText)? {
+        absent(entry, &["group"])?;
+        return Ok(Actor::User(id));
     }
+    if let Some(id) = entry.optional(&["group"], &IdText)? {
+        return Ok(Actor::Group(id));
+    }
+    let id = entry.needed(&["user"], &IdText)?;
+    Ok(Actor::User(id))
 }
 
-#[tactic(auto, using(crate::proofs::ChoiceLemmas::chosen_is))]
+/// The project, the domain or the system on which it has the role.
+#[tactic(auto, unfolding(crate::specs::Written::target_in))]
 fn target(entry: &Node) -> Result<Target, ShapeRefusal>
-    ensures { Reads result (one_of_two target.Project target.Domain (names (codes "project")) (names (codes "domain")) (place_of entry.now)) }
+    ensures { Reads result (target_in (place_of entry.now)) }
 {
-    match one_of_two(entry, &["project"], &["domain"])? {
-        OneOfTwo::First(id) => Ok(Target::Project(id)),
-        OneOfTwo::Second(id) => Ok(Target::Domain(id)),
+    if let Some(id) = entry.optional(&["project"], &IdText)? {
+        absent(entry, &["domain"])?;
+        absent(entry, &["system"])?;
+        return Ok(Target::Project(id));
+    }
+    if let Some(id) = entry.optional(&["domain"], &IdText)? {
+        absent(entry, &["system"])?;
+        return Ok(Target::Domain(id));
+    }
+    if entry.optional(&["system"], &Affirmation)?.is_some() {
+        return Ok(Target::System);
+    }
+    let id = entry.needed(&["project"], &IdText)?;
+    Ok(Target::Project(id))
+}
+
+/// Whether the grant is inherited, where it says so.
+fn inherited(entry: &Node, target: &Target) -> Result<Option<bool>, ShapeRefusal>
+    ensures { Reads result (inherited_at target.now (place_of entry.now)) }
+{
+    match target {
+        Target::Project(_) | Target::Domain(_) => entry.optional(&["inherited"], &Truth),
+        Target::System => entry.optional(&["inherited"], &Falsehood),
     }
 }
 
@@ -64,7 +74,7 @@ impl Entry for GrantRow {
         let actor = actor(entry)?;
         let target = target(entry)?;
         let role = entry.needed(&["role"], &IdText)?;
-        let inherited = entry.optional(&["inherited"], &Truth)?;
+        let inherited = inherited(entry, &target)?;
         Ok(GrantRow {
             actor,
             target,

@@ -144,6 +144,9 @@ fn assemble<P: Desk>(alloc: Global, checked: Checked, desk: &mut P) -> Result<Op
         members: written.members,
         roles: written.roles,
         implications: written.implications,
+        regions: written.regions,
+        services: written.services,
+        endpoints: written.endpoints,
         assignments: written.assignments,
     })
 }

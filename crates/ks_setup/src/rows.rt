@@ -1,12 +1,16 @@
 ghost use Rattle.std.specs.Prelude.{◌≡◌, IfOk, unwrap_or};
-ghost use Rattle.ks_setup.specs.Written.{domain_in, group_in, implication_in, key_in, member_in, project_in, role_in, user_in};
+ghost use Rattle.ks_setup.specs.Written.{domain_in, endpoint_in, group_in, implication_in, key_in, member_in, project_in, region_in, role_in, service_in, user_in};
 
 use crate::entries::Entry;
 use crate::written::WrittenUser;
 use ks_base::{
-    DomainRow, GroupRow, ImplyRow, MemberRow, Memory, ProjectRow, RoleRow, ShapeRefusal, Text,
+    DomainRow, EndpointRow, GroupRow, ImplyRow, MemberRow, Memory, ProjectRow, RegionRow, RoleRow,
+    ServiceRow, ShapeRefusal, Text,
 };
-use ks_shape::{AnyText, DESCRIPTION, IdText, NAME, Node, PASSWORD, Truth};
+use ks_shape::{
+    AnyText, DESCRIPTION, ENDPOINT_URL, IdText, InterfaceWord, NAME, Node, PASSWORD, SERVICE_TEXT,
+    Truth,
+};
 use std::alloc::Global;
 
 /// The text, or this one where there is none.
@@ -142,5 +146,63 @@ impl Entry for ImplyRow {
         let prior = entry.needed(&["prior"], &IdText)?;
         let implied = entry.needed(&["implied"], &IdText)?;
         Ok(ImplyRow { prior, implied })
+    }
+}
+
+impl Entry for RegionRow {
+    ghost reads = { region_in };
+
+    #[tactic(auto, unfolding(crate::specs::Written::region_in))]
+    fn read(alloc: Global, entry: &Node) -> Result<RegionRow, ShapeRefusal> {
+        let id = entry.needed(&["id"], &IdText)?;
+        let parent = entry.optional(&["parent_region_id"], &IdText)?;
+        let description = entry.optional(&["description"], &DESCRIPTION)?;
+        Ok(RegionRow {
+            id,
+            parent,
+            description: text_or(alloc, description, "")?,
+        })
+    }
+}
+
+impl Entry for ServiceRow {
+    ghost reads = { service_in };
+
+    #[tactic(auto, unfolding(crate::specs::Written::service_in))]
+    fn read(alloc: Global, entry: &Node) -> Result<ServiceRow, ShapeRefusal> {
+        let id = entry.needed(&["id"], &IdText)?;
+        let kind = entry.needed(&["type"], &SERVICE_TEXT)?;
+        let name = entry.optional(&["name"], &SERVICE_TEXT)?;
+        let description = entry.optional(&["description"], &DESCRIPTION)?;
+        let enabled = entry.optional(&["enabled"], &Truth)?;
+        Ok(ServiceRow {
+            id,
+            kind,
+            name: text_or(alloc, name, "")?,
+            description: text_or(alloc, description, "")?,
+            enabled: enabled.unwrap_or(true),
+        })
+    }
+}
+
+impl Entry for EndpointRow {
+    ghost reads = { endpoint_in };
+
+    #[tactic(auto, unfolding(crate::specs::Written::endpoint_in))]
+    fn read(_alloc: Global, entry: &Node) -> Result<EndpointRow, ShapeRefusal> {
+        let id = entry.needed(&["id"], &IdText)?;
+        let service = entry.needed(&["service_id"], &IdText)?;
+        let interface = entry.needed(&["interface"], &InterfaceWord)?;
+        let url = entry.needed(&["url"], &ENDPOINT_URL)?;
+        let region = entry.optional(&["region_id"], &IdText)?;
+        let enabled = entry.optional(&["enabled"], &Truth)?;
+        Ok(EndpointRow {
+            id,
+            service,
+            region,
+            interface,
+            url,
+            enabled: enabled.unwrap_or(true),
+        })
     }
 }

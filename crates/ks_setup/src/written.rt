@@ -1,6 +1,6 @@
 use ks_base::{
-    DomainList, GrantList, GroupList, Id, ImplyList, ListOf, MemberList, ProjectList, RoleList,
-    Text, TextList,
+    DomainList, EndpointList, GrantList, GroupList, Id, ImplyList, ListOf, MemberList, ProjectList,
+    RegionList, RoleList, Row, ServiceList, Text, TextList,
 };
 use ks_machine::Settings;
 
@@ -23,6 +23,14 @@ pub struct WrittenUser {
     pub password: Option<Text>,
 }
 
+impl Row for WrittenUser {
+    ghost key = { λ row. row.id };
+
+    fn id(&self) -> &Id {
+        &self.id
+    }
+}
+
 /// What an opening file says, apart from its policy.
 #[derive(Drop)]
 pub struct Written {
@@ -35,5 +43,8 @@ pub struct Written {
     pub members: MemberList,
     pub roles: RoleList,
     pub implications: ImplyList,
+    pub regions: RegionList,
+    pub services: ServiceList,
+    pub endpoints: EndpointList,
     pub assignments: GrantList,
 }

@@ -14,7 +14,7 @@ use Rattle.ks_opening.specs.Opened.{rows_in}
 
 -- the rows of its tables; no trust stands
 abbrev pub rows_of : Filled → Rows
-rows_of filled = rows_in filled.tree filled.people filled.roles filled.grants []
+rows_of filled = rows_in filled.tree filled.people filled.roles filled.grants [] filled.catalog
 
 -- it is this opening, whose rows stand in their tables
 pub record IsFilled (filled : Filled) (opening : PlainOpening) : Type 0 where
@@ -37,4 +37,5 @@ with_ring filled ring = record {
   people = filled.people;
   roles = filled.roles;
   grants = filled.grants;
+  catalog = filled.catalog;
 }

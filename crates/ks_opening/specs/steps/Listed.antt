@@ -19,6 +19,9 @@ rows_listed listed = record {
   implications = [];
   grants = [];
   trusts = [];
+  regions = listed.regions;
+  services = listed.services;
+  endpoints = listed.endpoints;
 }
 
 -- these are the rows of the opening, in its order
@@ -28,6 +31,9 @@ pub record AreRowsOf (listed : Listed) (opening : PlainOpening) : Type 0 where
   pub users : listed.users ≡ opening.users
   pub groups : listed.groups ≡ opening.groups
   pub roles : listed.roles ≡ opening.roles
+  pub regions : listed.regions ≡ opening.regions
+  pub services : listed.services ≡ opening.services
+  pub endpoints : listed.endpoints ≡ opening.endpoints
 
 -- the first fault of what rows name, of the trees and of the roles, where these rows stand
 abbrev pub rows_fault : Rows → PlainOpening → Option OpenFault

@@ -1,5 +1,8 @@
 -- What tables hold that are made of the rows of a file, in any order.
 use Rattle.std.specs.Prelude.{List}
+use Rattle.ks_base.specs.declared.catalog.EndpointRow.{EndpointRow}
+use Rattle.ks_base.specs.declared.catalog.RegionRow.{RegionRow}
+use Rattle.ks_base.specs.declared.catalog.ServiceRow.{ServiceRow}
 use Rattle.ks_base.specs.declared.grants.GrantRow.{GrantRow}
 use Rattle.ks_base.specs.declared.rows.DomainRow.{DomainRow}
 use Rattle.ks_base.specs.declared.rows.GroupRow.{GroupRow}
@@ -8,6 +11,7 @@ use Rattle.ks_base.specs.declared.users.MemberRow.{MemberRow}
 use Rattle.ks_base.specs.declared.rows.ProjectRow.{ProjectRow}
 use Rattle.ks_base.specs.declared.rows.RoleRow.{RoleRow}
 use Rattle.ks_base.specs.declared.users.UserRow.{UserRow}
+use Rattle.ks_base.specs.Catalog.{CatalogState}
 use Rattle.ks_base.specs.Orders.{grant_cmp, imply_cmp, member_cmp}
 use Rattle.ks_base.specs.People.{PeopleState}
 use Rattle.ks_base.specs.RoleLists.{RolesState}
@@ -40,3 +44,11 @@ roles_with roles implications = record {
 -- these grants
 abbrev pub grants_with : List GrantRow → List GrantRow
 grants_with = put_all (put_row grant_cmp (λ row. row))
+
+-- the catalog of these regions, services and endpoints
+abbrev pub catalog_with : List RegionRow → List ServiceRow → List EndpointRow → CatalogState
+catalog_with regions services endpoints = record {
+  regions = put_all (put_row id_cmp (λ row. row.id)) regions;
+  services = put_all (put_row id_cmp (λ row. row.id)) services;
+  endpoints = put_all (put_row id_cmp (λ row. row.id)) endpoints;
+}

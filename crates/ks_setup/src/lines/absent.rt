@@ -5,16 +5,18 @@ ghost use Rattle.std.specs.Option.{option_copied};
 ghost use Rattle.ks_base.specs.declared.kinds.Kind.TheVariants as variant;
 ghost use Rattle.ks_base.specs.declared.grants.Actor.TheVariants as actors;
 ghost use Rattle.ks_base.specs.declared.grants.Target.TheVariants as targets;
+ghost use Rattle.ks_base.specs.Catalog.{is_in_region, is_of_service, names_id};
 ghost use Rattle.ks_base.specs.Grants.{is_at_target, is_of_actor};
 ghost use Rattle.ks_base.specs.Rows.{same};
 ghost use Rattle.ks_base.specs.Tree.{is_child_of};
 ghost use Rattle.ks_base.specs.RoleLists.{names_role};
-ghost use Rattle.ks_setup.specs.RowLines.{absent_at, absent_line, domain_spot, group_spot, implication_at, is_orphan, orphan_line, orphan_place, role_field, role_spot, user_spot};
+ghost use Rattle.ks_setup.specs.RowLines.{absent_at, absent_line, domain_spot, group_spot, implication_at, is_orphan, is_region_orphan, orphan_or, orphan_place, orphan_project, orphan_region, project_spot, region_spot, role_field, role_spot, service_spot, user_spot};
 
 use crate::lines::spot::{Field, Spot, id_quoted, joined, located, row_name, spot_at};
 use crate::written::{Written, WrittenUser};
 use ks_base::{
-    Actor, GrantRow, GroupRow, Id, ImplyRow, Kind, MemberRow, Memory, ProjectRow, Target,
+    Actor, EndpointRow, GrantRow, GroupRow, Id, ImplyRow, Kind, MemberRow, Memory, ProjectRow,
+    RegionRow, Target,
 };
 use std::alloc::Global;
 
@@ -80,6 +82,27 @@ fn grant_role(rows: &[GrantRow], role: &Id) -> Option<usize>
     ensures { result ≡ position (λ row. same row.role role.now) rows.now }
 {
     rows.iter().position(|row| row.role == *role)
+}
+
+fn names_id(given: &Option<Id>, id: &Id) -> bool
+    ensures { result ≡ names_id id.now given.now }
+{
+    match given {
+        Some(other) => *other == *id,
+        None => false,
+    }
+}
+
+fn endpoint_region(rows: &[EndpointRow], region: &Id) -> Option<usize>
+    ensures { result ≡ position (is_in_region region.now) rows.now }
+{
+    rows.iter().position(|row| names_id(&row.region, region))
+}
+
+fn endpoint_service(rows: &[EndpointRow], service: &Id) -> Option<usize>
+    ensures { result ≡ position (is_of_service service.now) rows.now }
+{
+    rows.iter().position(|row| row.service == *service)
 }
 
 fn names_role(row: &ImplyRow, role: &Id) -> bool
@@ -165,11 +188,31 @@ fn role_spot(written: &Written, id: &Id) -> Option<Spot>
     implication.or(spot_at(Kind::Grant, Field::Role, grant))
 }
 
-/// Whether the project lies below this one, and none of those before it is this one, in its domain.
-fn is_orphan(before: &[ProjectRow], row: &ProjectRow, id: &Id) -> bool
-    ensures { result ≡ is_orphan id.now before.now row.now }
-{
-    is_child_of(row, id) && !stands_in(before, &row.domain, id)
+/// A row that may lie below another one, which has to stand before it.
+trait Below {
+    ghost use Rattle.std.specs.Prelude.{◌≡◌, ℕ, Bool, List};
+
+    ghost orphan: { List ℕ → List Self → Self → Bool };
+
+    /// Whether the row lies below the one with this id, which is none of those before it.
+    fn is_orphan(&self, before: &[Self], id: &Id) -> bool
+        ensures { result ≡ orphan id.now before.now self.now };
+}
+
+impl Below for ProjectRow {
+    ghost orphan = { is_orphan };
+
+    fn is_orphan(&self, before: &[ProjectRow], id: &Id) -> bool {
+        is_child_of(self, id) && !stands_in(before, &self.domain, id)
+    }
+}
+
+impl Below for RegionRow {
+    ghost orphan = { is_region_orphan };
+
+    fn is_orphan(&self, before: &[RegionRow], id: &Id) -> bool {
+        names_id(&self.parent, id) && !region_stands(before, id)
+    }
 }
 
 /// Whether the project lies right below this one.
@@ -186,17 +229,58 @@ fn stands_in(rows: &[ProjectRow], domain: &Id, id: &Id) -> bool
         .any(|other| other.id == *id && other.domain == *domain)
 }
 
-/// The place of the first project that lies below this one, which does not stand before it in its domain.
-fn orphan_place(rows: &[ProjectRow], id: &Id) -> Option<usize>
-    ensures { result ≡ orphan_place id.now [] rows.now }
+fn region_stands(rows: &[RegionRow], id: &Id) -> bool
+    ensures { result ≡ list_any (λ other. same other.id id.now) rows.now }
+{
+    rows.iter().any(|other| other.id == *id)
+}
+
+/// The place of the first row that lies below the one with the id, which does not stand before it.
+fn orphan_place<R: Below>(rows: &[R], id: &Id) -> Option<usize>
+    ensures { result ≡ orphan_place (R.orphan id.now) [] rows.now }
 {
     'rows: for (at, row) in rows.iter().enumerate() {
         let (before, _) = rows.split_at(at);
-        if is_orphan(before, row, id) {
+        if row.is_orphan(before, id) {
             return Some(at);
         }
     }
     None
+}
+
+fn orphan_project(written: &Written, id: &Id) -> Option<Spot>
+    ensures { result ≡ orphan_project written.now id.now }
+{
+    let place = orphan_place(written.projects.as_slice(), id);
+    spot_at(Kind::Project, Field::ParentId, place)
+}
+
+fn orphan_region(written: &Written, id: &Id) -> Option<Spot>
+    ensures { result ≡ orphan_region written.now id.now }
+{
+    let place = orphan_place(written.regions.as_slice(), id);
+    spot_at(Kind::Region, Field::ParentRegionId, place)
+}
+
+fn project_spot(written: &Written, id: &Id) -> Option<Spot>
+    ensures { result ≡ project_spot written.now id.now }
+{
+    let grant = grant_project(written.assignments.as_slice(), id);
+    spot_at(Kind::Grant, Field::Project, grant)
+}
+
+fn region_spot(written: &Written, id: &Id) -> Option<Spot>
+    ensures { result ≡ region_spot written.now id.now }
+{
+    let endpoint = endpoint_region(written.endpoints.as_slice(), id);
+    spot_at(Kind::Endpoint, Field::RegionId, endpoint)
+}
+
+fn service_spot(written: &Written, id: &Id) -> Option<Spot>
+    ensures { result ≡ service_spot written.now id.now }
+{
+    let endpoint = endpoint_service(written.endpoints.as_slice(), id);
+    spot_at(Kind::Endpoint, Field::ServiceId, endpoint)
 }
 
 /// That no row of the kind has the id.
@@ -208,39 +292,41 @@ fn absent_at(alloc: Global, spot: Option<Spot>, kind: Kind, id: &Id) -> Result<S
     located(alloc, spot, said.as_str())
 }
 
-/// That the parent of the project at this place has no row before it in its domain.
-fn orphan_line(alloc: Global, place: usize, id: &Id) -> Result<String, Memory>
-    ensures { IfOk result (λ made. string_bytes made ≡ orphan_line place id.now) }
+/// That the row at the place has none before it with the id, or else that no row of the kind has it.
+fn orphan_or(
+    alloc: Global,
+    orphan: Option<Spot>,
+    said: &str,
+    kind: Kind,
+    id: &Id,
+    other: Option<Spot>,
+) -> Result<String, Memory>
+    ensures { IfOk result (λ made. string_bytes made ≡ orphan_or orphan said.now id.now (absent_at other kind id.now)) }
 {
+    let Some(spot) = orphan else {
+        return absent_at(alloc, other, kind, id);
+    };
     let id = id_quoted(alloc, id)?;
-    let said = joined(
-        alloc,
-        &[
-            "no project before it in its domain has the id ",
-            id.as_str(),
-        ],
-    )?;
-    located(
-        alloc,
-        spot_at(Kind::Project, Field::ParentId, Some(place)),
-        said.as_str(),
-    )
+    let said = joined(alloc, &[said, id.as_str()])?;
+    located(alloc, Some(spot), said.as_str())
 }
 
-/// That no project has the id.
 fn project_line(alloc: Global, written: &Written, id: &Id) -> Result<String, Memory>
     ensures { IfOk result (λ made. string_bytes made ≡ absent_line written.now variant.Project id.now) }
 {
-    if let Some(place) = orphan_place(written.projects.as_slice(), id) {
-        return orphan_line(alloc, place, id);
-    }
-    let grant = grant_project(written.assignments.as_slice(), id);
-    absent_at(
-        alloc,
-        spot_at(Kind::Grant, Field::Project, grant),
-        Kind::Project,
-        id,
-    )
+    let orphan = orphan_project(written, id);
+    let other = project_spot(written, id);
+    let said = "no project before it in its domain has the id ";
+    orphan_or(alloc, orphan, said, Kind::Project, id, other)
+}
+
+fn region_line(alloc: Global, written: &Written, id: &Id) -> Result<String, Memory>
+    ensures { IfOk result (λ made. string_bytes made ≡ absent_line written.now variant.Region id.now) }
+{
+    let orphan = orphan_region(written, id);
+    let other = region_spot(written, id);
+    let said = "no region before it has the id ";
+    orphan_or(alloc, orphan, said, Kind::Region, id, other)
 }
 
 /// That no row of the kind has the id, which a row names.
@@ -258,8 +344,13 @@ pub(crate) fn absent_line(
         Kind::User => absent_at(alloc, user_spot(written, id), kind, id),
         Kind::Group => absent_at(alloc, group_spot(written, id), kind, id),
         Kind::Role => absent_at(alloc, role_spot(written, id), kind, id),
-        Kind::Implication | Kind::Grant | Kind::Member | Kind::Trust | Kind::Event => {
-            absent_at(alloc, None, kind, id)
-        }
+        Kind::Region => region_line(alloc, written, id),
+        Kind::Service => absent_at(alloc, service_spot(written, id), kind, id),
+        Kind::Implication
+        | Kind::Grant
+        | Kind::Member
+        | Kind::Trust
+        | Kind::Event
+        | Kind::Endpoint => absent_at(alloc, None, kind, id),
     }
 }

@@ -1,6 +1,6 @@
 //! Faults of the form, the policy and the keys of an opening file.
 ghost use Rattle.std.specs.Prelude.{◌≡◌, codes, IfOk, string_bytes};
-ghost use Rattle.ks_setup.specs.FormLines.{at_path, begins, ends, field_wanted, grant_wanted, has_stop, id_wanted, member_wanted, opening_line, policy_line, range_line, setting_wanted, shape_line, wanted, wanted_at};
+ghost use Rattle.ks_setup.specs.FormLines.{at_path, begins, endpoint_wanted, ends, field_wanted, grant_wanted, has_stop, id_wanted, member_wanted, opening_line, policy_line, range_line, row_wanted, service_wanted, setting_wanted, shape_line, wanted, wanted_at};
 
 use crate::lines::spot::{joined, quoted};
 use crate::opening::OpeningFault;
@@ -14,7 +14,9 @@ const ID: &str = "an id of 1 to 64 of the characters 0-9 A-Z a-z _ -";
 
 const ACTOR: &str = "an id, of a user or else of a group,";
 
-const TARGET: &str = "an id, of a project or else of a domain,";
+const TARGET: &str = "an id, of a project or else of a domain, or else \"system\": true,";
+
+const SERVICE_TEXT: &str = "a text of at most 255 bytes";
 
 fn begins(path: &[u8], front: &[u8]) -> bool
     ensures { result ≡ begins path.now front.now }
@@ -34,7 +36,7 @@ fn has_stop(path: &[u8]) -> bool
     path.contains(&b'.')
 }
 
-/// What is wanted of an id of an assignment.
+/// What is wanted of an actor or a target of an assignment.
 fn grant_wanted(path: &[u8]) -> &'static str
     ensures { result.now ≡ grant_wanted path.now }
 {
@@ -50,6 +52,9 @@ fn grant_wanted(path: &[u8]) -> &'static str
     if ends(path, b".domain") {
         return TARGET;
     }
+    if ends(path, b".system") {
+        return "true, in place of a project or a domain,";
+    }
     ID
 }
 
@@ -62,9 +67,9 @@ fn id_wanted(path: &[u8]) -> &'static str
     ID
 }
 
-/// What is wanted of a field of a row.
-fn field_wanted(path: &[u8]) -> &'static str
-    ensures { result.now ≡ field_wanted path.now }
+/// What is wanted of a field that rows of more than one kind have.
+fn row_wanted(path: &[u8]) -> &'static str
+    ensures { result.now ≡ row_wanted path.now }
 {
     if ends(path, b".name") {
         return "a text of 1 to 255 bytes";
@@ -79,9 +84,46 @@ fn field_wanted(path: &[u8]) -> &'static str
         return "true or false";
     }
     if ends(path, b".inherited") {
-        return "true or false";
+        return "true or false, and not true on the system,";
     }
     id_wanted(path)
+}
+
+fn service_wanted(path: &[u8]) -> &'static str
+    ensures { result.now ≡ service_wanted path.now }
+{
+    if ends(path, b".type") {
+        return SERVICE_TEXT;
+    }
+    if ends(path, b".name") {
+        return SERVICE_TEXT;
+    }
+    row_wanted(path)
+}
+
+fn endpoint_wanted(path: &[u8]) -> &'static str
+    ensures { result.now ≡ endpoint_wanted path.now }
+{
+    if ends(path, b".interface") {
+        return "the text \"public\", \"internal\" or \"admin\"";
+    }
+    if ends(path, b".url") {
+        return "a text of 1 to 2048 bytes";
+    }
+    row_wanted(path)
+}
+
+/// What is wanted of a field of a row.
+fn field_wanted(path: &[u8]) -> &'static str
+    ensures { result.now ≡ field_wanted path.now }
+{
+    if begins(path, b"services[") {
+        return service_wanted(path);
+    }
+    if begins(path, b"endpoints[") {
+        return endpoint_wanted(path);
+    }
+    row_wanted(path)
 }
 
 fn setting_wanted(path: &[u8]) -> &'static str

@@ -4,14 +4,11 @@ ghost use Rattle.std.specs.Option.{option_copied};
 ghost use Rattle.ks_setup.specs.Meetings.{NamedRow, domain_named, first_place, group_named, has_id, has_name, id_meeting, in_one_domain, name_meeting, next_place, project_named, role_named, user_named};
 
 use crate::written::WrittenUser;
-use ks_base::{DomainRow, GroupRow, Id, ProjectRow, RoleRow, Text};
+use ks_base::{DomainRow, GroupRow, Id, ProjectRow, RoleRow, Row, Text};
 
-/// A row with an id, and a name that no other row of its domain has, or none at all where it lies in no domain.
-pub(crate) trait Named {
+/// A row with a name that no other row of its domain has, or none at all where it lies in no domain.
+pub(crate) trait Named: Row {
     ghost named: { Self → NamedRow };
-
-    fn id(&self) -> Id
-        ensures { result ≡ (named self.now).id };
 
     fn domain(&self) -> Option<Id>
         ensures { result ≡ (named self.now).domain };
@@ -22,10 +19,6 @@ pub(crate) trait Named {
 
 impl Named for DomainRow {
     ghost named = { domain_named };
-
-    fn id(&self) -> Id {
-        self.id
-    }
 
     fn domain(&self) -> Option<Id> {
         None
@@ -39,10 +32,6 @@ impl Named for DomainRow {
 impl Named for ProjectRow {
     ghost named = { project_named };
 
-    fn id(&self) -> Id {
-        self.id
-    }
-
     fn domain(&self) -> Option<Id> {
         Some(self.domain)
     }
@@ -54,10 +43,6 @@ impl Named for ProjectRow {
 
 impl Named for WrittenUser {
     ghost named = { user_named };
-
-    fn id(&self) -> Id {
-        self.id
-    }
 
     fn domain(&self) -> Option<Id> {
         Some(self.domain)
@@ -71,10 +56,6 @@ impl Named for WrittenUser {
 impl Named for GroupRow {
     ghost named = { group_named };
 
-    fn id(&self) -> Id {
-        self.id
-    }
-
     fn domain(&self) -> Option<Id> {
         Some(self.domain)
     }
@@ -87,10 +68,6 @@ impl Named for GroupRow {
 impl Named for RoleRow {
     ghost named = { role_named };
 
-    fn id(&self) -> Id {
-        self.id
-    }
-
     fn domain(&self) -> Option<Id> {
         None
     }
@@ -100,10 +77,10 @@ impl Named for RoleRow {
     }
 }
 
-fn has_id<R: Named>(row: &R, id: &Id) -> bool
-    ensures { result ≡ has_id R.named id.now row.now }
+fn has_id<R: Row>(row: &R, id: &Id) -> bool
+    ensures { result ≡ has_id R.key id.now row.now }
 {
-    row.id() == *id
+    *row.id() == *id
 }
 
 fn in_one_domain<R: Named>(row: &R, other: &R) -> bool
@@ -123,16 +100,16 @@ fn has_name<R: Named>(row: &R, other: &R) -> bool
 }
 
 /// The place of the first row with the id.
-pub(crate) fn first_place<R: Named>(rows: &[R], id: &Id) -> Option<usize>
-    ensures place { result ≡ first_place R.named id.now rows.now }
+pub(crate) fn first_place<R: Row>(rows: &[R], id: &Id) -> Option<usize>
+    ensures place { result ≡ first_place R.key id.now rows.now }
     ensures within { IfSome result (λ place. place < length rows.now) }
 {
     rows.iter().position(|row| has_id(row, id))
 }
 
 /// The first row with the id.
-pub(crate) fn first_row<'a, R: Named>(rows: &'a [R], id: &Id) -> Option<&'a R>
-    ensures { option_copied result ≡ find (has_id R.named id.now) rows.now }
+pub(crate) fn first_row<'a, R: Row>(rows: &'a [R], id: &Id) -> Option<&'a R>
+    ensures { option_copied result ≡ find (has_id R.key id.now) rows.now }
 {
     rows.iter().find(|row| has_id(*row, id))
 }
@@ -145,9 +122,9 @@ fn name_place<R: Named>(rows: &[R], row: &R) -> Option<usize>
 }
 
 /// The place of the next row with the id.
-fn next_with_id<R: Named>(rows: &[R], at: usize, id: &Id) -> Option<usize>
+fn next_with_id<R: Row>(rows: &[R], at: usize, id: &Id) -> Option<usize>
     requires { at < length rows.now }
-    ensures { result ≡ next_place (has_id R.named id.now) at rows.now }
+    ensures { result ≡ next_place (has_id R.key id.now) at rows.now }
 {
     let (_, behind) = rows.split_at(at + 1);
     match first_place(behind, id) {
@@ -169,8 +146,8 @@ fn next_with_name<R: Named>(rows: &[R], at: usize, row: &R) -> Option<usize>
 }
 
 /// The places of the first two rows with the id.
-pub(crate) fn id_meeting<R: Named>(rows: &[R], id: &Id) -> Option<(usize, usize)>
-    ensures { result ≡ id_meeting R.named id.now rows.now }
+pub(crate) fn id_meeting<R: Row>(rows: &[R], id: &Id) -> Option<(usize, usize)>
+    ensures { result ≡ id_meeting R.key id.now rows.now }
 {
     let first = first_place(rows, id)?;
     let later = next_with_id(rows, first, id)?;
@@ -179,7 +156,7 @@ pub(crate) fn id_meeting<R: Named>(rows: &[R], id: &Id) -> Option<(usize, usize)
 
 /// The places of the row with the id, and of the next one with its name.
 pub(crate) fn name_meeting<R: Named>(rows: &[R], id: &Id) -> Option<(usize, usize)>
-    ensures { result ≡ name_meeting R.named id.now rows.now }
+    ensures { result ≡ name_meeting R.key R.named id.now rows.now }
 {
     let first = first_place(rows, id)?;
     let row = first_row(rows, id)?;

@@ -11,8 +11,8 @@ use crate::lines::spot::{Field, id_quoted, joined, list_name, located, quoted, r
 use crate::written::Written;
 use itoa::Buffer;
 use ks_base::limits::{
-    DOMAINS, EVENTS, GRANTS, GROUPS, IMPLICATIONS, KEYS, LEVELS, MEMBERS, PROJECTS, ROLES, TRUSTS,
-    USERS,
+    DOMAINS, ENDPOINTS, EVENTS, GRANTS, GROUPS, IMPLICATIONS, KEYS, LEVELS, MEMBERS, PROJECTS,
+    REGIONS, ROLES, SERVICES, TRUSTS, USERS,
 };
 use ks_base::{Id, ImplyRow, Kind, LoadFault, Memory, ProjectRow};
 use ks_machine::OpenFault;
@@ -28,6 +28,9 @@ fn ids_meeting(written: &Written, kind: Kind, id: &Id) -> Option<(usize, usize)>
         Kind::User => id_meeting(written.users.as_slice(), id),
         Kind::Group => id_meeting(written.groups.as_slice(), id),
         Kind::Role => id_meeting(written.roles.as_slice(), id),
+        Kind::Region => id_meeting(written.regions.as_slice(), id),
+        Kind::Service => id_meeting(written.services.as_slice(), id),
+        Kind::Endpoint => id_meeting(written.endpoints.as_slice(), id),
         Kind::Implication | Kind::Grant | Kind::Member | Kind::Trust | Kind::Event => None,
     }
 }
@@ -116,7 +119,7 @@ fn name_at<R: Named>(
 
 /// That two of the rows have the name of the one with the id.
 fn name_line_in<R: Named>(alloc: Global, kind: Kind, rows: &[R], id: &Id) -> Result<String, Memory>
-    ensures { IfOk result (λ made. string_bytes made ≡ name_line_in R.named kind id.now rows.now) }
+    ensures { IfOk result (λ made. string_bytes made ≡ name_line_in R.key R.named kind id.now rows.now) }
 {
     let Some(row) = first_row(rows, id) else {
         return name_unplaced(alloc, kind, id);
@@ -137,9 +140,14 @@ fn name_line(alloc: Global, written: &Written, kind: Kind, id: &Id) -> Result<St
         Kind::User => name_line_in(alloc, kind, written.users.as_slice(), id),
         Kind::Group => name_line_in(alloc, kind, written.groups.as_slice(), id),
         Kind::Role => name_line_in(alloc, kind, written.roles.as_slice(), id),
-        Kind::Implication | Kind::Grant | Kind::Member | Kind::Trust | Kind::Event => {
-            name_unplaced(alloc, kind, id)
-        }
+        Kind::Implication
+        | Kind::Grant
+        | Kind::Member
+        | Kind::Trust
+        | Kind::Event
+        | Kind::Region
+        | Kind::Service
+        | Kind::Endpoint => name_unplaced(alloc, kind, id),
     }
 }
 
@@ -228,6 +236,9 @@ fn limit(kind: Kind) -> usize
         Kind::Member => MEMBERS,
         Kind::Trust => TRUSTS,
         Kind::Event => EVENTS,
+        Kind::Region => REGIONS,
+        Kind::Service => SERVICES,
+        Kind::Endpoint => ENDPOINTS,
     }
 }
 

@@ -22,6 +22,9 @@ pub(crate) enum Field {
     Project,
     Domain,
     Role,
+    ParentRegionId,
+    ServiceId,
+    RegionId,
 }
 
 /// A field of a row of the list of this kind, the rows counted from 0.
@@ -59,6 +62,9 @@ impl Field {
             Field::Project => "project",
             Field::Domain => "domain",
             Field::Role => "role",
+            Field::ParentRegionId => "parent_region_id",
+            Field::ServiceId => "service_id",
+            Field::RegionId => "region_id",
         }
     }
 }
@@ -79,6 +85,9 @@ pub(crate) fn list_name(kind: Kind) -> &'static str
         Kind::Member => "members",
         Kind::Trust => "trusts",
         Kind::Event => "events",
+        Kind::Region => "regions",
+        Kind::Service => "services",
+        Kind::Endpoint => "endpoints",
     }
 }
 
@@ -98,6 +107,9 @@ pub(crate) fn row_name(kind: Kind) -> &'static str
         Kind::Member => "member",
         Kind::Trust => "trust",
         Kind::Event => "event",
+        Kind::Region => "region",
+        Kind::Service => "service",
+        Kind::Endpoint => "endpoint",
     }
 }
 

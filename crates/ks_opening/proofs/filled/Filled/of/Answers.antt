@@ -20,11 +20,20 @@ parties_of-requires-clause-groups c = (apart_all (plain c.args.opening) c.requir
 pub rights_of-requires : goal.rights_of-requires
 rights_of-requires c = (apart_all (plain c.args.opening) c.requires).roles
 
+pub catalog_of-requires-clause-regions : goal.catalog_of-requires-clause-regions
+catalog_of-requires-clause-regions c = (apart_all (plain c.args.opening) c.requires).regions
+
+pub catalog_of-requires-clause-services : goal.catalog_of-requires-clause-services
+catalog_of-requires-clause-services c = (apart_all (plain c.args.opening) c.requires).services
+
+pub catalog_of-requires-clause-endpoints : goal.catalog_of-requires-clause-endpoints
+catalog_of-requires-clause-endpoints c = (apart_all (plain c.args.opening) c.requires).endpoints
+
 pub returns : goal.returns
 unfolding rows_opened
 returns c = record {
   settings = refl;
   rules = refl;
   keys = refl;
-  rows = λ i. rows_in (c.in_ok-tree.ensures.tree i) (c.in_ok-tree.ensures.people i) (c.in_ok-roles.ensures.roles i) (c.in_ok-roles.ensures.grants i) [];
+  rows = λ i. rows_in (c.in_ok-tree.ensures.tree i) (c.in_ok-tree.ensures.people i) (c.in_ok-roles.ensures.roles i) (c.in_ok-roles.ensures.grants i) [] (c.in_ok-catalog.ensures i);
 }

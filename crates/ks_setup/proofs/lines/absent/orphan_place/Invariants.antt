@@ -3,4 +3,4 @@ use Rattle.ks_setup.specs.RowLines.{orphan_place}
 use Rattle.ks_setup.proofs.lines.absent.orphan_place.Given as goal
 
 abbrev pub invariant-rows : goal.invariant-rows
-invariant-rows l = orphan_place l.id (take l.at l.rows) (drop l.at l.rows) ≡ orphan_place l.id [] l.rows
+invariant-rows g l = orphan_place (g.R.Below.orphan l.id) (take l.at l.rows) (drop l.at l.rows) ≡ orphan_place (g.R.Below.orphan l.id) [] l.rows
