@@ -17,7 +17,12 @@ use Rattle.ks_auth.specs.declared.verdict.Verdict.TheVariants as verdict
 
 -- the rows that tables tell
 abbrev pub rows_told : Tables → Rows
-rows_told tables = record (rows_of tables.tree.now tables.people.now tables.roles.now tables.grants.now) { trusts = tables.trusts.now }
+rows_told tables = record (rows_of tables.tree.now tables.people.now tables.roles.now tables.grants.now) {
+  trusts = tables.trusts.now;
+  regions = tables.catalog.now.regions;
+  services = tables.catalog.now.services;
+  endpoints = tables.catalog.now.endpoints;
+}
 
 -- the tables tell this state: its settings, its ring, its rows, and its revocations, for which the live ones stand
 pub record Tells (tables : Tables) (S : State) : Type 0 where

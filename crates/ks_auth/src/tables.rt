@@ -1,4 +1,5 @@
 use ks_assign::Grants;
+use ks_catalog::Catalog;
 use ks_machine::Settings;
 use ks_people::People;
 use ks_revoke::Revoked;
@@ -7,7 +8,7 @@ use ks_roles::Roles;
 use ks_tree::Tree;
 use ks_trust::Trusts;
 
-/// The tables that a validation looks at.
+/// The tables that a decision looks at.
 #[derive(Clone, Copy)]
 pub struct Tables<'a> {
     pub tree: &'a Tree,
@@ -15,6 +16,7 @@ pub struct Tables<'a> {
     pub roles: &'a Roles,
     pub grants: &'a Grants,
     pub trusts: &'a Trusts,
+    pub catalog: &'a Catalog,
     pub revoked: &'a Revoked,
     pub ring: &'a Ring,
     pub settings: &'a Settings,

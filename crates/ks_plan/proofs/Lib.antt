@@ -1,4 +1,5 @@
 pub mod AskedLemmas
+pub mod CatalogLemmas
 pub mod DemandLemmas
 pub mod FieldLemmas
 pub mod FreshNeeds

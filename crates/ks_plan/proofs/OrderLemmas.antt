@@ -6,13 +6,14 @@ use Rattle.ks_base.specs.declared.receipt.Drawn.TheVariants.{Unused, Bytes, Fail
 use Rattle.ks_base.specs.Rows.{Rows, Text}
 use Rattle.ks_machine.specs.Actions.{requirements}
 use Rattle.ks_machine.specs.Attempts.{Attempt, Go, Stop, Lacks, ◌>>=◌, Known, found, need, unless}
+use Rattle.ks_machine.specs.CatalogCommands.{create_catalog, show_catalog}
 use Rattle.ks_machine.specs.Creations.{create}
 use Rattle.ks_machine.specs.Keys.{is_failed, rotate_keys}
 use Rattle.ks_machine.specs.Login.{login}
 use Rattle.ks_machine.specs.Passwords.{change_password}
 use Rattle.ks_machine.specs.TrustCommands.{create_trust}
 use Rattle.ks_machine.specs.Openings.{NamedRule}
-use Rattle.ks_machine.specs.Outcomes.{Outcome}
+use Rattle.ks_machine.specs.Outcomes.{Outcome, made_id}
 use Rattle.ks_machine.specs.Room.{event_limit, room_for}
 use Rattle.ks_machine.specs.States.{State}
 use Rattle.ks_machine.specs.Steps.{allows, answered, as_caller, as_caller_about, caller_of, checked, has_drawn, lacking_of, missing, revoked_subject, subject_of}
@@ -121,6 +122,12 @@ by_both known S moment call asked action late own is acts =
     rw (is, acts)
     (both_next (caller_of known S moment call.caller) (subject_of known S moment late call.subject) (λ caller subject. allows S caller subject asked (Some action)) call.subject own)
 
+-- a command of a caller for which no rule is asked
+by_own_caller : (known : Known) (S : State) (moment : ℕ) (call : Call) → call.command ≡ command.ShowCatalog →
+    as_caller known S moment call (λ caller. Go (show_catalog S.rows caller)) ≡ caller_of known S moment call.caller >>= (λ caller. Go (show_catalog S.rows caller))
+unfolding as_caller requirements
+by_own_caller known S moment call is = rw is refl
+
 -- behind the first check, each command by itself
 by_command : (known : Known) (S : State) (moment : ℕ) (call : Call) (asked : Command) → call.command ≡ asked →
     need (not (requirements asked).draws || has_drawn call.draw) cause.Random
@@ -163,6 +170,12 @@ by_command known S moment call (command.Trust id) is = by_caller known S moment 
 by_command known S moment call (command.DeleteTrust id) is = by_caller known S moment call _ _ _ _ is refl (λ caller. refl)
 by_command known S moment call (command.TrustRoles id) is = by_caller known S moment call _ _ _ _ is refl (λ caller. refl)
 by_command known S moment call command.Events is = by_caller known S moment call _ _ _ _ is refl (λ caller. refl)
+by_command known S moment call (command.CreateCatalog asked) is = drawn_first call.draw _ _ (λ bytes drawn. by_caller known S moment call _ _ _ _ is refl (λ caller. with_bytes call.draw bytes (λ draw. create_catalog S.rows (made_id draw) asked.of asked) drawn))
+by_command known S moment call (command.ListCatalog kind filters) is = by_caller known S moment call _ _ _ _ is refl (λ caller. refl)
+by_command known S moment call (command.GetCatalog kind id) is = by_caller known S moment call _ _ _ _ is refl (λ caller. refl)
+by_command known S moment call (command.UpdateCatalog id asked) is = by_caller known S moment call _ _ _ _ is refl (λ caller. refl)
+by_command known S moment call (command.DeleteCatalog kind id) is = by_caller known S moment call _ _ _ _ is refl (λ caller. refl)
+by_command known S moment call command.ShowCatalog is = by_own_caller known S moment call is
 
 pub parties_come_first : (known : Known) (S : State) (moment : ℕ) (call : Call) → planned known S moment call ≡ by_parties known S S.rules S.rows moment call
 unfolding planned by_parties

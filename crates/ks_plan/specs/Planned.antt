@@ -14,18 +14,19 @@ use Rattle.ks_machine.specs.Actions.{requirements}
 use Rattle.ks_machine.specs.Allowed.{allowed}
 use Rattle.ks_machine.specs.Assignments.{assignments}
 use Rattle.ks_machine.specs.Attempts.{Attempt, Go, Stop, ◌>>=◌, Known, found, need, unless}
+use Rattle.ks_machine.specs.CatalogCommands.{create_catalog, show_catalog, update_catalog}
 use Rattle.ks_machine.specs.Creations.{create}
 use Rattle.ks_machine.specs.Keys.{is_failed, load_keys, rotate_keys}
 use Rattle.ks_machine.specs.Listings.{delete, events, get, list}
 use Rattle.ks_machine.specs.Login.{login, told_token}
 use Rattle.ks_machine.specs.Members.{grant, grants_of, list_groups_of, implication, implied, imply, is_granted, is_implied, is_in, join, leave, list_members_of, ungrant, unimply}
 use Rattle.ks_machine.specs.Openings.{NamedRule}
-use Rattle.ks_machine.specs.Outcomes.{Outcome, tells}
+use Rattle.ks_machine.specs.Outcomes.{Outcome, made_id, tells}
 use Rattle.ks_machine.specs.Passwords.{change_password}
 use Rattle.ks_machine.specs.Room.{event_limit, room_for}
 use Rattle.ks_machine.specs.States.{State}
 use Rattle.ks_machine.specs.Steps.{answered, caller_of, checked, has_drawn, lacking_of, missing, revoked_subject, subject_of}
-use Rattle.ks_machine.specs.Targets.{credentials, target_of}
+use Rattle.ks_machine.specs.Targets.{catalog_kind, credentials, target_of}
 use Rattle.ks_machine.specs.TrustCommands.{create_trust, delete_trust, get_trust, list_trusts, roles_of_trust}
 use Rattle.ks_machine.specs.Updates.{update}
 use Rattle.ks_machine.specs.Validity.{Valid}
@@ -88,6 +89,12 @@ is_late (command.TrustRoles id) = false
 is_late command.Events = false
 is_late command.RotateKeys = false
 is_late command.LoadKeys = false
+is_late (command.CreateCatalog asked) = false
+is_late (command.ListCatalog kind filters) = false
+is_late (command.GetCatalog kind id) = false
+is_late (command.UpdateCatalog id asked) = false
+is_late (command.DeleteCatalog kind id) = false
+is_late command.ShowCatalog = false
 
 abbrev pub subject_asked : Known → State → ℕ → Bool → Option Text → Bool → Attempt Cause (Option Valid)
 subject_asked known S moment late given false = Go None
@@ -171,6 +178,16 @@ own_checks known S rows moment call who (command.TrustRoles id) = roles_of_trust
 own_checks known S rows moment call who command.Events = Go (events S moment)
 own_checks known S rows moment call who command.RotateKeys = bytes_drawn call.draw >>= (λ draw. rotate_keys S draw)
 own_checks known S rows moment call who command.LoadKeys = load_keys S call.folder
+own_checks known S rows moment call who (command.CreateCatalog asked) =
+    bytes_drawn call.draw >>= (λ draw. create_catalog rows (made_id draw) asked.of asked)
+own_checks known S rows moment call who (command.ListCatalog kind filters) = Go (list rows (catalog_kind kind) filters)
+own_checks known S rows moment call who (command.GetCatalog kind id) = get rows (catalog_kind kind) id
+own_checks known S rows moment call who (command.UpdateCatalog id asked) = update_catalog rows id asked.of asked
+own_checks known S rows moment call who (command.DeleteCatalog kind id) = delete rows (catalog_kind kind) id
+-- no rule is asked for, so that nobody was admitted before
+own_checks known S rows moment call who command.ShowCatalog = do
+  caller ← caller_of known S moment call.caller
+  Go (show_catalog rows caller)
 
 unfoldable pub by_parties : Known → State → List NamedRule → Rows → ℕ → Call → Attempt Cause Outcome
 by_parties known S rules rows moment call = do

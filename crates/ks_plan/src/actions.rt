@@ -1,9 +1,9 @@
 //! The names of the actions that rules allow, for commands that have one for each kind of row or grant.
 ghost use Rattle.std.specs.Prelude.{◌≡◌, ◌++◌, codes};
-ghost use Rattle.ks_machine.specs.Actions.{grants_word, identity, kind_word, kind_words};
+ghost use Rattle.ks_machine.specs.Actions.{catalog_word, grants_word, identity, kind_word, kind_words};
 ghost use Rattle.ks_machine.specs.Targets.{kind_of};
 
-use ks_base::{Actor, Kind, Target};
+use ks_base::{Actor, CatalogKind, Kind, Target};
 use ks_machine::Made;
 
 /// The action that lists rows of a kind.
@@ -21,6 +21,9 @@ pub fn listing_action(kind: Kind) -> &'static str
         Kind::Member => "identity:list_members",
         Kind::Trust => "identity:list_trusts",
         Kind::Event => "identity:list_events",
+        Kind::Region => "identity:list_regions",
+        Kind::Service => "identity:list_services",
+        Kind::Endpoint => "identity:list_endpoints",
     }
 }
 
@@ -39,6 +42,9 @@ pub fn get_action(kind: Kind) -> &'static str
         Kind::Member => "identity:get_member",
         Kind::Trust => "identity:get_trust",
         Kind::Event => "identity:get_event",
+        Kind::Region => "identity:get_region",
+        Kind::Service => "identity:get_service",
+        Kind::Endpoint => "identity:get_endpoint",
     }
 }
 
@@ -57,6 +63,9 @@ pub fn deletion_action(kind: Kind) -> &'static str
         Kind::Member => "identity:delete_member",
         Kind::Trust => "identity:delete_trust",
         Kind::Event => "identity:delete_event",
+        Kind::Region => "identity:delete_region",
+        Kind::Service => "identity:delete_service",
+        Kind::Endpoint => "identity:delete_endpoint",
     }
 }
 
@@ -83,6 +92,28 @@ pub fn update_action(made: &Made) -> &'static str
         Made::User { .. } => "identity:update_user",
         Made::Group { .. } => "identity:update_group",
         Made::Role { .. } => "identity:update_role",
+    }
+}
+
+/// The action that makes a row of the catalog.
+pub fn catalog_creation_action(of: CatalogKind) -> &'static str
+    ensures { result.now ≡ identity (codes "create_" ++ catalog_word of) }
+{
+    match of {
+        CatalogKind::Region => "identity:create_region",
+        CatalogKind::Service => "identity:create_service",
+        CatalogKind::Endpoint => "identity:create_endpoint",
+    }
+}
+
+/// The action that changes a row of the catalog.
+pub fn catalog_update_action(of: CatalogKind) -> &'static str
+    ensures { result.now ≡ identity (codes "update_" ++ catalog_word of) }
+{
+    match of {
+        CatalogKind::Region => "identity:update_region",
+        CatalogKind::Service => "identity:update_service",
+        CatalogKind::Endpoint => "identity:update_endpoint",
     }
 }
 

@@ -77,6 +77,9 @@ fn is_late(command: &Command) -> bool
         Command::CreateTrust(_) | Command::Trusts(_) | Command::Trust(_) => false,
         Command::DeleteTrust(_) | Command::TrustRoles(_) => false,
         Command::Events | Command::RotateKeys | Command::LoadKeys => false,
+        Command::CreateCatalog(_) | Command::ListCatalog(_, _) => false,
+        Command::GetCatalog(_, _) | Command::UpdateCatalog(_, _) => false,
+        Command::DeleteCatalog(_, _) | Command::ShowCatalog => false,
     }
 }
 

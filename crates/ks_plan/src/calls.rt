@@ -20,8 +20,13 @@ ghost use Rattle.ks_plan.specs.Views.{requirements_of};
 
 use crate::allowed::{Parties, admitted};
 use crate::assignments::assignments;
+use crate::catalog_creations::create_catalog;
+use crate::catalog_kinds::catalog_kind;
+use crate::catalog_shown::show_catalog;
+use crate::catalog_updates::update_catalog;
 use crate::checks::need;
 use crate::creations::create;
+use crate::draws::made_id;
 use crate::events::events;
 use crate::grants::{grant, grants_of, is_granted, ungrant};
 use crate::keys::{is_failed, load_keys, rotate_keys};
@@ -32,7 +37,7 @@ use crate::members::{
 };
 use crate::requirements::{Requirements, required};
 use crate::single::{delete, get};
-use crate::tokens::missing;
+use crate::tokens::{caller_of, missing};
 use crate::told::told_token;
 use crate::trusts::{create_trust, delete_trust, get_trust, list_trusts, roles_of_trust};
 use crate::updates::update;
@@ -267,5 +272,17 @@ fn own_checks(
             rotate_keys(alloc, tables, drawn)
         }
         Command::LoadKeys => load_keys(alloc, tables, &call.folder),
+        Command::CreateCatalog(asked) => {
+            let drawn = bytes_drawn(&call.draw)?;
+            create_catalog(alloc, tables, made_id(drawn), asked)
+        }
+        Command::ListCatalog(of, filters) => Ok(list(alloc, tables, catalog_kind(*of), filters)?),
+        Command::GetCatalog(of, id) => get(tables, catalog_kind(*of), id),
+        Command::UpdateCatalog(id, asked) => update_catalog(alloc, tables, id, asked),
+        Command::DeleteCatalog(of, id) => delete(tables, catalog_kind(*of), id),
+        Command::ShowCatalog => {
+            let caller = caller_of(alloc, tables, moment, &call.caller, facts)?;
+            Ok(show_catalog(alloc, tables, &caller)?)
+        }
     }
 }

@@ -3,12 +3,15 @@ ghost use Rattle.std.specs.Prelude.{Some, Ok, Err};
 ghost use Rattle.ks_base.specs.Refusals.{fault_in};
 ghost use Rattle.ks_auth.specs.Answers.{rows_told};
 ghost use Rattle.ks_machine.specs.Attempts.{need};
-ghost use Rattle.ks_machine.specs.Tables.{standing_domain, standing_group, standing_project, standing_role, standing_user, unless_row, unless_tree};
+ghost use Rattle.ks_machine.specs.Tables.{standing_domain, standing_endpoint, standing_group, standing_project, standing_region, standing_role, standing_service, standing_user, unless_catalog, unless_row, unless_tree};
 ghost use Rattle.ks_plan.specs.Plans.{Gives, Passes};
 
 use crate::Halt;
 use ks_auth::Tables;
-use ks_base::{DomainRow, GroupRow, Id, Kind, ProjectRow, RoleRow, RowFault, TreeFault, UserRow};
+use ks_base::{
+    CatalogFault, DomainRow, EndpointRow, GroupRow, Id, Kind, ProjectRow, RegionRow, RoleRow,
+    RowFault, ServiceRow, TreeFault, UserRow,
+};
 use ks_machine::Cause;
 
 /// Goes on, unless the tree refuses.
@@ -59,6 +62,29 @@ fn row_halt(fault: &RowFault) -> Halt
         RowFault::NameTaken(id) => Halt::Refused(Cause::NameTaken(*id)),
         RowFault::Full(kind) => Halt::Refused(Cause::Full(*kind)),
         RowFault::IdTaken(id) => Halt::Refused(Cause::IdTaken(*id)),
+    }
+}
+
+/// Goes on, unless the catalog refuses.
+pub fn catalog(checked: Result<(), CatalogFault>) -> Result<(), Halt>
+    ensures { Passes result (unless_catalog (fault_in checked)) }
+{
+    match &checked {
+        Ok(()) => Ok(()),
+        Err(fault) => Err(catalog_halt(fault)),
+    }
+}
+
+/// A region with something in it is refused as a project with others below it is.
+fn catalog_halt(fault: &CatalogFault) -> Halt
+    ensures { Passes (Err result) (unless_catalog (Some fault.now)) }
+{
+    match fault {
+        CatalogFault::Memory => Halt::Memory,
+        CatalogFault::Absent(kind, id) => Halt::Refused(Cause::Absent(*kind, *id)),
+        CatalogFault::HasChildren(id) => Halt::Refused(Cause::Tree(TreeFault::HasChildren(*id))),
+        CatalogFault::Full(kind) => Halt::Refused(Cause::Full(*kind)),
+        CatalogFault::IdTaken(id) => Halt::Refused(Cause::IdTaken(*id)),
     }
 }
 
@@ -120,5 +146,35 @@ pub fn standing_role<'a>(tables: &Tables<'a>, id: &Id) -> Result<&'a RoleRow, Ha
     match tables.roles.role(id) {
         Some(row) => Ok(row),
         None => Err(Halt::Refused(Cause::Absent(Kind::Role, *id))),
+    }
+}
+
+/// The region with this id, which must stand.
+pub fn standing_region<'a>(tables: &Tables<'a>, id: &Id) -> Result<&'a RegionRow, Halt>
+    ensures { Gives (λ row. row.now) result (standing_region (rows_told tables.now) id.now) }
+{
+    match tables.catalog.region(id) {
+        Some(row) => Ok(row),
+        None => Err(Halt::Refused(Cause::Absent(Kind::Region, *id))),
+    }
+}
+
+/// The service with this id, which must stand.
+pub fn standing_service<'a>(tables: &Tables<'a>, id: &Id) -> Result<&'a ServiceRow, Halt>
+    ensures { Gives (λ row. row.now) result (standing_service (rows_told tables.now) id.now) }
+{
+    match tables.catalog.service(id) {
+        Some(row) => Ok(row),
+        None => Err(Halt::Refused(Cause::Absent(Kind::Service, *id))),
+    }
+}
+
+/// The endpoint with this id, which must stand.
+pub fn standing_endpoint<'a>(tables: &Tables<'a>, id: &Id) -> Result<&'a EndpointRow, Halt>
+    ensures { Gives (λ row. row.now) result (standing_endpoint (rows_told tables.now) id.now) }
+{
+    match tables.catalog.endpoint(id) {
+        Some(row) => Ok(row),
+        None => Err(Halt::Refused(Cause::Absent(Kind::Endpoint, *id))),
     }
 }

@@ -1,10 +1,12 @@
-//! Listings of the five kinds (Identity API v3): a row is listed where all filters that are given agree.
+//! Listings of the five kinds and the three of the catalog (Identity API v3): a row is listed where all filters that are
+//! given agree.
 ghost use Rattle.std.specs.Prelude.{◌≡◌, filter, map, IfOk};
 ghost use Rattle.ks_auth.specs.Answers.{rows_told};
 ghost use Rattle.ks_machine.specs.Listings.{is_domain_listed, is_group_listed, is_project_listed, is_role_listed, is_user_listed, list, path_of_kind, rows_listed};
 ghost use Rattle.ks_plan.specs.Plans.{outcome_of};
 
 use crate::Plan;
+use crate::catalog_listings::{endpoints_listed, regions_listed, services_listed};
 use crate::filters::{has_domain, has_enabled, has_name, has_text};
 use ks_auth::Tables;
 use ks_base::{
@@ -118,10 +120,11 @@ fn rows_listed(
     alloc: Global,
     tables: &Tables,
     kind: Kind,
-    fields: &FieldList,
+    filters: &Filter,
 ) -> Result<RowList, Memory>
-    ensures { IfOk result (λ listed. listed ≡ rows_listed (rows_told tables.now) kind fields.now) }
+    ensures { IfOk result (λ listed. listed ≡ rows_listed (rows_told tables.now) kind filters.now.fields) }
 {
+    let fields = &filters.fields;
     match kind {
         Kind::Domain => domains_listed(alloc, tables.tree.domains(), fields),
         Kind::Project => projects_listed(alloc, tables.tree.projects(), fields),
@@ -133,6 +136,9 @@ fn rows_listed(
         Kind::Member => Ok(RowList::new(alloc)),
         Kind::Trust => Ok(RowList::new(alloc)),
         Kind::Event => Ok(RowList::new(alloc)),
+        Kind::Region => regions_listed(alloc, tables.catalog.regions(), filters),
+        Kind::Service => services_listed(alloc, tables.catalog.services(), filters),
+        Kind::Endpoint => endpoints_listed(alloc, tables.catalog.endpoints(), filters),
     }
 }
 
@@ -151,6 +157,9 @@ fn path_of_kind(kind: Kind) -> &'static str
         Kind::Member => "/v3/members",
         Kind::Trust => "/v3/trusts",
         Kind::Event => "/v3/events",
+        Kind::Region => "/v3/regions",
+        Kind::Service => "/v3/services",
+        Kind::Endpoint => "/v3/endpoints",
     }
 }
 
@@ -158,7 +167,7 @@ fn path_of_kind(kind: Kind) -> &'static str
 pub fn list(alloc: Global, tables: &Tables, kind: Kind, filters: &Filter) -> Result<Plan, Memory>
     ensures { IfOk result (λ plan. outcome_of plan ≡ list (rows_told tables.now) kind filters.now) }
 {
-    let listed = rows_listed(alloc, tables, kind, &filters.fields)?;
+    let listed = rows_listed(alloc, tables, kind, filters)?;
     let path = Text::of(alloc, path_of_kind(kind))?;
     Ok(Plan::tells(BodyOut::Many(kind, listed, path)))
 }

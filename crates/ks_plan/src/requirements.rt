@@ -4,9 +4,11 @@ ghost use Rattle.ks_machine.specs.Actions.{draws_for, open_to_all, requirements}
 ghost use Rattle.ks_plan.specs.Views.{asks_for, requirements_of};
 
 use crate::actions::{
-    creation_action, deletion_action, get_action, grant_action, grant_check_action, grants_action,
-    listing_action, revocation_action, update_action,
+    catalog_creation_action, catalog_update_action, creation_action, deletion_action, get_action,
+    grant_action, grant_check_action, grants_action, listing_action, revocation_action,
+    update_action,
 };
+use crate::catalog_kinds::catalog_kind;
 use ks_machine::{Command, Made, user_lacking};
 
 /// What a command asks for before its own checks.
@@ -125,5 +127,14 @@ pub fn required(command: &Command) -> Requirements
             loads: true,
             ..Requirements::rule("identity:load_keys")
         },
+        Command::CreateCatalog(asked) => Requirements::drawing(
+            catalog_creation_action(asked.of),
+            true,
+        ),
+        Command::ListCatalog(of, _) => Requirements::rule(listing_action(catalog_kind(*of))),
+        Command::GetCatalog(of, _) => Requirements::rule(get_action(catalog_kind(*of))),
+        Command::UpdateCatalog(_, asked) => Requirements::rule(catalog_update_action(asked.of)),
+        Command::DeleteCatalog(of, _) => Requirements::rule(deletion_action(catalog_kind(*of))),
+        Command::ShowCatalog => Requirements::open(false),
     }
 }

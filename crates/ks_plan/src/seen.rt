@@ -1,6 +1,6 @@
 //! What rules see of a row of a kind.
 ghost use Rattle.std.specs.Prelude.{◌≡◌, ◌++◌, OnOk};
-ghost use Rattle.ks_machine.specs.Targets.{domain_fields, group_fields, project_fields, role_fields, user_fields};
+ghost use Rattle.ks_machine.specs.Targets.{domain_fields, endpoint_fields, group_fields, project_fields, region_fields, role_fields, service_fields, user_fields};
 ghost use Rattle.ks_plan.specs.Views.{seen_of};
 
 use crate::fields::Fields;
@@ -55,5 +55,26 @@ impl Fields {
     {
         self.put_given_id("target.role.id", seen.id)?;
         self.put_given("target.role.name", seen.name)
+    }
+
+    pub fn put_region(&mut self, seen: &Seen) -> Result<(), Memory>
+        ensures { OnOk result (self.new ≡ self.old ++ region_fields (seen_of seen.now)) }
+    {
+        self.put_given_id("target.region.id", seen.id)
+    }
+
+    pub fn put_service(&mut self, seen: &Seen) -> Result<(), Memory>
+        ensures { OnOk result (self.new ≡ self.old ++ service_fields (seen_of seen.now)) }
+    {
+        self.put_given_id("target.service.id", seen.id)?;
+        self.put_given("target.service.name", seen.name)?;
+        self.put_given_truth("target.service.enabled", seen.enabled)
+    }
+
+    pub fn put_endpoint(&mut self, seen: &Seen) -> Result<(), Memory>
+        ensures { OnOk result (self.new ≡ self.old ++ endpoint_fields (seen_of seen.now)) }
+    {
+        self.put_given_id("target.endpoint.id", seen.id)?;
+        self.put_given_truth("target.endpoint.enabled", seen.enabled)
     }
 }

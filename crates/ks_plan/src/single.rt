@@ -1,11 +1,12 @@
-//! One row, and deletions, of the five kinds (Identity API v3).
+//! One row, and deletions, of the five kinds and the three of the catalog (Identity API v3).
 ghost use Rattle.std.specs.Prelude.{◌≡◌, Some, Ok};
 ghost use Rattle.ks_auth.specs.Answers.{rows_told};
 ghost use Rattle.ks_machine.specs.Listings.{delete, get, row_at};
 ghost use Rattle.ks_plan.specs.Plans.{Gives, Plans};
 
 use crate::checks::{
-    standing_domain, standing_group, standing_project, standing_role, standing_user,
+    catalog, standing_domain, standing_endpoint, standing_group, standing_project, standing_region,
+    standing_role, standing_service, standing_user,
 };
 use crate::puts::dropped;
 use crate::{Halt, Plan};
@@ -29,6 +30,9 @@ fn row_at(tables: &Tables, kind: Kind, id: &Id) -> Result<Row, Halt>
         Kind::Member => Err(Halt::Refused(Cause::Absent(Kind::Member, *id))),
         Kind::Trust => Err(Halt::Refused(Cause::Absent(Kind::Trust, *id))),
         Kind::Event => Err(Halt::Refused(Cause::Absent(Kind::Event, *id))),
+        Kind::Region => Ok(Row::Region(standing_region(tables, id)?.copy()?)),
+        Kind::Service => Ok(Row::Service(standing_service(tables, id)?.copy()?)),
+        Kind::Endpoint => Ok(Row::Endpoint(standing_endpoint(tables, id)?.copy()?)),
     }
 }
 
@@ -71,5 +75,17 @@ pub fn delete(tables: &Tables, kind: Kind, id: &Id) -> Result<Plan, Halt>
         Kind::Member => Err(Halt::Refused(Cause::Absent(Kind::Member, *id))),
         Kind::Trust => Err(Halt::Refused(Cause::Absent(Kind::Trust, *id))),
         Kind::Event => Err(Halt::Refused(Cause::Absent(Kind::Event, *id))),
+        Kind::Region => {
+            catalog(tables.catalog.may_drop_region(id))?;
+            drops(Change::DropRegion(*id))
+        }
+        Kind::Service => {
+            let _service = standing_service(tables, id)?;
+            drops(Change::DropService(*id))
+        }
+        Kind::Endpoint => {
+            let _endpoint = standing_endpoint(tables, id)?;
+            drops(Change::DropEndpoint(*id))
+        }
     }
 }

@@ -8,6 +8,8 @@ ghost use Rattle.ks_plan.specs.Plans.{valid_of};
 ghost use Rattle.ks_rule.specs.Kinds.{value_in};
 
 use crate::Caller;
+use crate::catalog_kinds::catalog_kind;
+use crate::catalog_targets::{put_catalog_body, put_endpoint, put_region, put_service};
 use crate::fields::Fields;
 use crate::filters::value_in;
 use crate::seen::Seen;
@@ -51,6 +53,16 @@ fn put_target_of(
         Command::GroupsOf(id) => put_path(fields, tables, Kind::User, id),
         Command::MembersOf(id) => put_object(fields, tables, Kind::Group, id),
         Command::Implied(id) => put_object(fields, tables, Kind::Role, id),
+        Command::CreateCatalog(asked) => put_catalog_body(fields, asked),
+        Command::ListCatalog(of, filter) => {
+            put_filter(fields, names_of(catalog_kind(*of)), &filter.fields)
+        }
+        Command::GetCatalog(of, id) | Command::DeleteCatalog(of, id) => {
+            put_object(fields, tables, catalog_kind(*of), id)
+        }
+        Command::UpdateCatalog(id, asked) => {
+            put_object(fields, tables, catalog_kind(asked.of), id)
+        }
         Command::Join(row) | Command::IsIn(row) | Command::Leave(row) => put_member(fields, row),
         Command::Imply(row)
         | Command::Implication(row)
@@ -71,7 +83,8 @@ fn put_target_of(
         | Command::Assignments(_)
         | Command::Events
         | Command::RotateKeys
-        | Command::LoadKeys => Ok(()),
+        | Command::LoadKeys
+        | Command::ShowCatalog => Ok(()),
     }
 }
 
@@ -157,6 +170,9 @@ fn names_of(kind: Kind) -> &'static [&'static str]
         Kind::Group => &["name", "domain_id"],
         Kind::Role => &["name"],
         Kind::Implication | Kind::Grant | Kind::Member | Kind::Trust | Kind::Event => &[],
+        Kind::Region => &["parent_region_id"],
+        Kind::Service => &["type", "name"],
+        Kind::Endpoint => &["service_id", "region_id", "interface"],
     }
 }
 
@@ -203,6 +219,9 @@ fn put_object(fields: &mut Fields, tables: &Tables, kind: Kind, id: &Id) -> Resu
         Kind::Group => put_group(fields, tables, id),
         Kind::Role => put_role(fields, tables, id),
         Kind::Implication | Kind::Grant | Kind::Member | Kind::Trust | Kind::Event => Ok(()),
+        Kind::Region => put_region(fields, tables, id),
+        Kind::Service => put_service(fields, tables, id),
+        Kind::Endpoint => put_endpoint(fields, tables, id),
     }
 }
 

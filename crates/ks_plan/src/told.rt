@@ -3,13 +3,14 @@ ghost use Rattle.std.specs.Prelude.{◌≡◌, IfOk, IsSome, option_map, if◌th
 ghost use Rattle.std.specs.Option.{option_and_then};
 ghost use Rattle.ks_auth.specs.Answers.{rows_told};
 ghost use Rattle.ks_base.specs.Rows.{project_of, trust_of, user_of};
-ghost use Rattle.ks_machine.specs.Login.{told_token, trust_use};
+ghost use Rattle.ks_machine.specs.Login.{catalog_with, told_token, trust_use};
 ghost use Rattle.ks_machine.specs.Scopes.{homed_project, titled_domain, titled_roles};
 ghost use Rattle.ks_machine.specs.Validity.{is_scoped};
 
 use crate::names::{homed_project, homed_user, titled_domain, titled_roles};
 use ks_auth::{Tables, is_system};
 use ks_base::{Id, IdList, Memory, Text};
+use ks_catalog::ServiceOutList;
 use ks_machine::{Homed, Titled, TitledList, TokenOut, TrustUse};
 use ks_payload::Payload;
 use std::alloc::Global;
@@ -45,6 +46,7 @@ pub fn told_token(
         trust: trust_told(tables, &payload.trust),
         roles: roles_told(alloc, tables, payload, roles)?,
         system: is_system(payload),
+        catalog: catalog_told(tables, payload)?,
     })
 }
 
@@ -104,9 +106,27 @@ fn roles_told(
 ) -> Result<Option<TitledList>, Memory>
     ensures { IfOk result (λ told. told ≡ (if is_scoped payload.now then Some (titled_roles (rows_told tables.now) roles.now) else None)) }
 {
-    if payload.domain.is_some() || payload.project.is_some() || is_system(payload) {
+    if is_scoped(payload) {
         Ok(Some(titled_roles(alloc, tables, roles.as_slice())?))
     } else {
         Ok(None)
     }
+}
+
+/// The services of its scope, where the token has one.
+pub fn catalog_told(tables: &Tables, payload: &Payload) -> Result<Option<ServiceOutList>, Memory>
+    ensures { IfOk result (λ told. told ≡ catalog_with (rows_told tables.now) payload.now) }
+{
+    if is_scoped(payload) {
+        Ok(Some(tables.catalog.listed(payload.project.as_ref())?))
+    } else {
+        Ok(None)
+    }
+}
+
+/// Whether the token has a scope.
+fn is_scoped(payload: &Payload) -> bool
+    ensures { result ≡ is_scoped payload.now }
+{
+    payload.domain.is_some() || payload.project.is_some() || is_system(payload)
 }

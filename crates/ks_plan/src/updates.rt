@@ -20,7 +20,7 @@ use ks_machine::{BodyOut, Cause, Change, Made, Row};
 use std::alloc::Global;
 
 /// The text that is given, or else what stands.
-fn text_or(given: &Option<Text>, standing: &Text) -> Result<Text, Memory>
+pub fn text_or(given: &Option<Text>, standing: &Text) -> Result<Text, Memory>
     ensures { IfOk result (λ text. text ≡ unwrap_or given.now standing.now) }
 {
     match given {
@@ -30,7 +30,7 @@ fn text_or(given: &Option<Text>, standing: &Text) -> Result<Text, Memory>
 }
 
 /// Goes on where the field is absent, or says what stands.
-fn unchanged(alloc: Global, field: &str, given: &Option<Id>, standing: &Id) -> Result<(), Halt>
+pub fn unchanged(alloc: Global, field: &str, given: &Option<Id>, standing: &Id) -> Result<(), Halt>
     ensures { Passes result (unchanged field.now given.now standing.now) }
 {
     match given {

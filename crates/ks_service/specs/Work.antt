@@ -70,6 +70,12 @@ secrets_in (command.TrustRoles id) = no_secrets
 secrets_in command.Events = no_secrets
 secrets_in command.RotateKeys = no_secrets
 secrets_in command.LoadKeys = no_secrets
+secrets_in (command.CreateCatalog asked) = no_secrets
+secrets_in (command.ListCatalog kind filter) = no_secrets
+secrets_in (command.GetCatalog kind id) = no_secrets
+secrets_in (command.UpdateCatalog id asked) = no_secrets
+secrets_in (command.DeleteCatalog kind id) = no_secrets
+secrets_in command.ShowCatalog = no_secrets
 
 -- facts
 

@@ -3,6 +3,7 @@ use Rattle.std.proofs.Common.{◌≡◌, ℕ, ◌<◌, ◌^◌, true, not, ◌&&
 use Rattle.ks_base.specs.declared.events.Revoke.{Revoke}
 use Rattle.ks_base.specs.declared.grants.GrantRow.{GrantRow}
 use Rattle.ks_base.specs.declared.trusts.TrustRow.{TrustRow}
+use Rattle.ks_base.specs.Catalog.{CatalogState}
 use Rattle.ks_base.specs.People.{PeopleState, is_group_in, is_user_in}
 use Rattle.ks_base.specs.RoleLists.{RolesState}
 use Rattle.ks_base.specs.Rows.{Id, Rows}
@@ -57,13 +58,14 @@ abbrev pub grants_dropped : Id → TreeState → PeopleState → List GrantRow �
 grants_dropped domain tree people grants =
     filter (λ row. not (is_actor_gone (has_user domain people) (has_group domain people) row.actor) && not (is_target_gone (has_project domain tree) domain row.target)) grants
 
-pub domain_rows : (tree tree2 : TreeState) (people people2 : PeopleState) (roles : RolesState) (grants grants2 : List GrantRow) (trusts trusts2 : List TrustRow) (id : Id) →
+pub domain_rows : (tree tree2 : TreeState) (people people2 : PeopleState) (roles : RolesState) (grants grants2 : List GrantRow) (trusts trusts2 : List TrustRow)
+    (catalog : CatalogState) (id : Id) →
     tree2 ≡ without_domain id tree → people2 ≡ people_dropped id people → grants2 ≡ grants_dropped id tree people grants →
-    trusts2 ≡ trusts_after (rows_in tree people roles grants trusts) (change.DropDomain id) →
-    rows_in tree2 people2 roles grants2 trusts2 ≡ rows_after (rows_in tree people roles grants trusts) (change.DropDomain id)
+    trusts2 ≡ trusts_after (rows_in tree people roles grants trusts catalog) (change.DropDomain id) →
+    rows_in tree2 people2 roles grants2 trusts2 catalog ≡ rows_after (rows_in tree people roles grants trusts catalog) (change.DropDomain id)
 unfolding rows_after domain_dropped
-domain_rows tree tree2 people people2 roles grants grants2 trusts trusts2 id one two three four =
-    ap {A = TreeState} (λ t. rows_in t people2 roles grants2 trusts2) one
-    ∙ ap {A = PeopleState} (λ p. rows_in (without_domain id tree) p roles grants2 trusts2) two
-    ∙ ap {A = List GrantRow} (λ g. rows_in (without_domain id tree) (people_dropped id people) roles g trusts2) three
-    ∙ ap {A = List TrustRow} (λ t. rows_in (without_domain id tree) (people_dropped id people) roles (grants_dropped id tree people grants) t) four
+domain_rows tree tree2 people people2 roles grants grants2 trusts trusts2 catalog id one two three four =
+    ap {A = TreeState} (λ t. rows_in t people2 roles grants2 trusts2 catalog) one
+    ∙ ap {A = PeopleState} (λ p. rows_in (without_domain id tree) p roles grants2 trusts2 catalog) two
+    ∙ ap {A = List GrantRow} (λ g. rows_in (without_domain id tree) (people_dropped id people) roles g trusts2 catalog) three
+    ∙ ap {A = List TrustRow} (λ t. rows_in (without_domain id tree) (people_dropped id people) roles (grants_dropped id tree people grants) t catalog) four

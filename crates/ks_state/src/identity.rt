@@ -5,6 +5,7 @@ ghost use Rattle.ks_state.specs.Shown.{raised_to};
 use crate::log::Log;
 use ks_assign::Grants;
 use ks_base::{EventList, Memory};
+use ks_catalog::Catalog;
 use ks_machine::Settings;
 use ks_people::People;
 use ks_policy::Rules;
@@ -27,6 +28,7 @@ pub struct Identity {
     pub(crate) roles: Roles,
     pub(crate) grants: Grants,
     pub(crate) trusts: Trusts,
+    pub(crate) catalog: Catalog,
     pub(crate) log: Log,
 }
 
@@ -42,6 +44,7 @@ impl Drop for Identity {
             roles: _,
             grants: _,
             trusts: _,
+            catalog: _,
             log: _,
         } = self;
     }
@@ -64,7 +67,7 @@ impl Model for Identity {
         settings = i.settings;
         rules = i.rules;
         ring = i.ring;
-        rows = rows_in i.tree i.people i.roles i.grants i.trusts;
+        rows = rows_in i.tree i.people i.roles i.grants i.trusts i.catalog;
         events = i.log.revoked.events;
         high = i.log.revoked.high;
         made = i.log.made;

@@ -2,6 +2,7 @@
 //! that happened since it was opened.
 #![tactic(auto)]
 
+mod catalog_rows;
 mod decide;
 mod decides;
 mod decision;

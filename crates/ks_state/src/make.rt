@@ -35,6 +35,12 @@ impl Identity {
             Change::RevokeToken(audit) => self.revoke_token(audit, most),
             Change::Rotate(key) => self.rotate(key, most),
             Change::Load(keys) => self.load(keys, most),
+            Change::PutRegion(row) => self.put_region(row, most),
+            Change::PutService(row) => self.put_service(row, most),
+            Change::PutEndpoint(row) => self.put_endpoint(row, most),
+            Change::DropRegion(id) => self.drop_region(id, most),
+            Change::DropService(id) => self.drop_service(id, most),
+            Change::DropEndpoint(id) => self.drop_endpoint(id, most),
         }
     }
 }

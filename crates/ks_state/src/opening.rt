@@ -46,6 +46,7 @@ impl Identity {
             roles: opened.roles,
             grants: opened.grants,
             trusts: Trusts::new(alloc),
+            catalog: opened.catalog,
             log,
         }
     }

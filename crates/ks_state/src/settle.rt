@@ -90,6 +90,7 @@ impl Identity {
             roles: &self.roles,
             grants: &self.grants,
             trusts: &self.trusts,
+            catalog: &self.catalog,
             revoked: self.log.revoked(),
             ring: &self.ring,
             settings: &self.settings,

@@ -17,8 +17,8 @@ returns c =
     let gone = c.in_ok-rows.rows.domain in
     let same = c.in_ok-rows.ensures.domain in
     let what = change.DropDomain c.args.id in
-    let before = rows_in i.tree i.people i.roles i.grants i.trusts in
-    let left = rows_in c.drop_domain.new.self c.drop_people.new.people i.roles c.drop_grants.new.grants c.drop_all.new.self in
+    let before = rows_in i.tree i.people i.roles i.grants i.trusts i.catalog in
+    let left = rows_in c.drop_domain.new.self c.drop_people.new.people i.roles c.drop_grants.new.grants c.drop_all.new.self i.catalog in
     let things = c.as_slice-2.ensures ∙ c.in_ok-gone.ensures.things ∙ ap (λ (v : Shown). ended_by v.state.rows (change.DropDomain gone)) (sym c.self.view_is)
     ∙ ap (λ (d : Id). ended_by before (change.DropDomain d)) same in
     let trusts = c.drop_all.ensures ∙ ap (λ (v : Shown). without_trusts c.in_ok-gone.gone.ids v.state.rows.trusts) c.self.view_is ∙ c.in_ok-gone.ensures.left
@@ -28,6 +28,6 @@ returns c =
     let room = subst (λ (l : List Revoke). is_room c.args.most i.log.revoked.events (length l) ≡ true) (c.as_slice.ensures ∙ sym c.as_slice-2.ensures) c.in_ok-ready.ensures.free in
     subst (λ (v : Shown). HasRoom c.args.most v what × (parts i.settings i.rules i.ring left c.write.new.self ≡ changed what v)) c.self.view_is
     (made c.args.most i.settings i.rules i.ring before left i.log c.ready.new.self c.write.new.self c.as_slice-2.result.now what c.in_ok-ready.ensures.same c.write.ensures things
-    (domain_rows i.tree c.drop_domain.new.self i.people c.drop_people.new.people i.roles i.grants c.drop_grants.new.grants i.trusts c.drop_all.new.self c.args.id
+    (domain_rows i.tree c.drop_domain.new.self i.people c.drop_people.new.people i.roles i.grants c.drop_grants.new.grants i.trusts c.drop_all.new.self i.catalog c.args.id
     c.in-Ok.ensures.decides.1 people grants trusts)
     refl room c.in_ok-ready.ensures.place.1)
