@@ -1,7 +1,9 @@
 """A server that `ks serve` runs, and connections to it, for the scripts that try it and measure it."""
 
+import contextlib
 import json
 import os
+import random
 import re
 import socket
 import subprocess
@@ -33,10 +35,12 @@ def program_of(words):
 
 
 def free_port():
-    """A port at which nobody listens now."""
-    with socket.socket() as found:
-        found.bind((HOST, 0))
-        return found.getsockname()[1]
+    """A port at which nobody listens now, below those that the system gives to connections, which could take it meanwhile."""
+    for port in random.sample(range(10_000, 32_000), 100):
+        with socket.socket() as found, contextlib.suppress(OSError):
+            found.bind((HOST, port))
+            return port
+    raise Failure("no port is free")
 
 
 def without_modes(lines):
@@ -54,8 +58,8 @@ def run(program, *words):
 class Server:
     """A server over an opening file and a folder of keys, which words before it may start. It is ended where a `with` ends."""
 
-    def __init__(self, program, file, folder, workers, connections=0, before=()):
-        self.port, self.lines = free_port(), []
+    def __init__(self, program, file, folder, workers, connections=0, before=(), port=None):
+        self.port, self.lines = port or free_port(), []
         self.listening = f"ks: listening on {HOST}:{self.port} with {workers} worker{'' if workers == 1 else 's'}"
         words = [*before, program, "serve", file, folder, f"{HOST}:{self.port}", "--workers", str(workers)]
         words += ["--connections", str(connections)] if connections else []

@@ -81,11 +81,13 @@ def hangup(program):
 
 
 def refuses(port):
-    """Whether connections are refused here."""
+    """Whether connections are refused here. One that comes as the listening ends may be reset, which says nothing of the next."""
     try:
         socket.create_connection((HOST, port), 5).close()
     except ConnectionRefusedError:
         return True
+    except ConnectionResetError:
+        return False
     return False
 
 
