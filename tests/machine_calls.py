@@ -7,7 +7,7 @@ import random
 from machine_examples import K, STAGED, START, login_body, salts, trust_body
 from second_reading.ciphers import time_text
 from second_reading.machine import Machine
-from second_reading.words import KINDS
+from second_reading.words import CATALOG, KINDS
 
 POLICY = {
     "identity:list_projects": "role:reader or rule:admin_required or domain_id:%(domain_id)s",
@@ -23,6 +23,10 @@ POLICY = {
     "identity:add_user_to_group": "rule:admin_required or user_id:%(target.user.id)s",
     "identity:get_implied_role": "@",
     "identity:list_trusts": "@",
+    "identity:create_service": "rule:admin_required and not True:%(target.service.enabled)s",
+    "identity:update_endpoint": "rule:admin_required and True:%(target.endpoint.enabled)s",
+    "identity:list_services": "role:reader or compute:%(type)s or rule:admin_required",
+    "identity:delete_region": "rule:admin_required and not 'x0':%(target.region.id)s",
     "identity:get_trust": "trust_id:%(target.trust.trustor_user_id)s or rule:trust_party or rule:admin_required",
 }
 
@@ -33,7 +37,8 @@ def random_opening(rng, from_folder):
     opening = {
         "settings": {"rounds": rng.choice((1, 2)), "life": rng.choice((60, 3600)), "max_active_keys": rng.choice((2, 3, 5))},
         "domains": [{"id": each, "name": each.title(), "enabled": each == "default" or rng.random() < 0.9} for each in domains],
-        "projects": [], "users": [], "groups": [], "members": [], "roles": [], "implications": [], "assignments": [],
+        "projects": [], "users": [], "groups": [], "members": [], "roles": [], "implications": [], "regions": [], "services": [],
+        "endpoints": [], "assignments": [],
         "keys": "folder" if from_folder else [STAGED, K],
     }
     for number in range(6):
@@ -52,6 +57,8 @@ def random_opening(rng, from_folder):
     top = next((row["id"] for row in opening["projects"] if row["domain_id"] == "default"), None)
     opening["assignments"] = [{"user": "root", "domain": "default", "role": "r0"}]
     opening["assignments"] += [{"user": "root", "project": top, "role": "r0"}] if top else []
+    opening["assignments"] += [{"user": "root", "system": True, "role": "r0"}] if rng.random() < 0.5 else []
+    add_catalog(rng, opening)
     for _ in range(12):
         grant = dict([rng.choice((("user", f"u{rng.randrange(6)}"), ("group", f"g{rng.randrange(3)}")))])
         grant.update([rng.choice((("project", f"p{rng.randrange(6)}"), ("domain", rng.choice(domains))))])
@@ -60,12 +67,29 @@ def random_opening(rng, from_folder):
     return opening
 
 
+URLS = ("http://c", "http://c/$(project_id)s", "%(tenant_id)s/%(project_id)s", "http://c/$(user_id)s?100%", "$$(tenant_id)s")
+
+
+def add_catalog(rng, opening):
+    """A few regions, services and endpoints of an opening file."""
+    regions = [f"x{number}" for number in range(rng.randrange(4))]
+    opening["regions"] = [{"id": each, "parent_region_id": rng.choice((None, *regions[:number]))}
+                          for number, each in enumerate(regions)]
+    opening["services"] = [{"id": f"s{number}", "type": rng.choice(("compute", "image")), "name": f"t{number}",
+                            "enabled": rng.random() < 0.8} for number in range(rng.randrange(1, 4))]
+    for number in range(rng.randrange(6)):
+        opening["endpoints"].append({
+            "id": f"e{number}", "service_id": rng.choice(opening["services"])["id"], "url": rng.choice(URLS),
+            "interface": rng.choice(("public", "internal", "admin")), "region_id": rng.choice((None, *regions)),
+            "enabled": rng.random() < 0.8})
+
+
 class Caller:
     """Makes requests out of what it has seen of the replies."""
 
     def __init__(self, rng, opening, rotations):
         self.rng, self.rotations = rng, rotations
-        self.ids = {kind: [row["id"] for row in opening[kind + "s"]] for kind in KINDS}
+        self.ids = {kind: [row["id"] for row in opening[kind + "s"]] for kind in KINDS + CATALOG}
         self.ids["trust"] = []
         self.passwords = {row["id"]: row["password"] for row in opening["users"]}
         self.names = {kind: [row["name"] for row in opening[kind + "s"]] for kind in KINDS}
@@ -90,7 +114,7 @@ class Caller:
         if not self.admins or self.rng.random() < 0.1:
             return ("POST", "/v3/auth/tokens", None, None, login_body("root", "root", scope={"domain": {"id": "default"}}))
         kinds = ((self.login, 8), (self.about_token, 8), (self.about_row, 10), (self.about_member, 4), (self.about_role, 3),
-                 (self.about_grant, 8), (self.listing, 6), (self.about_trust, 8), (self.other, 2))
+                 (self.about_grant, 8), (self.listing, 6), (self.about_trust, 8), (self.about_catalog, 8), (self.other, 2))
         make = self.rng.choices([kind for kind, _ in kinds], [weight for _, weight in kinds])[0]
         self.auth = self.token() if self.rng.random() < 0.98 else None
         method, target, subject, body = make(now)
@@ -189,6 +213,37 @@ class Caller:
                       if rng.random() < (0.1 if name in ("domain_id", "parent_id") else 0.7)}
         body = self.damaged({kind: fields}) if fields is not None else None
         return method, f"/v3/{kind}s" + ("" if method == "POST" else "/" + each), None, body
+
+    def catalog_body(self, kind, is_new):
+        """The fields of a row of the catalog; a change gives some, now and then one that can't be changed."""
+        rng = self.rng
+        self.made += 1
+        texts = {"name": rng.choice(("", "nova", f"t{self.made}")), "description": 'A "text" with \u00e9, \u2028 and \t.'}
+        fields = {"region": {"id": rng.choice((f"x{self.made}", self.pick("region"))), "parent_region_id": self.pick("region"),
+                             "description": texts["description"]},
+                  "service": {"type": rng.choice(("compute", "image", "")), **texts, "enabled": rng.random() < 0.7},
+                  "endpoint": {"service_id": self.pick("service"), "interface": rng.choice(("public", "internal", "admin")),
+                               "url": rng.choice(URLS), rng.choice(("region", "region_id")): self.pick("region"),
+                               "enabled": rng.random() < 0.7}}[kind]
+        needed = {"region": (), "service": ("type",), "endpoint": ("service_id", "interface", "url")}[kind]
+        likely = {"id": 0.7, "parent_region_id": 0.4} if is_new else {"id": 0.05, "parent_region_id": 0.1, "service_id": 0.1}
+        return {name: value for name, value in fields.items()
+                if is_new and name in needed or rng.random() < likely.get(name, 0.4)}
+
+    def about_catalog(self, _):
+        """A region, a service or an endpoint, made, told, listed, changed or dropped; or the caller's own catalog."""
+        rng, kind = self.rng, self.rng.choice(CATALOG + ("own",))
+        if kind == "own":
+            return "GET", "/v3/auth/catalog", None, None
+        method = rng.choice(("POST", "POST", "GET", "list", "PATCH", "PATCH", "DELETE"))
+        if method == "list":
+            given = {"parent_region_id": self.pick("region"), "type": rng.choice(("compute", "image")), "name": "nova",
+                     "service_id": self.pick("service"), "region_id": self.pick("region"), "interface": "public", "other": "x"}
+            names = rng.sample(sorted(given), rng.randrange(4))
+            return "GET", f"/v3/{kind}s?" + "&".join(f"{name}={given[name]}" for name in names), None, None
+        fields = self.catalog_body(kind, method == "POST") if method in ("POST", "PATCH") else None
+        body = self.damaged({kind: fields}) if fields is not None else None
+        return method, f"/v3/{kind}s" + ("" if method == "POST" else "/" + self.pick(kind)), None, body
 
     def about_member(self, _):
         """A membership, or a listing of such."""
@@ -304,7 +359,7 @@ class Caller:
         body = json.loads(data) if data else {}
         if status == 201 and "token" in body:
             self.learn_token(dict(fields)["X-Subject-Token"], body["token"])
-        for kind in KINDS + ("trust",):
+        for kind in KINDS + CATALOG + ("trust",):
             if status == 201 and isinstance(body.get(kind), dict):
                 self.ids[kind].append(body[kind]["id"])
                 self.names.get(kind, []).append(body[kind].get("name"))

@@ -2,7 +2,9 @@
 
 import copy
 import json
+import os
 
+from second_reading.catalog import filled_url
 from second_reading.ciphers import cbc, cipher_block, envelope_of, key_of, moment_of, opened, plain_cbc, seal, time_text
 from second_reading.machine import Machine
 from second_reading.policy import Policy
@@ -453,6 +455,90 @@ def routes_answer():
     assert desk.ask("PUT", "/v3/auth/tokens") == 405 and desk.fields["Allow"] == "GET, HEAD, POST, DELETE"
 
 
+def a_catalog_goes_with_tokens():
+    """A service with an endpoint: in a token of a project, of a domain and of none, and after the service is disabled."""
+    opening = copy.deepcopy(OPENING)
+    opening["assignments"] += [{"domain": "default", "role": MEMBER, "user": ANN}, {"role": MEMBER, "system": True, "user": ANN}]
+    desk = Desk(opening)
+    ann = desk.on_demo(ANN, "secret")
+    assert desk.ask("POST", "/v3/services", ann, {"service": {"type": "compute", "name": "nova"}}) == 201
+    service = desk.told()["service"]["id"]
+    body = {"endpoint": {"service_id": service, "interface": "public", "url": "http://c:8774/$(project_id)s", "enabled": True}}
+    assert desk.ask("POST", "/v3/endpoints", ann, body) == 201
+    assert desk.told()["endpoint"]["url"] == "http://c:8774/$(project_id)s" and desk.told()["endpoint"]["region"] is None
+    endpoint = desk.told()["endpoint"]["id"]
+    assert desk.ask("POST", "/v3/auth/tokens", body=LOGIN, draw=DRAW) == 201
+    of_demo = (b'[{"endpoints":[{"id":"%s","interface":"public","region":null,"region_id":null,'
+               b'"url":"http://c:8774/a0000000000000000000000000000001"}],"id":"%s","name":"nova","type":"compute"}]'
+               % (endpoint.encode(), service.encode()))
+    assert desk.body == TOKEN_BODY.replace(b'"catalog":[]', b'"catalog":' + of_demo)
+    assert desk.ask("GET", "/v3/auth/catalog", ann) == 200
+    links = b'{"next":null,"previous":null,"self":"http://127.0.0.1:5000/v3/auth/catalog"}'
+    assert desk.body == b'{"catalog":' + of_demo + b',"links":' + links + b"}"
+    bare = [{"endpoints": [], "id": service, "name": "nova", "type": "compute"}]
+    for scope in ({"domain": {"id": "default"}}, {"system": {"all": True}}):
+        token = desk.log_in(ANN, "secret", scope=scope)
+        assert desk.told()["token"]["catalog"] == bare
+        assert desk.ask("GET", "/v3/auth/catalog", token) == 200 and desk.told()["catalog"] == bare
+    unscoped = desk.log_in(ANN, "secret")
+    assert "catalog" not in desk.told()["token"]
+    assert desk.ask("GET", "/v3/auth/catalog", unscoped) == 200 and desk.told()["catalog"] == []
+    assert desk.ask("GET", "/v3/auth/catalog") == 401
+    assert desk.ask("PATCH", "/v3/services/" + service, ann, {"service": {"enabled": False}}) == 200
+    for token in (ann, token):
+        assert desk.ask("GET", "/v3/auth/tokens", ann, subject=token) == 200 and desk.told()["token"]["catalog"] == []
+
+
+def regions_hold_what_lies_in_them():
+    """A region with a region or an endpoint in it stays; a service takes its endpoints with it."""
+    desk = Desk()
+    ann = desk.on_demo(ANN, "secret")
+    assert desk.ask("POST", "/v3/regions", ann, {"region": {"id": "RegionOne", "enabled": True}}) == 201
+    assert desk.told()["region"] == {"id": "RegionOne", "description": "", "parent_region_id": None,
+                                     "links": {"self": "http://127.0.0.1:5000/v3/regions/RegionOne"}}
+    assert desk.ask("POST", "/v3/regions", ann, {"region": {"id": "RegionOne"}}) == 409
+    assert desk.message() == "The name is taken by RegionOne."
+    assert desk.ask("POST", "/v3/regions", ann, {"region": {"id": "b", "parent_region_id": "RegionOne"}}) == 201
+    assert desk.ask("PATCH", "/v3/regions/RegionOne", ann, {"region": {"parent_region_id": "b"}}) == 403
+    assert desk.message() == "parent_region_id cannot be changed."
+    assert desk.ask("DELETE", "/v3/regions/RegionOne", ann) == 403 and desk.message() == "Refused: HasChildren."
+    assert desk.ask("DELETE", "/v3/regions/b", ann) == 204
+    assert desk.ask("POST", "/v3/services", ann, {"service": {"type": "image"}}) == 201
+    service, made = desk.told()["service"]["id"], desk.machine.made
+    body = {"endpoint": {"service_id": service, "interface": "admin", "url": "http://i", "region": "RegionOne"}}
+    assert desk.ask("POST", "/v3/endpoints", ann, body) == 201 and desk.told()["endpoint"]["region_id"] == "RegionOne"
+    assert desk.ask("GET", "/v3/endpoints?region_id=RegionOne&interface=admin", ann) == 200 and len(desk.told()["endpoints"]) == 1
+    assert desk.ask("GET", "/v3/endpoints?interface=public", ann) == 200 and desk.told()["endpoints"] == []
+    assert desk.ask("DELETE", "/v3/regions/RegionOne", ann) == 403 and desk.message() == "Refused: HasChildren."
+    assert desk.ask("DELETE", "/v3/services/" + service, ann) == 204 and desk.machine.rows["endpoint"] == []
+    assert desk.ask("DELETE", "/v3/regions/RegionOne", ann) == 204
+    assert desk.machine.events == [] and desk.machine.made == made + 3
+    for url, project, wanted in (("$$(project_id)s%(tenant_id)s", "p", "$pp"), ("%(project_id)", None, "%(project_id)"),
+                                 ("100%/$x/$(user_id)s", "p", "100%/$x/$(user_id)s"), ("a$(tenant_id)s", None, None)):
+        assert filled_url(url, project) == wanted
+
+
+def the_example_of_a_cloud_opens():
+    """Its callers have their roles, and in a project the catalog has the project's URLs."""
+    with open(os.path.join(os.path.dirname(__file__), "..", "examples", "cloud.json"), encoding="utf-8") as file:
+        opening = json.load(file)
+    desk = Desk(opening, {0: STAGED.encode(), 1: K.encode()})
+    ids = {row["name"]: row["id"] for row in opening["users"] + opening["projects"] if row["name"] not in ("admin", "demo")}
+    admin, demo = opening["users"][0]["id"], opening["users"][1]["id"]
+    for user, password, scope, roles in (
+            (admin, "secret", {"project": {"name": "admin", "domain": {"id": "default"}}}, ["admin", "member", "reader"]),
+            (admin, "secret", {"system": {"all": True}}, ["admin", "member", "reader"]),
+            (demo, "demo", {"project": {"name": "demo", "domain": {"id": "default"}}}, ["member", "reader"]),
+            (ids["nova"], "nova", {"project": {"id": ids["service"]}}, ["service"])):
+        desk.log_in(user, password, scope=scope)
+        token = desk.told()["token"]
+        assert [role["name"] for role in token["roles"]] == roles
+        urls = {service["type"]: [each["url"] for each in service["endpoints"]] for service in token["catalog"]}
+        assert urls["identity"] == ["http://127.0.0.1:5000/v3"] * 3 and sorted(urls) == ["compute", "identity", "image"]
+        project = token.get("project", {"id": None})["id"]
+        assert urls["compute"] == ([f"http://127.0.0.1:8774/v2.1/{project}"] if project else [])
+
+
 def openings_are_refused():
     """The first fault of an opening file."""
     for text, told in (("[]", ("Shape", "Kind", "")), ("{", ("Shape", "NotJson")),
@@ -460,7 +546,9 @@ def openings_are_refused():
                        ('{"users":[{"id":"a"}]}', ("Shape", "Missing", "users[0].domain_id")),
                        ('{"keys":["x"],"policy":[]}', ("Policy", "NotObject")), ('{"keys":["x"]}', ("BadKey", "keys[0]")),
                        ('{"assignments":[{"role":"r"}]}', ("Shape", "Missing", "assignments[0].user")),
-                       ('{"keys":[]}', ("Shape", "Range", "keys"))):
+                       ('{"keys":[]}', ("Shape", "Range", "keys")),
+                       ('{"assignments":[{"user":"u","domain":"d","system":true}]}', ("Shape", "Range", "assignments[0].system")),
+                       ('{"keys":["%s"],"regions":[{"id":"a","parent_region_id":"b"},{"id":"b"}]}' % K, ("Absent", "region", "b"))):
         try:
             Machine(text, salts(), {})
             raise AssertionError(text)
@@ -472,4 +560,5 @@ EXAMPLES = (ciphers_agree, times_agree, a_login_is_told, wrong_logins_are_refuse
             a_password_change_ends_tokens, a_trust_has_its_uses, trusts_are_redelegated, revocations_are_kept,
             expired_tokens_have_a_window, the_system_is_a_scope, rows_are_refused, tables_fill_up, ids_are_drawn,
             disabled_rows_end_tokens, a_domain_takes_all_with_it, keys_change, random_bytes_fail,
-            rules_hold, routes_answer, openings_are_refused)
+            rules_hold, routes_answer, a_catalog_goes_with_tokens, regions_hold_what_lies_in_them,
+            the_example_of_a_cloud_opens, openings_are_refused)

@@ -14,6 +14,7 @@ import json
 import math
 import os
 import random
+import re
 import subprocess
 import sys
 import tempfile
@@ -23,7 +24,7 @@ sys.dont_write_bytecode = True
 from machine_calls import Caller, parts_of, random_opening, sequences
 from machine_examples import EXAMPLES, K, STAGED, salts
 from second_reading.machine import Machine, wire
-from second_reading.words import KINDS
+from second_reading.words import CATALOG, KINDS
 
 TOP = os.path.dirname(os.path.dirname(os.path.abspath(__file__)))
 KS = os.environ.get("KS") or os.path.join(TOP, "bin", "ks")
@@ -82,8 +83,9 @@ def drawn_in(head, body):
     if not head.startswith(b"HTTP/1.1 201 "):
         return bytes(draw)
     told = json.loads(body)
-    for kind in KINDS + ("trust",):
-        if isinstance(told.get(kind), dict):
+    for kind in KINDS + CATALOG + ("trust",):
+        # The id of a region may have been given.
+        if isinstance(told.get(kind), dict) and re.fullmatch("[0-9a-f]{32}", told[kind]["id"]):
             draw[:16] = bytes.fromhex(told[kind]["id"])
     if "token" in told:
         text = head.split(b"X-Subject-Token: ")[1].split(b"\r\n")[0].decode()

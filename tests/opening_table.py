@@ -4,7 +4,8 @@
     tests/opening_table.py
 
 The tables are `opening_lines`, `command_words` and `no_texts` in crates/ks_run_cases/data, whose README.txt says what they hold.
-Beside these, each list of an opening file is given one row more than may stand, and the system gives no random bytes. The program is
+Beside these, each list of an opening file is given one row more than may stand, the shorter ones also as many as may stand, and
+the system gives no random bytes. The program is
 bin/ks of this repository; the environment's KS names another. The exit status is 1 where it ends or answers otherwise.
 """
 
@@ -89,23 +90,30 @@ def full_files():
     yield "members", 262144, {"users": users, "groups": groups, "members": pairs("group", 512, "user", 513, 262145)}
     yield "roles", 1024, {"roles": numbered(1025, "id", "name")}
     yield "implications", 8192, {"roles": roles, "implications": pairs("prior", 91, "implied", 91, 8193)}
+    yield "regions", 256, {"regions": numbered(257, "id")}
+    yield "services", 1024, {"services": numbered(1025, "id", type="compute")}
+    endpoints = numbered(8193, "id", service_id="n00000", interface="public", url="http://n")
+    yield "endpoints", 8192, {"services": numbered(1, "id", type="compute"), "endpoints": endpoints}
     assignments = pairs("user", 512, "role", 513, 262145, domain="default")
     yield "assignments", 262144, {"users": users, "roles": roles, "assignments": assignments}
 
 
 def try_openings(work):
-    """The opening files of the table; how many there are."""
+    """The opening files of the table, and the example that takes its keys from the folder; how many there are."""
     cases = table("opening_lines")
     for content, line in cases:
         try_opening(work, expanded(content, NAMES), line.decode())
-    return len(cases)
+    with open(os.path.join(TOP, "examples", "cloud.json"), "rb") as file:
+        try_opening(work, file.read(), "")
+    return len(cases) + 1
 
 
 def try_full(work):
-    """Opening files with a row, and with a rule, more than may stand; how many there are."""
-    full = list(full_files())
-    for name, limit, file in full:
-        try_opening(work, json.dumps(file, separators=(",", ":")).encode(), f"{name}: more than {limit} {name}")
+    """Opening files with a row, and with a rule, more than may stand, and with as many rows as may; how many there are."""
+    full = [(file, f"{name}: more than {limit} {name}") for name, limit, file in full_files()]
+    full += [({**file, name: file[name][:limit]}, "") for name, limit, file in full_files() if limit <= 8192]
+    for file, line in full:
+        try_opening(work, json.dumps(file, separators=(",", ":")).encode(), line)
     rules = json.dumps({"policy": {f"n{number}": "@" for number in range(1025)}}).encode()
     try_opening(work, rules, "policy: more than 1024 rules, the default ones among them")
     return len(full) + 1

@@ -1,14 +1,15 @@
 """The commands: what each tells of the state, and the change that it makes."""
 
-from second_reading.words import LAST_INDEX, LEVELS, LIMITS, REDELEGATIONS, Refusal
+from second_reading.words import CATALOG, LAST_INDEX, LEVELS, LIMITS, REDELEGATIONS, Refusal
+from second_reading.catalog import Catalog
 from second_reading.ciphers import bare_text, seal, spelling, time_text
 from second_reading.forms import range_unless
 from second_reading.opening import derived, folder_keys
 from second_reading.routes import GRANT_ACTIONS
-from second_reading.state import Invalid, Outcome, State, Token, made_id
+from second_reading.state import Invalid, Outcome, Token, made_id
 
 
-class Commands(State):
+class Commands(Catalog):
     """Each command is a method, named `do_` and the command's name."""
 
     # What is told of rows and tokens (Identity API v3).
@@ -27,6 +28,8 @@ class Commands(State):
 
     def object_of(self, kind, row):
         """What is told of a row."""
+        if kind in CATALOG:
+            return self.object_of_catalog(kind, row)
         told = {"id": row["id"], "name": row["name"], "links": self.self_link(kind + "s", row["id"])}
         if kind in ("project", "user", "group"):
             told["domain_id"] = row["domain"]
@@ -65,7 +68,7 @@ class Commands(State):
                 "methods": [name for bit, name in enumerate(names) if payload["methods"] >> bit & 1],
                 "user": {**self.homed("user", payload["user"]), "password_expires_at": None}}
         if payload["kind"] != 0:
-            told.update(catalog=[], roles=[self.titled("role", role) for role in token.roles])
+            told.update(catalog=self.catalog_of(payload["project"]), roles=[self.titled("role", role) for role in token.roles])
         return {"token": {**told, **self.scope_told(payload)}}
 
     def scope_told(self, payload):
@@ -136,7 +139,7 @@ class Commands(State):
 
     def body_target(self, call):
         """The keys of a new row, as far as the body gives them."""
-        return self.keys_of_fields(call.about, call.body)
+        return self.keys_of_fields(call.about, {name: value for name, value in call.body.items() if name != "id"})
 
     def grant_target(self, call):
         """The ids of a grant's path, whatever stands."""
@@ -291,6 +294,8 @@ class Commands(State):
     def do_create(self, call):
         """A new row."""
         kind, body = call.about, call.body
+        if kind in CATALOG:
+            return self.create_in_catalog(call)
         row = {"id": made_id(call.draw[:16]), "name": body["name"]}
         if kind in ("project", "user", "group"):
             row["domain"] = self.domain_for(call)
@@ -338,9 +343,9 @@ class Commands(State):
         """A change of a row."""
         kind, body = call.about, call.body
         row = self.standing(kind, call.ids[0])
-        for field, name in (("id", "id"), ("domain_id", "domain"), ("parent_id", "parent")):
-            if field in body and body[field] != row[name]:
-                raise Refusal("Immutable", field)
+        if kind in CATALOG:
+            return self.update_in_catalog(call, row)
+        self.require_unchanged(body, row, (("id", "id"), ("domain_id", "domain"), ("parent_id", "parent")))
         new = {**row, **{name: body[name] for name in ("name", "description", "enabled") if name in body}}
         if kind == "project":
             self.require_switch(row, new)
@@ -348,6 +353,12 @@ class Commands(State):
         if "password" in body:
             new["password"] = self.fresh(call, body["password"])
         return Outcome(200, {kind: self.object_of(kind, new)}, ("put", kind, new))
+
+    def require_unchanged(self, body, row, fields):
+        """Of these fields, each with its name in a row, the body gives none another value."""
+        for field, name in fields:
+            if field in body and body[field] != row[name]:
+                raise Refusal("Immutable", field)
 
     def require_switch(self, row, new):
         """A project is disabled above no enabled one, and enabled below no disabled one."""
@@ -378,6 +389,7 @@ class Commands(State):
         row = self.standing(kind, each)
         self.refuse_if(kind == "domain" and row["enabled"], "DomainEnabled")
         self.refuse_if(kind == "project" and self.below(each), "HasChildren")
+        self.refuse_if(kind == "region" and self.holds_something(each), "HasChildren")
         return Outcome(204, None, ("drop", kind, each))
 
     # Memberships, implications and grants.

@@ -122,6 +122,8 @@ def text_of(low, high):
 NAME = text_of(1, 255)
 DESCRIPTION = text_of(0, 4096)
 PASSWORD = text_of(1, 4096)
+SERVICE_TEXT = text_of(0, 255)
+ENDPOINT_URL = text_of(1, 2048)
 
 
 def id_text(path, value):
@@ -146,6 +148,13 @@ def only(wanted):
         return value
 
     return reader
+
+
+def interface(path, value):
+    """One of the three interfaces of a service."""
+    any_text(path, value)
+    range_unless(value in ("public", "internal", "admin"), path)
+    return value
 
 
 def whole(low, high):
@@ -237,7 +246,12 @@ MADE = {
     "user": (("name", NAME), ("domain_id", id_text), ("password", PASSWORD), ("enabled", truth)),
     "group": (("name", NAME), ("domain_id", id_text), ("description", DESCRIPTION)),
     "role": (("name", NAME), ("description", DESCRIPTION)),
+    "region": (("id", id_text), ("description", DESCRIPTION), ("parent_region_id", id_text)),
+    "service": (("type", SERVICE_TEXT), ("name", SERVICE_TEXT), ("description", DESCRIPTION), ("enabled", truth)),
+    "endpoint": (("service_id", id_text), ("interface", interface), ("url", ENDPOINT_URL), ("region_id", id_text),
+                 ("enabled", truth)),
 }
+NEEDED = {"region": (), "service": ("type",), "endpoint": ("service_id", "interface", "url")}
 
 
 def made_form(body, kind, is_new):
@@ -245,8 +259,11 @@ def made_form(body, kind, is_new):
     place = at(body, kind)
     fields = {}
     for name, reader in MADE[kind]:
-        fields[name] = (needed if is_new and name == "name" else optional)(at(place, name), reader)
-    if not is_new:
+        is_needed = is_new and name in NEEDED.get(kind, ("name",))
+        fields[name] = (needed if is_needed else optional)(at(place, name), reader)
+        if name == "region_id" and fields[name] is None:
+            fields[name] = optional(at(place, "region"), id_text)
+    if not is_new and "id" not in fields:
         fields["id"] = optional(at(place, "id"), id_text)
     return {name: value for name, value in fields.items() if value is not None}
 

@@ -52,8 +52,9 @@ class Machine(Commands):
         self.high = max(self.high, min(reading, LAST_READING))
         self.require_outside(call)
         action = action_of(call.command, call.about)
-        if action is not None:
+        if action is not None or call.command == "show_catalog":
             self.require_tokens(call)
+        if action is not None:
             self.require_rule(call, "identity:" + action)
         outcome = getattr(self, "do_" + call.command)(call)
         if outcome.change is not None:

@@ -6,8 +6,8 @@ import re
 from second_reading.words import OpeningRefused
 from second_reading.ciphers import key_of
 from second_reading.forms import (
-    DESCRIPTION, MISSING, NAME, PASSWORD, a_list, an_object, any_text, at, id_text, kind_unless, needed, optional,
-    range_unless, truth, whole,
+    DESCRIPTION, ENDPOINT_URL, MISSING, NAME, PASSWORD, SERVICE_TEXT, a_list, an_object, any_text, at, id_text, interface,
+    kind_unless, needed, only, optional, range_unless, truth, whole,
 )
 
 
@@ -130,23 +130,47 @@ def role_in(place):
             "description": optional(at(place, "description"), DESCRIPTION, "")}
 
 
-def one_of(place, first, second):
-    """Exactly one of two members, as its name and the id; the first is needed where there is no second."""
-    given = optional(at(place, first), id_text)
-    path, other = at(place, second)
-    if given is not None:
-        range_unless(other is MISSING or other is None, path)
-        return first, given
-    if other is MISSING or other is None:
-        needed(at(place, first), id_text)
-    return second, id_text(path, other)
+def region_in(place):
+    """An entry of `regions`."""
+    return {"id": needed(at(place, "id"), id_text), "parent": optional(at(place, "parent_region_id"), id_text),
+            "description": optional(at(place, "description"), DESCRIPTION, "")}
+
+
+def service_in(place):
+    """An entry of `services`."""
+    return {"id": needed(at(place, "id"), id_text), "type": needed(at(place, "type"), SERVICE_TEXT),
+            "name": optional(at(place, "name"), SERVICE_TEXT, ""),
+            "description": optional(at(place, "description"), DESCRIPTION, ""),
+            "enabled": optional(at(place, "enabled"), truth, True)}
+
+
+def endpoint_in(place):
+    """An entry of `endpoints`."""
+    return {"id": needed(at(place, "id"), id_text), "service": needed(at(place, "service_id"), id_text),
+            "interface": needed(at(place, "interface"), interface), "url": needed(at(place, "url"), ENDPOINT_URL),
+            "region": optional(at(place, "region_id"), id_text), "enabled": optional(at(place, "enabled"), truth, True)}
+
+
+def one_of(place, *members):
+    """Exactly one of some members, as its name and what it says; the first is needed where there is none."""
+    readers = {"system": only(True)}
+    for number, name in enumerate(members):
+        given = optional(at(place, name), readers.get(name, id_text))
+        if given is not None:
+            for other in members[number + 1:]:
+                path, more = at(place, other)
+                range_unless(more is MISSING or more is None, path)
+            return name, given
+    return members[0], needed(at(place, members[0]), id_text)
 
 
 def grant_in(place):
-    """An entry of `assignments`."""
-    actor, target = one_of(place, "user", "group"), one_of(place, "project", "domain")
-    role = needed(at(place, "role"), id_text)
-    return (actor, target, optional(at(place, "inherited"), truth, False), role)
+    """An entry of `assignments`; what is granted on the system is inherited by nothing."""
+    actor, target = one_of(place, "user", "group"), one_of(place, "project", "domain", "system")
+    role, path = needed(at(place, "role"), id_text), at(place, "inherited")[0]
+    inherited = optional(at(place, "inherited"), truth, False)
+    range_unless(not inherited or target[0] != "system", path)
+    return (actor, ("system", "") if target[0] == "system" else target, inherited, role)
 
 
 def pair_in(first, second):
@@ -156,7 +180,7 @@ def pair_in(first, second):
 
 LISTS = (("domains", domain_in), ("projects", project_in), ("users", user_in), ("groups", group_in),
          ("members", pair_in("group", "user")), ("roles", role_in), ("implications", pair_in("prior", "implied")),
-         ("assignments", grant_in))
+         ("regions", region_in), ("services", service_in), ("endpoints", endpoint_in), ("assignments", grant_in))
 
 
 def written(root):

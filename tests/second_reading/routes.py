@@ -2,7 +2,7 @@
 
 import re
 
-from second_reading.words import KINDS, METHODS, Refusal
+from second_reading.words import CATALOG, KINDS, METHODS, Refusal
 from second_reading.ciphers import is_id
 from second_reading.forms import document, login_form, made_form, password_form, trust_form
 
@@ -28,7 +28,8 @@ def all_routes():
     yield "GET", "/v3/", "version", None
     for method, command in (("POST", "login"), ("GET", "validate"), ("HEAD", "check"), ("DELETE", "revoke_token")):
         yield method, "/v3/auth/tokens", command, None
-    for kind in KINDS:
+    yield "GET", "/v3/auth/catalog", "show_catalog", None
+    for kind in KINDS + CATALOG:
         yield "GET", f"/v3/{kind}s", "list", kind
         yield "POST", f"/v3/{kind}s", "create", kind
         for method, command in (("GET", "get"), ("PATCH", "update"), ("DELETE", "delete")):
@@ -55,19 +56,20 @@ def all_routes():
 
 ROUTES = list(all_routes())
 ACTIONS = {
-    "version": None, "login": None, "change_password": None, "validate": "validate_token", "check": "check_token",
-    "revoke_token": "revoke_token", "groups_of": "list_groups_for_user", "members_of": "list_users_in_group",
-    "join": "add_user_to_group", "is_in": "check_user_in_group", "leave": "remove_user_from_group",
-    "implied": "list_implied_roles", "imply": "create_implied_role", "implication": "get_implied_role",
-    "is_implied": "check_implied_role", "unimply": "delete_implied_role", "assignments": "list_role_assignments",
-    "create_trust": "create_trust", "list_trusts": "list_trusts", "get_trust": "get_trust", "delete_trust": "delete_trust",
-    "roles_of_trust": "list_roles_for_trust", "events": "list_revoke_events", "rotate_keys": "rotate_keys",
-    "load_keys": "load_keys",
+    "version": None, "login": None, "change_password": None, "show_catalog": None, "validate": "validate_token",
+    "check": "check_token", "revoke_token": "revoke_token", "groups_of": "list_groups_for_user",
+    "members_of": "list_users_in_group", "join": "add_user_to_group", "is_in": "check_user_in_group",
+    "leave": "remove_user_from_group", "implied": "list_implied_roles", "imply": "create_implied_role",
+    "implication": "get_implied_role", "is_implied": "check_implied_role", "unimply": "delete_implied_role",
+    "assignments": "list_role_assignments", "create_trust": "create_trust", "list_trusts": "list_trusts",
+    "get_trust": "get_trust", "delete_trust": "delete_trust", "roles_of_trust": "list_roles_for_trust",
+    "events": "list_revoke_events", "rotate_keys": "rotate_keys", "load_keys": "load_keys",
 }
 GRANT_ACTIONS = {"grants_of": ("list", "grants"), "grant": ("create", "grant"), "is_granted": ("check", "grant"),
                  "ungrant": ("revoke", "grant")}
 FILTERS = {"domain": ("name", "enabled"), "project": ("name", "domain_id", "parent_id", "enabled"),
-           "user": ("name", "domain_id", "enabled"), "group": ("name", "domain_id"), "role": ("name",)}
+           "user": ("name", "domain_id", "enabled"), "group": ("name", "domain_id"), "role": ("name",),
+           "region": ("parent_region_id",), "service": ("type", "name"), "endpoint": ("service_id", "region_id", "interface")}
 ASSIGNMENT_FILTERS = ("user.id", "group.id", "role.id", "scope.project.id", "scope.domain.id", "scope.system", "effective")
 TRUST_FILTERS = ("trustor_user_id", "trustee_user_id")
 DRAWING = ("login", "create", "change_password", "create_trust", "rotate_keys")

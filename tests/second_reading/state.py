@@ -2,7 +2,9 @@
 
 import json
 
-from second_reading.words import EVENT_GRACE, EXPIRED_WINDOW, KINDS, LEVELS, LIMITS, OpeningRefused, Refusal, SELF_REVOCATIONS
+from second_reading.words import (
+    CATALOG, EVENT_GRACE, EXPIRED_WINDOW, KINDS, LEVELS, LIMITS, OpeningRefused, Refusal, SELF_REVOCATIONS,
+)
 from second_reading.ciphers import envelope_of, key_of, opened, payload_of
 from second_reading.forms import MISSING, an_object, document
 from second_reading.policy import Policy
@@ -51,8 +53,8 @@ class State:
         keys = self.keys_held(folder) if self.folder_mode else None
         self.policy = Policy(rule_texts(policy))
         keys = keys or self.keys_listed(file["keys"])
-        self.rows = {"domain": file["domains"], "project": file["projects"], "user": file["users"], "group": file["groups"],
-                     "role": file["roles"], "trust": []}
+        self.rows = {kind: file[kind + "s"] for kind in KINDS + CATALOG}
+        self.rows["trust"] = []
         self.members, self.implications, self.grants = file["members"], file["implications"], file["assignments"]
         self.events, self.high, self.made = [], 0, 0
         self.derive_passwords(iter(salts))
@@ -114,7 +116,7 @@ class State:
 
     def repeated_ids(self):
         """An id is listed twice."""
-        for kind in KINDS:
+        for kind in KINDS + CATALOG:
             ids = [row["id"] for row in self.rows[kind]]
             yield from (("IdRepeated", kind, each) for place, each in enumerate(ids) if each in ids[:place])
 
@@ -137,9 +139,19 @@ class State:
                     yield ("Absent", "project", row["parent"])
         pairs = [(("group", group), ("user", user)) for group, user in self.members]
         pairs += [(("role", prior), ("role", implied)) for prior, implied in self.implications]
-        pairs += [(actor, target, ("role", role)) for actor, target, _, role in self.grants]
-        for named_ones in pairs:
-            yield from (("Absent", kind, each) for kind, each in named_ones if self.row(kind, each) is None)
+        yield from self.absent_among(pairs)
+        for place, row in enumerate(self.rows["region"]):
+            if row["parent"] is not None and row["parent"] not in [other["id"] for other in self.rows["region"][:place]]:
+                yield ("Absent", "region", row["parent"])
+        named_ones = [(("service", row["service"]), ("region", row["region"])) for row in self.rows["endpoint"]]
+        yield from self.absent_among(named_ones)
+        yield from self.absent_among([(actor, target, ("role", role)) for actor, target, _, role in self.grants])
+
+    def absent_among(self, lists):
+        """Of those that are named together the first that does not stand; no region need be named, and the system stands."""
+        for named_ones in lists:
+            yield from (("Absent", kind, each) for kind, each in named_ones
+                        if each is not None and kind != "system" and self.row(kind, each) is None)
 
     def deep_projects(self):
         """A project lies too deep."""
@@ -158,7 +170,8 @@ class State:
         """A table has more rows than it may."""
         tables = [(kind, self.rows[kind]) for kind in KINDS]
         tables[4:4] = [("member", set(self.members))]
-        tables += [("implication", set(self.implications)), ("grant", set(self.grants))]
+        tables += [("implication", set(self.implications))] + [(kind, self.rows[kind]) for kind in CATALOG]
+        tables += [("grant", set(self.grants))]
         return (("Full", kind) for kind, rows in tables if len(rows) > LIMITS[kind])
 
     # Rows and trees.
@@ -433,7 +446,9 @@ class State:
         self.keep("trust", lambda row: row["id"] not in gone)
         dropped = {(kind, each)} | {("project", project) for project in projects}
         dropped |= {("user", user) for user in users} | {("group", group) for group in groups}
-        for other in KINDS:
+        if kind == "service":
+            dropped |= {("endpoint", row["id"]) for row in self.rows["endpoint"] if row["service"] == each}
+        for other in KINDS + CATALOG:
             self.keep(other, lambda row, other=other: (other, row["id"]) not in dropped)
         self.members = [row for row in self.members if row[0] not in groups and row[1] not in users]
         self.implications = [row for row in self.implications if role not in row]

@@ -1,7 +1,7 @@
 """The words of the identity server: limits, causes and their messages."""
 
 LIMITS = {"domain": 1024, "project": 65536, "user": 65536, "group": 16384, "member": 262144, "role": 1024, "implication": 8192,
-          "grant": 262144, "trust": 65536, "event": 262144}
+          "grant": 262144, "trust": 65536, "event": 262144, "region": 256, "service": 1024, "endpoint": 8192}
 SELF_REVOCATIONS = 131072
 LEVELS = 5
 REDELEGATIONS = 3
@@ -11,6 +11,7 @@ EXPIRED_WINDOW = 172800
 EVENT_GRACE = 174600
 LAST_INDEX = 999999999
 KINDS = ("domain", "project", "user", "group", "role")
+CATALOG = ("region", "service", "endpoint")
 METHODS = ("GET", "HEAD", "POST", "PATCH", "PUT", "DELETE")
 
 REASONS = {200: "OK", 201: "Created", 204: "No Content", 400: "Bad Request", 401: "Unauthorized", 403: "Forbidden",
