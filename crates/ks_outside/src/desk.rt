@@ -4,7 +4,7 @@ ghost use Rattle.ks_outside.specs.Streams.{Appends};
 ghost use Rattle.ks_outside.specs.Desks.{DeskState, Accepts, Fills, Makes, next_reading, later_readings};
 ghost use Rattle.ks_outside.specs.declared.desk_call.DeskCall.TheVariants as call;
 
-use crate::{Failed, Sink, Source};
+use crate::{Answered, Failed, Sink, Source};
 use ks_base::{Memory, Receipt};
 
 /// The outside of one worker: the links that it serves, the clock, random bytes, and where it notes its
@@ -62,4 +62,11 @@ pub trait Desk {
         ensures room { (desk self.old).receipt_room ≤ (desk self.new).receipt_room + 1 }
         ensures kept { desk self.new ≡ record (desk self.old) { receipts = (desk self.new).receipts; receipt_room = (desk self.new).receipt_room; calls = (desk self.new).calls } }
         ensures calls { Makes (call.Note ∷ []) (desk self.old).calls (desk self.new).calls };
+
+    /// Whether it is to be told of requests that were answered.
+    fn logs(&self) -> bool;
+
+    /// Is told of a request that was answered. That takes no part in any reply, and leaves all that the desk is for.
+    fn tell(&mut self, answered: &Answered)
+        ensures { desk self.new ≡ desk self.old };
 }

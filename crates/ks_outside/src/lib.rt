@@ -2,6 +2,7 @@
 //! contracts speak of it; a real one does not tell, and counts its faults alone.
 #![tactic(auto)]
 
+mod answered;
 mod calls;
 mod desk;
 mod desk_call;
@@ -25,6 +26,7 @@ mod sink;
 mod source;
 mod stream;
 
+pub use answered::{Answered, Scope, Who};
 pub use desk::Desk;
 pub use desk_call::DeskCall;
 pub use dir_fault::DirFault;

@@ -9,7 +9,7 @@ ghost use Rattle.ks_outside.specs.InMemory.{MemoryLinkState, MemoryDeskState, to
 use crate::calls::Calls;
 use crate::desk_log::DeskLog;
 use crate::readings::Readings;
-use crate::{Desk, DeskCall, Failed, MemoryLink};
+use crate::{Answered, Desk, DeskCall, Failed, MemoryLink};
 use ks_base::{Memory, Receipt};
 use std::alloc::Global;
 use std::marker::Model;
@@ -240,4 +240,13 @@ impl Desk for MemoryDesk {
             unreachable!();
         };
     }
+
+    /// It is told of none.
+    fn logs(&self) -> bool {
+        false
+    }
+
+    fn tell(&mut self, _answered: &Answered)
+        ensures exact { self.new ≡ self.old }
+    {}
 }

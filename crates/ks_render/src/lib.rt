@@ -23,4 +23,5 @@ pub use laws::{
     catalog_document, head_has_no_body, memory_ends_the_connection, token_document,
     unauthorized_document, version_document,
 };
+pub use names::{keys_name, kind_name, tree_name, trust_name};
 pub use responses::{render, render_bad};

@@ -1,6 +1,8 @@
 //! Requests of HTTP on links, each answered by the identity machine before the next one is read.
 #![tactic(auto)]
 
+mod account;
+mod causes;
 mod closed;
 mod connection;
 mod draws;

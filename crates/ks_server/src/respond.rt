@@ -4,6 +4,7 @@ ghost use Rattle.ks_outside.specs.Streams.{OnlyWrites};
 ghost use Rattle.ks_render.specs.Answers.{wire};
 ghost use Rattle.ks_server.specs.steps.Answers.{GivesUp, IsUnwritten, RefusesBytes, Writes};
 
+use crate::account::Account;
 use crate::closed::Closed;
 use ks_base::Text;
 use ks_http::{HttpCause, write_memory, write_response};
@@ -12,7 +13,7 @@ use ks_outside::Sink;
 use ks_render::{render, render_bad};
 use std::alloc::Global;
 
-/// Writes the response that tells a reply.
+/// Writes the response that tells a reply. The account notes its status.
 pub fn respond<K: Sink, F: Drop>(
     alloc: Global,
     reply: &Reply,
@@ -20,6 +21,7 @@ pub fn respond<K: Sink, F: Drop>(
     head: bool,
     close: bool,
     sink: &mut K,
+    account: &mut Account,
 ) -> Result<(), Closed<F>>
     requires { IsTellable reply.now }
     ensures told { (before : List ℕ) → (K.stream sink.old).written ≡ Some before → Writes (wire reply.now url.now head close) before (K.stream sink.new).written result }
@@ -27,8 +29,10 @@ pub fn respond<K: Sink, F: Drop>(
     ensures others { IfErr result IsUnwritten }
 {
     let Ok(response) = render(alloc, reply, url, head, close) else {
+        account.note_memory();
         return Err(give_up(sink));
     };
+    account.note_status(response.status);
     let Ok(()) = write_response(sink, &response) else {
         return Err(Closed::WriteFault);
     };

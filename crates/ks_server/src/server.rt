@@ -7,6 +7,7 @@ ghost use Rattle.ks_routes.specs.Routes.{command_of};
 ghost use Rattle.ks_server.specs.Ties.{KeepsLinks};
 ghost use Rattle.ks_server.specs.steps.Answers.{Answers, Exchanges, IsReadied, Refuses};
 
+use crate::account::Account;
 use crate::closed::Closed;
 use crate::draws::draw;
 use crate::folder::{has_failed, read_folder};
@@ -39,7 +40,8 @@ pub struct Server<'a, I: Decides, N: First, R, G> {
 }
 
 impl<I: Decides, N: First, R: Wait, G: Gate> Server<'_, I, N, R, G> {
-    /// Answers a request before another is read. After an error the connection ends with it.
+    /// Answers a request before another is read, and tells the desk of it where it is to be told. After an error the
+    /// connection ends with it.
     pub fn answer<P: Desk, D: KeyDir, K: Sink>(
         &self,
         pass: Pass<N>,
@@ -55,17 +57,47 @@ impl<I: Decides, N: First, R: Wait, G: Gate> Server<'_, I, N, R, G> {
         ensures links { KeepsLinks (P.desk desk.old) (P.desk desk.new) }
         ensures answers { Answers pass result.0 (P.desk desk.old) (P.desk desk.new) (D.dir dir.old) (D.dir dir.new) number request (K.stream sink.old) (K.stream sink.new) result.1 }
     {
+        let mut account = Account::of(self.alloc, desk, number, &request);
+        let (pass, result) = self.respond_to(pass, desk, dir, number, request, sink, &mut account);
+        account.tell(desk);
+        (pass, result)
+    }
+
+    /// Answers a request. The account notes what is to be told of it.
+    fn respond_to<P: Desk, D: KeyDir, K: Sink>(
+        &self,
+        pass: Pass<N>,
+        desk: &mut P,
+        dir: &mut D,
+        number: RequestNumber,
+        request: Request,
+        sink: &mut K,
+        account: &mut Account,
+    ) -> (Pass<N>, Result<(), Closed<I::Fault>>)
+        requires own { pass.turn ≡ self.now.turn.now }
+        requires url { self.now.url.now ≡ pass.seen.opening.settings.url }
+        requires few { number.request < CONNECTION_REQUESTS }
+        ensures links { KeepsLinks (P.desk desk.old) (P.desk desk.new) }
+        ensures answers { Answers pass result.0 (P.desk desk.old) (P.desk desk.new) (D.dir dir.old) (D.dir dir.new) number request (K.stream sink.old) (K.stream sink.new) result.1 }
+    {
         let head = is_head(request.method);
         let close = is_last(&request, number.request);
-        let (pass, replied) = self.exchange(pass, desk, dir, number, request);
+        let (pass, replied) = self.exchange(pass, desk, dir, number, request, account);
         match replied {
             Replied::Reply(reply) => {
-                let result = respond(self.alloc, &reply, self.url, head, close, sink);
+                account.note_reply(&reply);
+                let result = respond(self.alloc, &reply, self.url, head, close, sink, account);
                 drop(reply);
                 (pass, result)
             }
-            Replied::KeeperFault(why) => (pass, Err(Closed::KeeperFault(why))),
-            Replied::Memory => (pass, Err(give_up(sink))),
+            Replied::KeeperFault(why) => {
+                account.note_cause("KeeperFault");
+                (pass, Err(Closed::KeeperFault(why)))
+            }
+            Replied::Memory => {
+                account.note_memory();
+                (pass, Err(give_up(sink)))
+            }
         }
     }
 
@@ -77,6 +109,7 @@ impl<I: Decides, N: First, R: Wait, G: Gate> Server<'_, I, N, R, G> {
         dir: &mut D,
         number: RequestNumber,
         request: Request,
+        account: &mut Account,
     ) -> (Pass<N>, Replied<I::Fault>)
         requires own { pass.turn ≡ self.now.turn.now }
         ensures links { KeepsLinks (P.desk desk.old) (P.desk desk.new) }
@@ -87,7 +120,9 @@ impl<I: Decides, N: First, R: Wait, G: Gate> Server<'_, I, N, R, G> {
             return (pass, Replied::Memory);
         };
         match self.routes.command(self.alloc, &request) {
-            Routed::Command(command) => self.decide(pass, desk, dir, number, request, command),
+            Routed::Command(command) => {
+                self.decide(pass, desk, dir, number, request, command, account)
+            }
             Routed::Refused(fault) => refuse(pass, desk, number, request, Cause::Shape(fault)),
             Routed::NoRoute => refuse(pass, desk, number, request, Cause::NoRoute),
             Routed::NoMethod(methods) => {
@@ -110,6 +145,7 @@ impl<I: Decides, N: First, R: Wait, G: Gate> Server<'_, I, N, R, G> {
         number: RequestNumber,
         request: Request,
         command: Command,
+        account: &mut Account,
     ) -> (Pass<N>, Replied<I::Fault>)
         requires own { pass.turn ≡ self.now.turn.now }
         requires room { 0 < (P.desk desk.old).receipt_room }
@@ -128,15 +164,23 @@ impl<I: Decides, N: First, R: Wait, G: Gate> Server<'_, I, N, R, G> {
         let draw = draw(asked.draws, desk);
         let call = call_of(request, command, reading, draw, folder);
         let (pass, answer) = ks_service::call(
-            self.alloc, self.turn, self.rt, pass, &call, self.gate,
+            self.alloc,
+            self.turn,
+            self.rt,
+            pass,
+            &call,
+            self.gate,
+            account.is_kept(),
         );
-        drop(call);
         let Answer {
             reply,
             changes,
             moment,
             kept,
+            caller,
         } = answer;
+        account.note_who(&call, caller.as_ref());
+        drop(call);
         desk.note(Receipt {
             connection: number.connection,
             request: number.request,

@@ -7,9 +7,10 @@ use Rattle.ks_machine.specs.declared.change.Change.{Change}
 use Rattle.ks_machine.specs.declared.change.Entry.{Entry}
 use Rattle.ks_machine.specs.declared.reply.Reply.{Reply}
 use Rattle.ks_machine.specs.declared.reply.Reply.TheVariants as reply
-use Rattle.ks_machine.specs.Fronts.{Front, IsSound, ◌⊑◌, after, answer}
+use Rattle.ks_machine.specs.Fronts.{Front, IsSound, ◌⊑◌, after, answer, cut}
 use Rattle.ks_machine.specs.Moment.{moment_of}
 use Rattle.ks_machine.specs.Told.{IsTellable}
+use Rattle.ks_payload.specs.declared.payload.Payload.{Payload}
 use Rattle.ks_service.specs.declared.answer.Answer.{Answer}
 use Rattle.ks_service.specs.Called.{Called, IsDecidedUnless, IsNextUnless, IsUndecided, capped, is_memory, made_by, numbered}
 use Rattle.ks_service.proofs.EventLemmas.{after_raised, answer_raised, cut_event, event, event_high, event_is_place, event_kept, event_within, made_none, made_raised, memory_is, place, place_comes_before, place_goes_on}
@@ -56,7 +57,7 @@ not_before p call moment kept h =
 
 -- the answer in a hold after so many changes
 abbrev pub answered : {F : Type 0} → Passed → ℕ → Reply → Kept F → Answer F
-answered p moment said keeps = record { reply = said; changes = length p.seen.changes; moment = moment; kept = keeps }
+answered p moment said keeps = record { reply = said; changes = length p.seen.changes; moment = moment; kept = keeps; caller = None }
 
 module _ {F : Type 0} (p : Passed) (call : Call) (moment kept : ℕ) (change : Option Change) (said : Reply) (keeps : Kept F) where
   abbrev pub after_event : Passed
@@ -145,5 +146,29 @@ pub at_numbers : {F : Type 0} (p q : Passed) (call : Call) (said : Answer F) (co
     → Called p q call (record said { changes = count; moment = moment }) → Called p q call said
 at_numbers p q call said count moment c m made =
     subst (λ (t : ℕ × ℕ). Called p q call (record said { changes = t.0; moment = t.1 })) (λ i. (sym c i, sym m i)) made
+
+decided_by_any : {F : Type 0} (b : Bool) (old new : Passed) (call : Call) (at : Front) (said : Answer F) (caller : Option Payload)
+    → IsDecidedUnless b old new call at said → IsDecidedUnless b old new call at (record said { caller = caller })
+decided_by_any false old new call at said caller decided = record { reply = decided.reply; seen = decided.seen; own = decided.own; late = decided.late }
+decided_by_any true old new call at said caller decided = decided
+
+-- whatever the answer says of the caller
+pub called_by : {F : Type 0} (old new : Passed) (call : Call) (said : Answer F) (caller : Option Payload) → Called old new call said
+    → Called old new call (record said { caller = caller })
+called_by old new call said caller called = record {
+  turn = called.turn;
+  within = called.within;
+  goes_on = called.goes_on;
+  is_cut = called.is_cut;
+  sound = called.sound;
+  moment = called.moment;
+  decided = decided_by_any (is_memory said.reply) old new call (cut new.seen said.changes said.moment) said caller called.decided;
+  tellable = called.tellable;
+  top = called.top;
+  weight = called.weight;
+  alone = called.alone;
+  kept = called.kept;
+  unkept = called.unkept;
+}
 
 -- no change before the event is later than its moment

@@ -1,5 +1,6 @@
 pub mod EventLemmas
 pub mod CalledLemmas
+pub mod CallerLemmas
 pub mod FactLemmas
 pub mod LackLemmas
 pub mod RoundLemmas

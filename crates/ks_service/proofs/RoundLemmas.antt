@@ -12,7 +12,7 @@ use Rattle.ks_machine.proofs.FrontLemmas.{reflexive, transitive}
 use Rattle.ks_service.specs.declared.answer.Answer.{Answer}
 use Rattle.ks_service.specs.Called.{Called, IsDecidedUnless, IsNextUnless, capped, is_memory, made_by, numbered}
 use Rattle.ks_service.specs.Rounds.{Waited}
-use Rattle.ks_service.proofs.CalledLemmas.{Happened, at_numbers, called_decided, called_memory, not_before}
+use Rattle.ks_service.proofs.CalledLemmas.{Happened, at_numbers, called_by, called_decided, called_memory, not_before}
 use Rattle.ks_turn.proofs.StepLemmas.{risen_not}
 use Rattle.ks_service.proofs.EventLemmas.{after_is, event, event_few, event_goes_on, event_high}
 use Rattle.ks_state.specs.declared.decides.Kept.TheVariants as keeping
@@ -64,7 +64,7 @@ module _ (F : Type 0) {S : Type 0} (means : S → Front → Type 0) (kept : S �
         lands = lands_at alone moment change (omega arith) more stands;
         called = λ answer is count moment_is sound' all none.
             at_numbers p (released p (event p.seen moment change (kept value))) call answer _ _ count (moment_is ∙ last)
-            (called_decided p call (kept value) answer.reply answer.kept (is ∙ replied.0) (subst IsTellable (sym is) tellable) sound more sound' all);
+            (called_by p _ call _ answer.caller (called_decided p call (kept value) answer.reply answer.kept (is ∙ replied.0) (subst IsTellable (sym is) tellable) sound more sound' all));
       }
 
   settled_memory : AreAlone means → IsSound p.seen → p.seen.kept ≤ kept value → Keeps → (moment : ℕ) → (moment ≡ moment_of p.seen.high call.reading) ⊎ (moment ≡ p.seen.high)
@@ -78,8 +78,8 @@ module _ (F : Type 0) {S : Type 0} (means : S → Front → Type 0) (kept : S �
         lands = lands_at alone moment None (not_before p call moment (kept value) h) more (keeps (event p.seen moment None (kept held)) stood);
         called = λ answer is count last sound' all none.
             at_numbers p (released p (event p.seen moment None (kept value))) call answer _ _ count last
-            (called_memory p call moment (kept value) None answer.reply answer.kept (is ∙ memory) refl h sound' all
-            (λ (below : moment < capped call.reading). none (subst (λ m. m < capped call.reading) (sym last) below)));
+            (called_by p _ call _ answer.caller (called_memory p call moment (kept value) None answer.reply answer.kept (is ∙ memory) refl h sound' all
+            (λ (below : moment < capped call.reading). none (subst (λ m. m < capped call.reading) (sym last) below))));
       }
 
   settled : AreAlone means → IsSound p.seen → p.seen.kept ≤ kept value → IsTellable said → Keeps → Replied means kept p.seen call said held → Settled F means p call said held value

@@ -1,3 +1,4 @@
 pub mod Work
 pub mod Rounds
 pub mod Called
+pub mod Callers

@@ -1,4 +1,5 @@
 use ks_machine::Reply;
+use ks_payload::Payload;
 use ks_state::Kept;
 
 /// What came of a call.
@@ -12,4 +13,6 @@ pub struct Answer<F> {
     /// What became of the changes that were not kept yet: `Memory` also where no event decided the call, so that its moment is
     /// below its reading.
     pub kept: Kept<F>,
+    /// What the caller's token says of its holder, whether that is valid or not, where it was asked for and found out.
+    pub caller: Option<Payload>,
 }

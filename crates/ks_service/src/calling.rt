@@ -1,8 +1,10 @@
-ghost use Rattle.std.specs.Prelude.{◌≡◌};
+ghost use Rattle.std.specs.Prelude.{◌≡◌, IfSome, None, false};
 ghost use Rattle.ks_machine.specs.Fit.{Fit};
 ghost use Rattle.ks_service.specs.Called.{Called};
+ghost use Rattle.ks_service.specs.Callers.{IsSaidBy};
 
 use crate::answer::Answer;
+use crate::caller::hear;
 use crate::rounds::{ROUNDS, last_round, round, without_memory};
 use crate::work::work;
 use ks_auth::Facts;
@@ -18,6 +20,7 @@ use std::sync::Wait;
 /// the work is done in the fifth hold. `Memory` is the reply where there was no memory to decide or to do the work.
 ///
 /// The gate is called before each hold and, outside the turn, before each token is opened and each password derived.
+/// `hears` says whether the answer is to tell what the caller's token says.
 pub fn call<I: Decides, N: First, R: Wait, G: Gate>(
     alloc: Global,
     turn: &Turn<I, N>,
@@ -25,25 +28,35 @@ pub fn call<I: Decides, N: First, R: Wait, G: Gate>(
     mut pass: Pass<N>,
     call: &Call,
     gate: &G,
+    hears: bool,
 ) -> (Pass<N>, Answer<I::Fault>)
     requires own { pass.turn ≡ turn.now }
     requires fit { Fit call.now }
-    ensures { Called pass result.0 call.now result.1 }
+    ensures called { Called pass result.0 call.now result.1 }
+    ensures caller { IfSome result.1.caller (IsSaidBy call.now.caller) }
+    ensures unheard { hears ≡ false → result.1.caller ≡ None }
 {
     let mut facts = Facts::new(alloc);
+    let mut caller = None;
     for _ in 0..ROUNDS {
         gate.at(Place::BeforeHold);
         let (next, outcome) = round(turn, rt, pass, call, &facts);
         match outcome {
-            Ok(answer) => return (next, answer),
+            Ok(mut answer) => {
+                answer.caller = caller;
+                return (next, answer);
+            }
             Err(needs) => {
                 if work(alloc, &needs, call, &mut facts, gate).is_err() {
                     return without_memory(next);
                 }
+                hear(&mut caller, hears, &facts, needs.keys.as_slice(), call);
             }
         }
         pass = next;
     }
     gate.at(Place::BeforeHold);
-    last_round(alloc, turn, rt, pass, call, facts)
+    let (next, mut answer) = last_round(alloc, turn, rt, pass, call, facts);
+    answer.caller = caller;
+    (next, answer)
 }

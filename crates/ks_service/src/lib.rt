@@ -4,6 +4,7 @@
 
 mod alone;
 mod answer;
+mod caller;
 mod calling;
 mod rounds;
 mod secrets;

@@ -1,5 +1,5 @@
 //! One hold of the turn, in which a call is decided or facts are asked for.
-ghost use Rattle.std.specs.Prelude.{◌≡◌, ◌<◌, ◌≤◌, length, MatchResult};
+ghost use Rattle.std.specs.Prelude.{◌≡◌, ◌<◌, ◌≤◌, None, length, MatchResult};
 ghost use Rattle.ks_machine.specs.declared.call.Call.{Call as PlainCall};
 ghost use Rattle.ks_machine.specs.Fit.{Fit};
 ghost use Rattle.ks_machine.specs.Fronts.{Front, IsSound};
@@ -92,13 +92,15 @@ fn settle<I: Decides, N: First>(
         changes,
         moment,
         kept,
+        caller: None,
     };
     (pass, answer)
 }
 
 /// The answer where there was no memory for the work.
 pub(crate) fn without_memory<F: Drop, N: First>(pass: Pass<N>) -> (Pass<N>, Answer<F>)
-    ensures { (call : PlainCall) → Called pass result.0 call result.1 }
+    ensures called { (call : PlainCall) → Called pass result.0 call result.1 }
+    ensures caller { result.1.caller ≡ None }
 {
     let (changes, moment) = pass.front();
     let answer = Answer {
@@ -106,6 +108,7 @@ pub(crate) fn without_memory<F: Drop, N: First>(pass: Pass<N>) -> (Pass<N>, Answ
         changes,
         moment,
         kept: Kept::Memory,
+        caller: None,
     };
     (pass, answer)
 }

@@ -24,7 +24,7 @@ fn listen(rt: &HostRuntime) -> io::Result<(Pool, SocketAddr)> {
     let any = SocketAddrV4::new(Ipv4Addr::LOCALHOST, 0);
     let listener = TcpListener::bind(rt, SocketAddr::V4(any))?;
     let address = listener.local_addr()?;
-    Ok((Pool::new(rt, listener)?, address))
+    Ok((Pool::new(rt, listener, None)?, address))
 }
 
 /// A client at this address, which has sent this.

@@ -29,7 +29,7 @@ pub fn make<I: Decides, N: First, R: Wait, G: Gate>(
     requires fit { Fit call.now }
     ensures { (result.0.turn ≡ pass.turn) × (result.0.weight ≡ pass.weight) }
 {
-    let (pass, answer) = ks_service::call(alloc, turn, rt, pass, call, gate);
+    let (pass, answer) = ks_service::call(alloc, turn, rt, pass, call, gate, false);
     let Answer { reply, .. } = answer;
     (pass, reply)
 }

@@ -12,7 +12,7 @@ returns-in-Done g c =
 pub returns-in_default : goal.returns-in_default
 returns-in_default g c =
     answered_in c.args.pass c.hold-held.result.pass c.step_back.result _ _ _ (took_waits _ _ _ _ _ c.hold-held.ensures) (c.step_back.ensures ∙ c.judge-changes.ensures.pass ∙ c.loop.invariant.pass)
-    (c.without_memory.ensures c.args.call.now)
+    (c.without_memory.ensures.called c.args.call.now)
 
 pub loop-preserved : goal.loop-preserved
 loop-preserved g c =

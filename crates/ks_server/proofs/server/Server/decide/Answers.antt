@@ -33,7 +33,7 @@ returns-clause-exchanges g c before ready =
         read_is = c.in-Ok.ensures.read;
       };
       call_is = c.call_of-call.ensures;
-      called = c.call-pass.ensures;
+      called = c.call-pass.ensures.called;
       failed_is = c.has_failed-failed.ensures;
       memory_is = c.is_memory.ensures;
       folder = c.in-Ok.ensures.told;

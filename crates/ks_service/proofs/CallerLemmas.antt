@@ -1,0 +1,32 @@
+-- What a fact says of a caller's token.
+use Rattle.std.proofs.Common.{◌≡◌, ℕ, Bool, true, false, List, Option, Some, None, IfSome, ap, if◌then◌else◌}
+use Rattle.ks_base.specs.Rows.{Text}
+use Rattle.ks_auth.specs.Facts.{FactsState, has_opened, told}
+use Rattle.ks_fernet.specs.declared.opening.OpenAnswer.{OpenAnswer}
+use Rattle.ks_fernet.specs.declared.opening.OpenAnswer.TheVariants.{Yes}
+use Rattle.ks_fernet.specs.Opening.{open_of}
+use Rattle.ks_payload.specs.declared.payload.Payload.{Payload}
+use Rattle.ks_payload.specs.Payloads.{IsPayload}
+use Rattle.ks_ring.specs.declared.held_key.HeldKey.{HeldKey}
+use Rattle.ks_service.specs.Callers.{Says}
+
+opened_if : (b : Bool) (made answer : OpenAnswer) → (if b then Some made else None) ≡ Some answer → made ≡ answer
+opened_if true made answer is = let P : Option OpenAnswer → OpenAnswer = λ o. elim o [ Some a ↦ a | None ↦ made ] in ap P is
+opened_if false made answer is = cc
+
+said_by : (facts : FactsState) (held : HeldKey) (text : Text) (time : ℕ) (plain : List ℕ) (payload : Payload)
+    → (told facts).answer held text ≡ Some (Yes time plain) → IsPayload plain payload → Says text payload
+unfolding told
+said_by facts held text time plain payload is spelled = record {
+  key = held.key;
+  time = time;
+  plain = plain;
+  opens = opened_if (has_opened held text facts.opened) (open_of held.key text) (Yes time plain) is;
+  is = spelled;
+}
+
+-- where a fact says that the key opens the text, what that spells is what the text says
+pub said_if : (facts : FactsState) (held : HeldKey) (text : Text) (time : ℕ) (plain : List ℕ) (read : Option Payload)
+    → (told facts).answer held text ≡ Some (Yes time plain) → IfSome read (IsPayload plain) → IfSome read (Says text)
+said_if facts held text time plain None is spelled = tt
+said_if facts held text time plain (Some payload) is spelled = said_by facts held text time plain payload is spelled

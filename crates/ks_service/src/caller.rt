@@ -1,0 +1,55 @@
+//! Who makes a call, by the caller's token alone.
+ghost use Rattle.std.specs.Prelude.{◌≡◌, IfSome, false};
+ghost use Rattle.ks_service.specs.Callers.{IsSaidBy, Says};
+
+use ks_auth::Facts;
+use ks_base::Text;
+use ks_fernet::OpenAnswer;
+use ks_machine::Call;
+use ks_payload::Payload;
+use ks_ring::HeldKey;
+
+/// What the text says, where this key is known to open it.
+fn said_with(facts: &Facts, held: &HeldKey, text: &Text) -> Option<Payload>
+    ensures { IfSome result (Says text.now) }
+{
+    match facts.opened(held, text) {
+        Some(OpenAnswer::Yes { time: _, plain }) => match Payload::read(plain.as_slice()) {
+            Ok(read) => read,
+            Err(_) => None,
+        },
+        Some(OpenAnswer::No | OpenAnswer::NotText) | None => None,
+    }
+}
+
+/// What the text says, where one of these keys is known to open it.
+fn said(facts: &Facts, keys: &[HeldKey], text: &Text) -> Option<Payload>
+    ensures { IfSome result (Says text.now) }
+{
+    for held in keys {
+        if let Some(payload) = said_with(facts, held, text) {
+            return Some(payload);
+        }
+    }
+    None
+}
+
+/// Takes down what the caller's token says, where that is asked for, is not known yet, and one of these keys is now known
+/// to open it.
+pub(crate) fn hear(
+    caller: &mut Option<Payload>,
+    hears: bool,
+    facts: &Facts,
+    keys: &[HeldKey],
+    call: &Call,
+)
+    ensures said { IfSome caller.old (IsSaidBy call.now.caller) → IfSome caller.new (IsSaidBy call.now.caller) }
+    ensures unheard { hears ≡ false → caller.new ≡ caller.old }
+{
+    if !hears || caller.is_some() {
+        return;
+    }
+    if let Some(text) = &call.caller {
+        *caller = said(facts, keys, text);
+    }
+}
