@@ -56,13 +56,15 @@ def run(program, *words):
 
 
 class Server:
-    """A server over an opening file and a folder of keys, which words before it may start. It is ended where a `with` ends."""
+    """A server over an opening file and a folder of keys, which words before it may start, with further options. It is ended where
+    a `with` ends."""
 
-    def __init__(self, program, file, folder, workers, connections=0, before=(), port=None):
+    def __init__(self, program, file, folder, workers, connections=0, before=(), port=None, options=()):
         self.port, self.lines = port or free_port(), []
         self.listening = f"ks: listening on {HOST}:{self.port} with {workers} worker{'' if workers == 1 else 's'}"
         words = [*before, program, "serve", file, folder, f"{HOST}:{self.port}", "--workers", str(workers)]
         words += ["--connections", str(connections)] if connections else []
+        words += options
         self.process = subprocess.Popen(words, stdin=subprocess.DEVNULL, stdout=subprocess.DEVNULL, stderr=subprocess.PIPE)
         self.reader = threading.Thread(target=self.keep_lines, daemon=True)
         self.reader.start()

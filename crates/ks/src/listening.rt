@@ -3,7 +3,7 @@ ghost use Rattle.std.specs.Prelude.{◌<◌, IfOk, length};
 
 use ks_base::Memory;
 use ks_outside::Folder;
-use ks_pool::{Pool, RealDesk};
+use ks_pool::{Log, Pool, RealDesk};
 use ks_setup::{Places, Words};
 use mio::net::TcpListener;
 use std::io;
@@ -36,30 +36,32 @@ fn bind<R: Net>(rt: &R, address: &str) -> io::Result<TcpListener> {
     Err(failed)
 }
 
-/// Listens at an address. Connections wait until the opening file is read, and then the pool says in one line that it
-/// listens, with the port that it is.
+/// Listens at an address, and tells requests in the log, if there is one. Connections wait until the opening file is read,
+/// and then the pool says in one line that it listens, with the port that it is.
 pub fn listen<R: Net + Clock + AllocGlobal + Wait>(
     rt: &R,
     address: &str,
     workers: u32,
+    log: Option<Log>,
 ) -> io::Result<Pool> {
     let listener = bind(rt, address)?;
     let bound = listener.local_addr()?;
     let ending = if workers == 1 { "" } else { "s" };
     let line = format!(in rt.alloc(); "ks: listening on {bound} with {workers} worker{ending}")?;
-    let pool = Pool::new(rt, listener)?;
+    let pool = Pool::new(rt, listener, log)?;
     pool.say_first(rt, line);
     Ok(pool)
 }
 
-/// A desk at a pool, with the folder of this path.
+/// A desk at a pool for the worker of this number, with the folder of this path.
 fn desk<'a, R: AllocGlobal>(
     rt: &'a R,
     folder: &str,
     pool: Option<&'a Pool>,
+    worker: u32,
 ) -> Result<(RealDesk<'a, R>, Folder<'a, R>), Memory> {
     Ok((
-        RealDesk::new(rt, pool),
+        RealDesk::new(rt, pool).of_worker(worker),
         Folder::new(rt.alloc(), rt, folder)?,
     ))
 }
@@ -74,9 +76,9 @@ pub fn desks<'a, R: AllocGlobal>(
     ensures { IfOk result (λ desks. 0 < length desks.items) }
 {
     let mut desks = Vec::new(rt.alloc());
-    'others: for _ in 1..workers {
-        desks.push(desk(rt, folder, pool)?)?;
+    'others: for worker in 1..workers {
+        desks.push(desk(rt, folder, pool, worker)?)?;
     }
-    desks.push(desk(rt, folder, pool)?)?;
+    desks.push(desk(rt, folder, pool, 0)?)?;
     Ok(desks)
 }

@@ -6,6 +6,7 @@
 ghost use Rattle.std.specs.Prelude.{◌<◌, IfOk, length};
 
 mod listening;
+mod log_file;
 mod modes;
 mod named;
 mod opening_file;
@@ -13,10 +14,11 @@ mod threads;
 
 use ks_base::{Memory, Text};
 use ks_outside::{Folder, RealSink, RealSource};
-use ks_pool::{Pool, RealDesk};
-use ks_setup::read_words;
+use ks_pool::{Log, Pool, RealDesk};
+use ks_setup::{Words, read_words};
 use ks_top::{Ended, Fault, run};
 use listening::{desks, listen, serving};
+use log_file::open_log;
 use modes::may_open;
 use named::{Named, path_of};
 use opening_file::OpeningFile;
@@ -76,6 +78,22 @@ fn out_of_memory<R: Eprint>(rt: &R) -> ExitCode {
     ExitCode::from(Fault::Memory.status())
 }
 
+/// The log that the command names, if it names one. Where it can't be opened one line says so, and the status is that of an
+/// output that can't be written.
+fn log_of(rt: &HostRuntime, command: &Words) -> Result<Option<Log>, ExitCode> {
+    let Some(path) = command.log() else {
+        return Ok(None);
+    };
+    let path = path.as_str();
+    match open_log(rt, path) {
+        Ok(log) => Ok(Some(log)),
+        Err(error) => {
+            let _ = eprintln!(rt; "ks: {path}: {error}");
+            Err(ExitCode::from(Fault::Write.status()))
+        }
+    }
+}
+
 /// The file at this path, if it can be opened without a wait.
 fn opened(rt: &HostRuntime, path: &str) -> Option<File> {
     if !may_open(rt, path) {
@@ -105,11 +123,15 @@ fn main(rt: HostRuntime) -> ExitCode {
     if !can_run(&rt, workers) {
         return out_of_threads(&rt, workers);
     }
+    let log = match log_of(&rt, &command) {
+        Ok(log) => log,
+        Err(status) => return status,
+    };
     let mut source = OpeningFile::new(opened(&rt, file));
     let listening = match serving(&command) {
         Some(_) => {
             modes::tell(&rt, file, folder);
-            Some(listen(&rt, address, workers))
+            Some(listen(&rt, address, workers, log))
         }
         None => None,
     };

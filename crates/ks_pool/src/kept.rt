@@ -11,7 +11,7 @@ use ks_base::limits::HEAD_BYTES;
 use ks_outside::Failed;
 use mio::net::TcpStream;
 use std::alloc::Global;
-use std::net::Shutdown;
+use std::net::{IpAddr, Shutdown};
 use std::time::Instant;
 
 /// What is at hand of a connection.
@@ -31,6 +31,8 @@ pub enum AtHand {
 pub struct Kept {
     alloc: Global,
     pub stream: TcpStream,
+    /// The address of its client.
+    pub client: IpAddr,
     /// Its place in the pool.
     pub key: usize,
     inbox: Queue,
@@ -52,10 +54,11 @@ pub struct Kept {
 
 impl Kept {
     /// A connection of which nothing came yet.
-    pub fn new(alloc: Global, stream: TcpStream, key: usize, now: Instant) -> Kept {
+    pub fn new(alloc: Global, stream: TcpStream, client: IpAddr, key: usize, now: Instant) -> Kept {
         Kept {
             alloc,
             stream,
+            client,
             key,
             inbox: Queue::new(alloc),
             long: None,

@@ -8,6 +8,8 @@ mod ending;
 mod framing;
 mod kept;
 mod limits;
+mod line;
+mod log;
 mod poller;
 mod pool;
 mod queue;
@@ -20,6 +22,7 @@ mod trouble;
 mod waiting;
 mod watch;
 
+pub use log::Log;
 pub use pool::Pool;
 pub use real_desk::RealDesk;
 pub use tcp_link::TcpLink;

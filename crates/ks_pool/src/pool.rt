@@ -1,10 +1,12 @@
 use crate::clock::WatchedClock;
 use crate::kept::{AtHand, Kept};
 use crate::limits::{ACCEPTS, CONNECTIONS, END_SECONDS, SPARE_DESCRIPTORS};
+use crate::line::{Line, Seen};
+use crate::log::Log;
 use crate::poller::{LISTENER, Poller, Report};
 use crate::slots::{Slots, Step};
 use crate::trouble::Refusal;
-use ks_outside::Failed;
+use ks_outside::{Answered, Failed};
 use libc::RLIMIT_NOFILE;
 use libc::net::{SHUT_RD, shutdown};
 use libc::types::rlimit;
@@ -12,7 +14,7 @@ use mio::net::{TcpListener, TcpStream};
 use mio::unix::SourceFd;
 use mio::{Events, Interest, Poll, Registry};
 use std::io;
-use std::net::Net;
+use std::net::{IpAddr, Net};
 use std::os::fd::AsRawFd;
 use std::rt::Clock;
 use std::sync::{Mutex, Wait};
@@ -37,6 +39,7 @@ pub struct Pool {
     poller: Mutex<Poller>,
     slots: Mutex<Slots>,
     clock: Mutex<WatchedClock>,
+    log: Option<Log>,
 }
 
 /// How many connections are kept at most.
@@ -54,9 +57,21 @@ fn most_connections() -> usize {
         .min(CONNECTIONS)
 }
 
+/// How many microseconds are gone since then, as far as that is known.
+fn micros_since<R: Clock>(rt: &R, began: Option<Instant>) -> u128 {
+    match (began, Instant::now(rt)) {
+        (Some(began), Ok(now)) => now.duration_since(began).as_micros(),
+        (Some(_) | None, _) => 0,
+    }
+}
+
 impl Pool {
-    /// A pool of the connections that come to this listener.
-    pub fn new<R: Net + Clock + AllocGlobal>(rt: &R, listener: TcpListener) -> io::Result<Pool> {
+    /// A pool of the connections that come to this listener. Their requests are told in the log, if there is one.
+    pub fn new<R: Net + Clock + AllocGlobal>(
+        rt: &R,
+        listener: TcpListener,
+        log: Option<Log>,
+    ) -> io::Result<Pool> {
         let alloc = rt.alloc();
         let poll = Poll::new(rt)?;
         let registry = poll.registry().try_clone()?;
@@ -70,7 +85,33 @@ impl Pool {
             poller: Mutex::new(Poller::new(poll, events)),
             slots: Mutex::new(Slots::new(alloc, most_connections(), now)),
             clock: Mutex::new(WatchedClock::new()),
+            log,
         })
+    }
+
+    /// Whether requests are told in a log.
+    pub fn logs(&self) -> bool {
+        self.log.is_some()
+    }
+
+    /// Tells a request of this client in the log, if there is one. The worker of this number answered it, and began then.
+    pub fn tell<R: Clock + Wait + Eprint>(
+        &self,
+        rt: &R,
+        worker: u32,
+        client: Option<IpAddr>,
+        began: Option<Instant>,
+        answered: &Answered,
+    ) {
+        if let Some(log) = &self.log {
+            let seen = Seen {
+                moment: self.reading(rt).unwrap_or(0),
+                client,
+                worker,
+                micros: micros_since(rt, began),
+            };
+            log.write(rt, Line { seen, answered });
+        }
     }
 
     /// Has this line said on the standard error before the first connection is waited for.
@@ -167,9 +208,9 @@ impl Pool {
         let mut has_made_room = false;
         'connections: for _ in 0..ACCEPTS {
             match self.listener.accept() {
-                Ok((stream, _)) => {
+                Ok((stream, address)) => {
                     has_made_room = false;
-                    self.admit(rt, stream, now);
+                    self.admit(rt, stream, address.ip(), now);
                 }
                 Err(error) => match Refusal::of(&error) {
                     Refusal::OneConnection => {}
@@ -201,13 +242,13 @@ impl Pool {
     }
 
     /// Takes in a connection, which then sends each piece at once. One that does not take this setting is let go.
-    fn admit<R: Wait>(&self, rt: &R, stream: TcpStream, now: Instant) {
+    fn admit<R: Wait>(&self, rt: &R, stream: TcpStream, client: IpAddr, now: Instant) {
         if stream.set_nodelay(true).is_err() {
             return;
         }
         let mut slots = self.slots.lock(rt);
         slots.trouble.accept();
-        slots.admit(&self.registry, stream, now);
+        slots.admit(&self.registry, stream, client, now);
     }
 
     /// Lets the connection go that has rested longest, where none can be accepted, and says whether one went.

@@ -6,11 +6,13 @@ use crate::clock::WatchedClock;
 use crate::kept::Kept;
 use crate::{Pool, TcpLink};
 use ks_base::{Memory, Receipt};
-use ks_outside::{Desk, Failed};
+use ks_outside::{Answered, Desk, Failed};
 use std::marker::Model;
+use std::net::IpAddr;
 use std::random::RandomSource;
 use std::rt::Clock;
 use std::sync::Wait;
+use std::time::Instant;
 
 /// A desk over a pool of TCP connections, the clock and the random source. It tells nothing, and counts its faults; the
 /// counts stand still at 2^64 - 1. It keeps no receipt. All desks of a program share one pool, which hands out links
@@ -25,6 +27,12 @@ pub struct RealDesk<'a, R> {
     last: u64,
     accept_faults: u64,
     fill_faults: u64,
+    /// The number of its worker, by which the log tells its connections from those of others.
+    worker: u32,
+    /// The client of the link that it handed out last.
+    client: Option<IpAddr>,
+    /// When it made ready for the request that is answered, where that is to be told.
+    began: Option<Instant>,
 }
 
 impl<'a, R> Model for RealDesk<'a, R> {
@@ -47,7 +55,17 @@ impl<'a, R> RealDesk<'a, R> {
             last: 0,
             accept_faults: 0,
             fill_faults: 0,
+            worker: 0,
+            client: None,
+            began: None,
         }
+    }
+
+    /// The same, of the worker of this number.
+    pub fn of_worker(self, worker: u32) -> RealDesk<'a, R>
+        ensures { result ≡ self.entry }
+    {
+        RealDesk { worker, ..self }
     }
 }
 
@@ -67,7 +85,10 @@ impl<'a, R: Clock + RandomSource + Wait + Eprint> Desk for RealDesk<'a, R> {
         ensures exact { self.new ≡ record self.old { accept_faults = (if is_ok result then self.old.accept_faults else next_count self.old.accept_faults) } }
     {
         match next_of(self.pool, self.rt) {
-            Ok(Some(kept)) => Ok(Some(TcpLink::new(self.rt, kept))),
+            Ok(Some(kept)) => {
+                self.client = Some(kept.client);
+                Ok(Some(TcpLink::new(self.rt, kept)))
+            }
             Ok(None) => Ok(None),
             Err(Failed) => {
                 self.accept_faults = self.accept_faults.saturating_add(1);
@@ -115,10 +136,13 @@ impl<'a, R: Clock + RandomSource + Wait + Eprint> Desk for RealDesk<'a, R> {
         }
     }
 
-    /// There is always room, since no receipt is kept.
+    /// There is always room, since no receipt is kept. It looks at the clock where it is to be told how long a request takes.
     fn ready(&mut self) -> Result<(), Memory>
         ensures exact { self.new ≡ self.old }
     {
+        if self.logs() {
+            self.began = Instant::now(self.rt).ok();
+        }
         Ok(())
     }
 
@@ -127,6 +151,23 @@ impl<'a, R: Clock + RandomSource + Wait + Eprint> Desk for RealDesk<'a, R> {
         ensures exact { self.new ≡ self.old }
     {
         drop(receipt);
+    }
+
+    /// Whether its pool has a log.
+    fn logs(&self) -> bool {
+        match self.pool {
+            Some(pool) => pool.logs(),
+            None => false,
+        }
+    }
+
+    /// Writes the request's line in the log of its pool.
+    fn tell(&mut self, answered: &Answered)
+        ensures exact { self.new ≡ self.old }
+    {
+        if let Some(pool) = self.pool {
+            pool.tell(self.rt, self.worker, self.client, self.began, answered);
+        }
     }
 }
 

@@ -7,6 +7,7 @@ use mio::{Interest, Registry, Token};
 use slab::Slab;
 use std::alloc::Global;
 use std::mem;
+use std::net::IpAddr;
 use std::time::Instant;
 
 /// The place of a connection.
@@ -65,7 +66,13 @@ impl Slots {
     }
 
     /// Takes a place for a new connection. One for which there is no memory, or which can't be registered, is let go.
-    pub fn admit(&mut self, registry: &Registry, mut stream: TcpStream, now: Instant) {
+    pub fn admit(
+        &mut self,
+        registry: &Registry,
+        mut stream: TcpStream,
+        client: IpAddr,
+        now: Instant,
+    ) {
         if self.slots.len() >= self.most {
             self.let_oldest_go();
         }
@@ -74,7 +81,7 @@ impl Slots {
             .register(&mut stream, Token(key), both_ways())
             .is_ok()
         {
-            let kept = Kept::new(self.alloc, stream, key, now);
+            let kept = Kept::new(self.alloc, stream, client, key, now);
             drop(self.slots.insert(Slot::Resting(kept)));
         }
     }

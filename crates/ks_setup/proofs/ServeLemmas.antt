@@ -26,18 +26,18 @@ connections_within None connections is =
     subst (λ n. n ≤ 1000000) zero (omega arith)
 connections_within (Some word) connections is = (number_within 0 1000000 word connections is).1
 
-served_within : (file folder address : Option (List ℕ)) (workers connections : Option ℕ) → ((n : ℕ) → workers ≡ Some n → (1 ≤ n) × (n ≤ 32))
-    → ((n : ℕ) → connections ≡ Some n → n ≤ 1000000) → IsInRange (served_with (serve_places file folder address) workers connections)
-served_within file folder address None connections from to = tt
-served_within file folder address (Some workers) None from to = tt
-served_within file folder address (Some workers) (Some connections) from to =
+served_within : (file folder address log : Option (List ℕ)) (workers connections : Option ℕ) → ((n : ℕ) → workers ≡ Some n → (1 ≤ n) × (n ≤ 32))
+    → ((n : ℕ) → connections ≡ Some n → n ≤ 1000000) → IsInRange (served_with (serve_places file folder address log) workers connections)
+served_within file folder address log None connections from to = tt
+served_within file folder address log (Some workers) None from to = tt
+served_within file folder address log (Some workers) (Some connections) from to =
     let within = from workers refl in
     (within.0, within.1, to connections refl)
 
 serve_range : (found : Option (List Row)) → IsInRange (option_map_or serve.meaning found Usage)
 serve_range None = tt
 serve_range (Some rows) =
-    served_within (first_of (codes "file") rows) (first_of (codes "folder") rows) (first_of (codes "address") rows)
+    served_within (first_of (codes "file") rows) (first_of (codes "folder") rows) (first_of (codes "address") rows) (first_of (codes "log") rows)
     (workers_said (first_of (codes "workers") rows)) (connections_said (first_of (codes "connections") rows))
     (workers_within (first_of (codes "workers") rows)) (connections_within (first_of (codes "connections") rows))
 
@@ -57,7 +57,7 @@ served_is_other given (Some workers) (Some connections) places = (λ e. cc, λ e
 pub serve_is_other : (found : Option (List Row)) (places : Places) → IsOther places (option_map_or serve.meaning found Usage)
 serve_is_other None places = (λ e. cc, λ e. cc, λ e. cc)
 serve_is_other (Some rows) places =
-    served_is_other (serve_places (first_of (codes "file") rows) (first_of (codes "folder") rows) (first_of (codes "address") rows))
+    served_is_other (serve_places (first_of (codes "file") rows) (first_of (codes "folder") rows) (first_of (codes "address") rows) (first_of (codes "log") rows))
     (workers_said (first_of (codes "workers") rows)) (connections_said (first_of (codes "connections") rows)) places
 
 -- what it means, by what is found
@@ -71,13 +71,14 @@ no_connections rows workers p q = rw (p, q) refl
 
 pub served_is : (rows : List Row) (workers connections : ℕ) → workers_said (first_of (codes "workers") rows) ≡ Some workers
     → connections_said (first_of (codes "connections") rows) ≡ Some connections
-    → Serve (serve_places (first_of (codes "file") rows) (first_of (codes "folder") rows) (first_of (codes "address") rows) workers) connections
+    → Serve (serve_places (first_of (codes "file") rows) (first_of (codes "folder") rows) (first_of (codes "address") rows) (first_of (codes "log") rows) workers) connections
     ≡ serve.meaning rows
 served_is rows workers connections p q = rw (p, q) refl
 
-pub same_places : (file folder address read_file read_folder read_address : Option (List ℕ)) (workers : ℕ)
-    → file ≡ read_file → folder ≡ read_folder → address ≡ read_address → serve_places file folder address workers ≡ serve_places read_file read_folder read_address workers
-same_places file folder address read_file read_folder read_address workers p q r = rw (p, q, r) refl
+pub same_places : (file folder address log read_file read_folder read_address read_log : Option (List ℕ)) (workers : ℕ)
+    → file ≡ read_file → folder ≡ read_folder → address ≡ read_address → log ≡ read_log
+    → serve_places file folder address log workers ≡ serve_places read_file read_folder read_address read_log workers
+same_places file folder address log read_file read_folder read_address read_log workers p q r s = rw (p, q, r, s) refl
 
 -- the three words alone
 
@@ -87,12 +88,12 @@ unfolding is_open names_option
 open_three file folder address p q r = rw (p, q, r) refl
 
 serve_meaning : (rows : List Row) (file folder address : List ℕ) → Found rows file folder address
-    → serve.meaning rows ≡ Serve (serve_places (Some file) (Some folder) (Some address) 4) 0
+    → serve.meaning rows ≡ Serve (serve_places (Some file) (Some folder) (Some address) None 4) 0
 serve_meaning rows file folder address found =
-    rw (found.file_found, found.folder_found, found.address_found, found.workers_found, found.connections_found) refl
+    rw (found.file_found, found.folder_found, found.address_found, found.workers_found, found.connections_found, found.log_found) refl
 
 serve_given : (name file folder address : List ℕ) → is_dashed file ≡ false → is_dashed folder ≡ false → is_dashed address ≡ false
-    → read_by serve (name ∷ file ∷ folder ∷ address ∷ []) ≡ Serve (serve_places (Some file) (Some folder) (Some address) 4) 0
+    → read_by serve (name ∷ file ∷ folder ∷ address ∷ []) ≡ Serve (serve_places (Some file) (Some folder) (Some address) None 4) 0
 unfolding read_by
 serve_given name file folder address p q r =
     ap (λ found. option_map_or serve.meaning found Usage)
@@ -100,7 +101,7 @@ serve_given name file folder address p q r =
     ∙ serve_meaning (matches_of serve_app (name ∷ file ∷ folder ∷ address ∷ [])) file folder address (words_found name file folder address p q r)
 
 pub serve_words_give : (file folder address : List ℕ) → is_dashed file ≡ false → is_dashed folder ≡ false → is_dashed address ≡ false
-    → words_of (codes "serve" ∷ file ∷ folder ∷ address ∷ []) ≡ Serve (serve_places (Some file) (Some folder) (Some address) 4) 0
+    → words_of (codes "serve" ∷ file ∷ folder ∷ address ∷ []) ≡ Serve (serve_places (Some file) (Some folder) (Some address) None 4) 0
 serve_words_give file folder address p q r =
     named_serve (codes "serve" ∷ file ∷ folder ∷ address ∷ []) (codes "serve") false false false false true refl refl refl refl refl refl refl refl refl refl refl
     ∙ serve_given (codes "serve") file folder address p q r

@@ -1,4 +1,4 @@
--- What clap makes of the words of `serve`, which takes three words and two options.
+-- What clap makes of the words of `serve`, which takes three words and three options.
 use Rattle.std.proofs.Common.{◌≡◌, ℕ, false, List, [], ◌∷◌, Some, None, refl, ap, ◌∙◌, codes}
 use Rattle.clap.specs.Walk.{Held, Rule, Walk, finished, nothing_held, walk, walk_from, walked}
 use Rattle.clap.specs.Words.{App, Row, built, fault_of, first_of, matches_of}
@@ -56,17 +56,18 @@ words_served name file folder address p q r =
     (three_fault file folder address [] p q r ∙ no_fault_of_none _ _) (three_walk file folder address p q r)
     ∙ three_words file folder address
 
--- what is found: the three words, and neither option
+-- what is found: the three words, and none of the options
 pub record Found (rows : List Row) (file folder address : List ℕ) : Type 0 where
   pub file_found : first_of (codes "file") rows ≡ Some file
   pub folder_found : first_of (codes "folder") rows ≡ Some folder
   pub address_found : first_of (codes "address") rows ≡ Some address
   pub workers_found : first_of (codes "workers") rows ≡ None
   pub connections_found : first_of (codes "connections") rows ≡ None
+  pub log_found : first_of (codes "log") rows ≡ None
 
 finds : (file folder address : List ℕ) → Found (finished rules (address_held file folder address)) file folder address
 unfolding clap_on_literals
-finds file folder address = record { file_found = refl; folder_found = refl; address_found = refl; workers_found = refl; connections_found = refl }
+finds file folder address = record { file_found = refl; folder_found = refl; address_found = refl; workers_found = refl; connections_found = refl; log_found = refl }
 
 served_rows : (name file folder address : List ℕ) → is_dashed file ≡ false → is_dashed folder ≡ false → is_dashed address ≡ false
     → matches_of serve_app (name ∷ file ∷ folder ∷ address ∷ []) ≡ finished rules (address_held file folder address)
@@ -83,4 +84,5 @@ words_found name file folder address p q r =
       address_found = ap (first_of (codes "address")) rows ∙ found.address_found;
       workers_found = ap (first_of (codes "workers")) rows ∙ found.workers_found;
       connections_found = ap (first_of (codes "connections")) rows ∙ found.connections_found;
+      log_found = ap (first_of (codes "log")) rows ∙ found.log_found;
     }

@@ -68,7 +68,7 @@ talk_app = with_rule (with_rule (new_app (codes "talk")) (required_word (codes "
 
 -- what one connection is served with, by one desk
 abbrev pub talk_places : Option (List ℕ) → Option (List ℕ) → Places
-talk_places file folder = record { file = file; folder = folder; address = None; workers = 1 }
+talk_places file folder = record { file = file; folder = folder; address = None; workers = 1; log = None }
 
 abbrev pub talk : Form
 talk = record {
@@ -81,7 +81,7 @@ setup_app = with_rule (new_app (codes "setup")) (required_word (codes "folder"))
 
 -- where the keys of a folder are made or rotated
 abbrev pub folder_places : Option (List ℕ) → Places
-folder_places folder = record { file = None; folder = folder; address = None; workers = 1 }
+folder_places folder = record { file = None; folder = folder; address = None; workers = 1; log = None }
 
 abbrev pub setup : Form
 setup = record { app = setup_app; meaning = λ rows. Setup (folder_places (first_of (codes "folder") rows)) }
@@ -116,11 +116,11 @@ abbrev pub places_app : App
 places_app = with_rule (with_rule (with_rule (new_app (codes "serve")) (required_word (codes "file"))) (required_word (codes "folder"))) (required_word (codes "address"))
 
 abbrev pub serve_app : App
-serve_app = with_rule (with_rule places_app (valued_word (codes "workers"))) (valued_word (codes "connections"))
+serve_app = with_rule (with_rule (with_rule places_app (valued_word (codes "workers"))) (valued_word (codes "connections"))) (valued_word (codes "log"))
 
--- what so many workers serve with; the address stays a text, of which the program makes a socket
-abbrev pub serve_places : Option (List ℕ) → Option (List ℕ) → Option (List ℕ) → ℕ → Places
-serve_places file folder address workers = record { file = file; folder = folder; address = address; workers = workers }
+-- what so many workers serve with; the address stays a text, of which the program makes a socket, and so does the path of the log
+abbrev pub serve_places : Option (List ℕ) → Option (List ℕ) → Option (List ℕ) → Option (List ℕ) → ℕ → Places
+serve_places file folder address log workers = record { file = file; folder = folder; address = address; workers = workers; log = log }
 
 -- how many workers serve: 4 where nothing is said
 abbrev pub workers_said : Option (List ℕ) → Option ℕ
@@ -169,6 +169,15 @@ address_in (Setup places) = None
 address_in (Rotate places max) = None
 address_in Usage = None
 
+-- the path of the log of requests that a command names
+abbrev pub log_in : Words → Option (List ℕ)
+log_in Check = None
+log_in (Talk places) = None
+log_in (Serve places connections) = places.log
+log_in (Setup places) = None
+log_in (Rotate places max) = None
+log_in Usage = None
+
 abbrev pub rotated_with : Option (List ℕ) → Option ℕ → Words
 rotated_with folder None = Usage
 rotated_with folder (Some max) = Rotate (folder_places folder) max
@@ -187,7 +196,7 @@ served_with places (Some workers) (Some connections) = Serve (places workers) co
 abbrev pub serve : Form
 serve = record {
   app = serve_app;
-  meaning = λ rows. served_with (serve_places (first_of (codes "file") rows) (first_of (codes "folder") rows) (first_of (codes "address") rows))
+  meaning = λ rows. served_with (serve_places (first_of (codes "file") rows) (first_of (codes "folder") rows) (first_of (codes "address") rows) (first_of (codes "log") rows))
       (workers_said (first_of (codes "workers") rows)) (connections_said (first_of (codes "connections") rows));
 }
 

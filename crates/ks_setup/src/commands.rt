@@ -32,6 +32,7 @@ pub(crate) fn read_talk(alloc: Global, words: &[&str]) -> Result<Words, Memory>
             folder: text_of(alloc, &matches, "folder")?,
             address: None,
             workers: 1,
+            log: None,
         })),
         None => Ok(Words::Usage),
     }
@@ -92,7 +93,7 @@ fn max_of(matches: &ArgMatches<'_>) -> Option<u32>
     }
 }
 
-/// `serve FILE FOLDER ADDRESS [--workers N] [--connections N]`.
+/// `serve FILE FOLDER ADDRESS [--workers N] [--connections N] [--log FILE]`.
 pub(crate) fn read_serve(alloc: Global, words: &[&str]) -> Result<Words, Memory>
     ensures { IfOk result (λ read. read ≡ read_by serve (map (λ word. word.now) words.now)) }
 {
@@ -116,7 +117,11 @@ fn serve_command<'a>(alloc: Global) -> Result<Command<'a>, AllocError>
 {
     let workers = Arg::new(alloc, "workers").long("workers");
     let connections = Arg::new(alloc, "connections").long("connections");
-    places_command(alloc)?.arg(workers)?.arg(connections)
+    let log = Arg::new(alloc, "log").long("log");
+    places_command(alloc)?
+        .arg(workers)?
+        .arg(connections)?
+        .arg(log)
 }
 
 /// The command with its places alone.
@@ -155,13 +160,15 @@ fn connections_of(matches: &ArgMatches<'_>) -> Option<u32>
 /// What a server works on.
 fn serve_places(alloc: Global, matches: &ArgMatches<'_>, workers: u32) -> Result<Places, Memory>
     ensures { IfOk result (λ places. places ≡ serve_places (first_value (found_of matches.now) (codes "file"))
-        (first_value (found_of matches.now) (codes "folder")) (first_value (found_of matches.now) (codes "address")) workers) }
+        (first_value (found_of matches.now) (codes "folder")) (first_value (found_of matches.now) (codes "address"))
+        (first_value (found_of matches.now) (codes "log")) workers) }
 {
     Ok(Places {
         file: text_of(alloc, matches, "file")?,
         folder: text_of(alloc, matches, "folder")?,
         address: text_of(alloc, matches, "address")?,
         workers,
+        log: text_of(alloc, matches, "log")?,
     })
 }
 
@@ -188,6 +195,7 @@ fn folder_alone(alloc: Global, matches: &ArgMatches<'_>) -> Result<Places, Memor
         folder: text_of(alloc, matches, "folder")?,
         address: None,
         workers: 1,
+        log: None,
     })
 }
 

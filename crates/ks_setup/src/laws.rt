@@ -33,11 +33,11 @@ pub fn rotate_leaves_three()
     ensures { (folder : List ℕ) → is_dashed folder ≡ false → words_of (codes "rotate" ∷ folder ∷ []) ≡ Rotate (folder_places (Some folder)) 3 }
 {}
 
-/// `serve` with a file, a folder and an address alone has 4 workers, which do not count their connections.
-/// The address may be any word that does not begin with `-`.
+/// `serve` with a file, a folder and an address alone has 4 workers, which do not count their connections, and
+/// no log. The address may be any word that does not begin with `-`.
 pub fn serve_has_four_workers()
     ensures { (file folder address : List ℕ) → is_dashed file ≡ false → is_dashed folder ≡ false → is_dashed address ≡ false
-        → words_of (codes "serve" ∷ file ∷ folder ∷ address ∷ []) ≡ Serve (serve_places (Some file) (Some folder) (Some address) 4) 0 }
+        → words_of (codes "serve" ∷ file ∷ folder ∷ address ∷ []) ≡ Serve (serve_places (Some file) (Some folder) (Some address) None 4) 0 }
 {}
 
 /// The settings and rows of each opening are in range.

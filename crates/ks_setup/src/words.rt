@@ -1,5 +1,5 @@
 ghost use Rattle.std.specs.Prelude.{◌≡◌, IfOk, map, option_copied};
-ghost use Rattle.ks_setup.specs.Words.{IsInRange, address_in, file_in, folder_in, words_of};
+ghost use Rattle.ks_setup.specs.Words.{IsInRange, address_in, file_in, folder_in, log_in, words_of};
 
 use crate::commands::{read_check, read_rotate, read_serve, read_setup, read_talk};
 use ks_base::{Memory, Text};
@@ -15,6 +15,8 @@ pub struct Places {
     pub address: Option<Text>,
     /// How many desks serve.
     pub workers: u32,
+    /// The path of the log of requests, where there is to be one; `-` is the standard error.
+    pub log: Option<Text>,
 }
 
 impl Drop for Places {
@@ -24,6 +26,7 @@ impl Drop for Places {
             folder: _,
             address: _,
             workers: _,
+            log: _,
         } = self;
     }
 }
@@ -36,10 +39,10 @@ pub enum Words {
     /// `talk FILE FOLDER`: one connection is served, by the first desk alone, so there is no address and one
     /// worker.
     Talk(Places),
-    /// `serve FILE FOLDER ADDRESS [--workers N] [--connections N]`: the connections to an address are served,
-    /// by as many desks as there are workers, from 1 to 32; where that is not said there are 4. The number is
-    /// how many connections each desk serves, from 0 to 1,000,000; with 0, as where it is not said, they are
-    /// not counted.
+    /// `serve FILE FOLDER ADDRESS [--workers N] [--connections N] [--log FILE]`: the connections to an address
+    /// are served, by as many desks as there are workers, from 1 to 32; where that is not said there are 4. The
+    /// number is how many connections each desk serves, from 0 to 1,000,000; with 0, as where it is not said,
+    /// they are not counted. Requests are told in the log, where one is named.
     Serve(Places, u64),
     /// `setup FOLDER`: the keys of an empty folder are made.
     Setup(Places),
@@ -92,14 +95,28 @@ impl Words {
             Words::Usage => None,
         }
     }
+
+    /// The path of the log of requests, where the command names one.
+    pub fn log(&self) -> Option<&Text>
+        ensures { option_copied result ≡ log_in self.now }
+    {
+        match self {
+            Words::Serve(places, _) => places.log.as_ref(),
+            Words::Check => None,
+            Words::Talk(_) => None,
+            Words::Setup(_) => None,
+            Words::Rotate(_, _) => None,
+            Words::Usage => None,
+        }
+    }
 }
 
 /// The command that these words give, the program's own name not among them.
 ///
 /// The first word is the command's name. The others are its positional words in the order in which the
 /// command has them, and its options, each at most once, as `--name N` or `--name=N`. A word that begins
-/// with `-` and names no option of the command is refused, so `--`, `-h` and `--help` are. What no
-/// command takes is `Words::Usage`.
+/// with `-` and names no option of the command is refused, so `--`, `-h` and `--help` are, and `-` alone: the
+/// log of `serve` goes to the standard error by `--log=-`. What no command takes is `Words::Usage`.
 pub fn read_words(alloc: Global, words: &[Text]) -> Result<Words, Memory>
     ensures words { IfOk result (λ read. read ≡ words_of words.now) }
     ensures range { IfOk result IsInRange }

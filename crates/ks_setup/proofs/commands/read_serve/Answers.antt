@@ -33,9 +33,9 @@ returns-in-Some-connections_of c =
     let connections : connections_said (first_of (codes "connections") rows) ≡ Some c.in-Some-connections_of.connections =
     ap connections_said (sym (first_value-rows (found_of c.in-Some.matches) (codes "connections"))) ∙ sym c.connections_of.ensures ∙ c.in-Some-connections_of.is in
     let places = c.in_ok-places-in-Some-connections_of.ensures
-    ∙ same_places _ _ _ (first_of (codes "file") rows) (first_of (codes "folder") rows) (first_of (codes "address") rows) c.in-Some-workers_of.workers
+    ∙ same_places _ _ _ _ (first_of (codes "file") rows) (first_of (codes "folder") rows) (first_of (codes "address") rows) (first_of (codes "log") rows) c.in-Some-workers_of.workers
     (first_value-rows (found_of c.in-Some.matches) (codes "file")) (first_value-rows (found_of c.in-Some.matches) (codes "folder"))
-    (first_value-rows (found_of c.in-Some.matches) (codes "address")) in
+    (first_value-rows (found_of c.in-Some.matches) (codes "address")) (first_value-rows (found_of c.in-Some.matches) (codes "log")) in
     ap₂ (λ (p : Places) (n : ℕ). Serve p n) places c.from.ensures
     ∙ served_is rows c.in-Some-workers_of.workers c.in-Some-connections_of.connections workers connections
     ∙ read_by_some serve (app_of c.in_ok-serve_command.field-0) (map (λ (word : Bor (List ℕ)). word.now) c.args.words.now) rows c.in_ok-serve_command.ensures

@@ -18,3 +18,6 @@ ready-tells g c = search rules
 
 pub note-tells : goal.note-tells
 note-tells g c = search rules
+
+pub tell-tells : goal.tell-tells
+tell-tells g c = search rules
