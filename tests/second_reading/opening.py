@@ -1,5 +1,7 @@
 """The ring of keys (Keystone's administration guide, Fernet keys) and the opening file."""
 
+import base64
+import binascii
 import hashlib
 import re
 
@@ -111,11 +113,39 @@ def project_in(place):
     return row
 
 
+def bytes_in(text, count):
+    """The bytes that a text spells in base64 with padding, if there are so many; a text that spells them otherwise is none."""
+    try:
+        spelled = base64.b64decode(text, validate=True)
+    except binascii.Error:
+        return None
+    return spelled if len(spelled) == count and base64.b64encode(spelled).decode() == text else None
+
+
+def password_record(path, value):
+    """What is kept of a password, as a text: `pbkdf2_sha256$ROUNDS$SALT$DIGEST`."""
+    text = any_text(path, value)
+    parts = re.fullmatch(r"pbkdf2_sha256\$([1-9][0-9]{0,5})\$([A-Za-z0-9+/=]*)\$([A-Za-z0-9+/=]*)", text)
+    range_unless(parts and int(parts[1]) <= 100000, path)
+    salt, digest = bytes_in(parts[2], 16), bytes_in(parts[3], 32)
+    range_unless(salt is not None and digest is not None, path)
+    return (salt, int(parts[1]), digest)
+
+
+def password_in(place):
+    """A plain password, beside which no record stands, or the record of one; or None."""
+    plain, record = optional(at(place, "password"), PASSWORD), at(place, "password_record")
+    if plain is None:
+        return optional(record, password_record)
+    range_unless(record[1] is MISSING or record[1] is None, record[0])
+    return plain
+
+
 def user_in(place):
-    """An entry of `users`, with its plain password."""
+    """An entry of `users`."""
     return {"id": needed(at(place, "id"), id_text), "domain": needed(at(place, "domain_id"), id_text),
             "name": needed(at(place, "name"), NAME), "enabled": optional(at(place, "enabled"), truth, True),
-            "password": optional(at(place, "password"), PASSWORD)}
+            "password": password_in(place)}
 
 
 def group_in(place):

@@ -94,7 +94,7 @@ class State:
     def derive_passwords(self, salts):
         """Each plain password is derived with the next salt, and not kept."""
         for row in self.rows["user"]:
-            if row["password"] is not None:
+            if isinstance(row["password"], str):
                 salt = next(salts, None)
                 if salt is None:
                     raise OpeningRefused("Random")

@@ -1,4 +1,4 @@
-//! The tables of `check`, and of words that are no command's.
+//! The tables of `check` and of `password`, and of words that are no command's.
 
 use crate::run::{End, Outside, WHOLE, run};
 use anyhow::{Result, ensure};
@@ -28,6 +28,17 @@ pub fn check_faults<R: AllocGlobal + Threads + Wait + Sync>(rt: &R, case: &Case)
     outside.fails.read = case.number(2)?;
     outside.fails.write = case.number(3)?;
     check(rt, &outside)
+}
+
+/// Of words, an input, random bytes, the length of the pieces, and the read and the write that fail: the end of their run and the
+/// output.
+pub fn passwords<R: AllocGlobal + Threads + Wait + Sync>(rt: &R, case: &Case) -> Result<String> {
+    let mut outside = Outside::of(case.bytes(1), case.size(3)?);
+    outside.random = case.bytes(2);
+    outside.fails.read = case.number(4)?;
+    outside.fails.write = case.number(5)?;
+    let end = run(rt, case.str(0)?, &outside)?;
+    shown(rt.alloc(), &end)
 }
 
 fn check<R: AllocGlobal + Threads + Wait + Sync>(rt: &R, outside: &Outside<'_>) -> Result<String> {

@@ -1,4 +1,4 @@
-//! Tries whole runs of the program's commands on tables of cases, over objects in memory: lines of `check`, words, connections of
+//! Tries whole runs of the program's commands on tables of cases, over objects in memory: lines of `check`, passwords, words, connections of
 //! `talk` and of `serve`, folders of keys, openings and whole sessions, of which every byte that is written is compared. Prints
 //! for each table of `data/` how many of its cases held, and what was otherwise.
 #![tactic(auto)]
@@ -60,6 +60,7 @@ fn try_commands<R: Files + Print + AllocGlobal + Threads + Wait + Sync>(
         "check_faults",
         |_alloc, case| checks::check_faults(rt, case),
     )?;
+    try_table(rt, "passwords", |_alloc, case| checks::passwords(rt, case))?;
     try_table(rt, "words", |_alloc, case| checks::words(rt, case))?;
     let mut session = Session::over(rt, world, "o1")?;
     session.need(rt.alloc(), "499162800", "01")?;

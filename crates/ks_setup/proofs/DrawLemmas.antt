@@ -1,6 +1,6 @@
 -- How the draws of one desk follow one another, and how rows are derived with what they draw.
 use Rattle.std.proofs.Common.{◌≡◌, ℕ, suc, ◌+◌, ◌-◌, ◌*◌, ◌<◌, ◌≤◌, List, [], ◌∷◌, ◌++◌, length, take, drop, Some, None, Ok, Err, refl, sym, ap, ap₂, subst, ◌∙◌, arith, append_assoc, append-nil, length-append}
-use Rattle.std.specs.Prelude.{Option, is_some, if◌then◌else◌}
+use Rattle.std.specs.Prelude.{Option, if◌then◌else◌}
 use Rattle.std.proofs.lemmas.List.{replicate-append-replicate, take-append-drop}
 use Rattle.std.proofs.lemmas.Grind.{common_steps}
 use Rattle.ks_base.specs.declared.users.UserRow.{UserRow}
@@ -10,8 +10,10 @@ use Rattle.ks_outside.proofs.CallLemmas.{makes_both, makes_none}
 use Rattle.ks_outside.specs.declared.desk_call.DeskCall.TheVariants as call
 use Rattle.ks_outside.specs.Desks.{DeskState, Makes}
 use Rattle.ks_setup.specs.declared.derive.DeriveFault.TheVariants.{Random, Memory}
+use Rattle.ks_setup.specs.declared.written.WrittenPassword.{WrittenPassword}
+use Rattle.ks_setup.specs.declared.written.WrittenPassword.TheVariants.{Plain, Record}
 use Rattle.ks_setup.specs.declared.written.WrittenUser.{WrittenUser}
-use Rattle.ks_setup.specs.Openings.{Drew, password_row, passwords, salt_calls, user_row, users_from}
+use Rattle.ks_setup.specs.Openings.{Drew, is_plain, password_row, passwords, salt_calls, user_row, users_from}
 use Rattle.ks_setup.specs.Steps.{Derives, bytes_for}
 
 module _ {Link : Type 0} where
@@ -93,9 +95,10 @@ deriving_none rounds users desk = record {
 passwords_more : (user : WrittenUser) (users : List WrittenUser) → 16 * passwords (user ∷ users) ≡ bytes_for user.password + 16 * passwords users
 passwords_more user users = given user.password
   where
-    given : (password : Option (List ℕ)) → 16 * (if is_some password then suc (passwords users) else passwords users) ≡ bytes_for password + 16 * passwords users
+    given : (password : Option WrittenPassword) → 16 * (if is_plain password then suc (passwords users) else passwords users) ≡ bytes_for password + 16 * passwords users
     given None = omega arith
-    given (Some password) = omega arith
+    given (Some (Plain password)) = omega arith
+    given (Some (Record row)) = omega arith
 
 none_left : {X : Type 0} (rest : List X) → length rest ≡ 0 → rest ≡ []
 none_left [] h = refl
@@ -104,18 +107,20 @@ none_left (x ∷ rest) h = absurd (omega arith)
 take_whole : (n : ℕ) (all : List ℕ) → length all ≡ n → take n all ≡ all
 take_whole n all h = grind (arith, common_steps)
 
-abbrev left_for : Option (List ℕ) → List ℕ → List ℕ
-left_for password drawn = if is_some password then drop 16 drawn else drawn
+abbrev left_for : Option WrittenPassword → List ℕ → List ℕ
+left_for password drawn = if is_plain password then drop 16 drawn else drawn
 
-same_row : (rounds : ℕ) (password : Option (List ℕ)) (drawn more : List ℕ) → length drawn ≡ bytes_for password
+same_row : (rounds : ℕ) (password : Option WrittenPassword) (drawn more : List ℕ) → length drawn ≡ bytes_for password
     → password_row rounds password (take 16 (drawn ++ more)) ≡ password_row rounds password (take 16 drawn)
 same_row rounds None drawn more h = refl
-same_row rounds (Some password) drawn more h =
-    ap (λ salt. password_row rounds (Some password) salt) (take_front 16 drawn more h ∙ sym (take_whole 16 drawn h))
+same_row rounds (Some (Record row)) drawn more h = refl
+same_row rounds (Some (Plain password)) drawn more h =
+    ap (λ salt. password_row rounds (Some (Plain password)) salt) (take_front 16 drawn more h ∙ sym (take_whole 16 drawn h))
 
-same_left : (password : Option (List ℕ)) (drawn more : List ℕ) → length drawn ≡ bytes_for password → left_for password (drawn ++ more) ≡ more
+same_left : (password : Option WrittenPassword) (drawn more : List ℕ) → length drawn ≡ bytes_for password → left_for password (drawn ++ more) ≡ more
 same_left None drawn more h = ap (λ front. front ++ more) (none_left drawn h)
-same_left (Some password) drawn more h = drop_front 16 drawn more h
+same_left (Some (Record row)) drawn more h = ap (λ front. front ++ more) (none_left drawn h)
+same_left (Some (Plain password)) drawn more h = drop_front 16 drawn more h
 
 users_more : (rounds : ℕ) (user : WrittenUser) (users : List WrittenUser) (drawn more : List ℕ) → length drawn ≡ bytes_for user.password
     → users_from rounds (user ∷ users) (drawn ++ more)

@@ -8,10 +8,11 @@ use Rattle.clap.specs.Words.{Row, first_of, matches_of}
 use Rattle.ks_setup.specs.declared.words.Places.{Places}
 use Rattle.ks_setup.specs.declared.words.Words.{Words}
 use Rattle.ks_setup.specs.declared.words.Words.TheVariants.{Setup, Rotate, Usage}
-use Rattle.ks_setup.specs.Words.{Form, IsInRange, check, check_app, folder_places, is_dashed, is_open, max_said, names_option, read_by, rotate, rotate_app, rotated_with, rows_read, serve_app, setup, setup_app, talk, talk_app, words_of}
+use Rattle.ks_setup.specs.Words.{Form, IsInRange, check, check_app, folder_places, is_dashed, is_open, max_said, names_option, password_app, read_by, rotate, rotate_app, rotated_with, rows_read, serve_app, setup, setup_app, talk, talk_app, words_of}
 use Rattle.ks_setup.proofs.FolderWordLemmas.{folder_is_first, folder_is_rotated, folder_rotated, folder_taken, no_folder_fault, no_max_is_said, two_folders_fault}
 use Rattle.ks_setup.proofs.NameLemmas.{any_name, is_name, named_rotate, named_setup, not_named}
 use Rattle.ks_setup.proofs.NumberLemmas.{number_within}
+use Rattle.ks_setup.proofs.PasswordLemmas.{password_is_other}
 use Rattle.ks_setup.proofs.ReadLemmas.{read_fault, read_none, read_some}
 use Rattle.ks_setup.proofs.ServeLemmas.{serve_is_other}
 
@@ -150,6 +151,7 @@ setup_words_are (name ∷ rest) places =
     (λ is e. setup_rest name rest places (is_name name (codes "setup") is) (setup_only name rest places e))
     (λ e. absurd (rotate_is_not (rows_read rotate_app (name ∷ rest)) places e))
     (λ e. absurd ((serve_is_other (rows_read serve_app (name ∷ rest)) places).2 e))
+    (λ e. absurd ((password_is_other (rows_read password_app (name ∷ rest)) places).2 e))
     (λ e. cc)
 
 pub setup_words_give : (folder : List ℕ) → is_dashed folder ≡ false → words_of (codes "setup" ∷ folder ∷ []) ≡ Setup (folder_places (Some folder))

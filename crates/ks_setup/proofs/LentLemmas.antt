@@ -6,8 +6,8 @@ use Rattle.std.specs.Str.{bytes_eq}
 use Rattle.ks_base.specs.declared.memory.Memory.{Memory}
 use Rattle.ks_setup.specs.declared.words.Words.{Words}
 use Rattle.ks_setup.specs.declared.words.Words.TheVariants.{Usage}
-use Rattle.ks_setup.specs.Words.{check, read_by, rotate, serve, setup, talk, words_of}
-use Rattle.ks_setup.proofs.NameLemmas.{named_check, named_else, named_rotate, named_serve, named_setup, named_talk, not_named}
+use Rattle.ks_setup.specs.Words.{check, password, read_by, rotate, serve, setup, talk, words_of}
+use Rattle.ks_setup.proofs.NameLemmas.{named_check, named_else, named_password, named_rotate, named_serve, named_setup, named_talk, not_named}
 
 abbrev texts : List (Bor (List ℕ)) → List (List ℕ)
 texts lent = map (λ word. word.now) lent
@@ -47,12 +47,20 @@ pub serve_lent : (words : List (List ℕ)) (lent : List (Bor (List ℕ))) (name 
 serve_lent words lent name b d e r v are first is h also g third f fourth k fifth j =
     sym (named_serve (texts lent) name.now b d e r v (first_text lent name first) is h also g third f fourth k fifth j) ∙ ap words_of are
 
-pub else_lent : (words : List (List ℕ)) (lent : List (Bor (List ℕ))) (name : Bor (List ℕ)) (b d e r v : Bool) → map (λ word. word.now) lent ≡ words
+pub password_lent : (words : List (List ℕ)) (lent : List (Bor (List ℕ))) (name : Bor (List ℕ)) (b d e r v w : Bool) → map (λ word. word.now) lent ≡ words
     → Some name ≡ slice_get lent 0 → b ≡ bytes_eq name.now (codes "check") → b ≡ false → d ≡ bytes_eq name.now (codes "talk") → d ≡ false
     → e ≡ bytes_eq name.now (codes "setup") → e ≡ false → r ≡ bytes_eq name.now (codes "rotate") → r ≡ false
-    → v ≡ bytes_eq name.now (codes "serve") → v ≡ false → Usage ≡ words_of words
-else_lent words lent name b d e r v are first is h also g third f fourth k fifth j =
-    sym (named_else (texts lent) name.now b d e r v (first_text lent name first) is h also g third f fourth k fifth j) ∙ ap words_of are
+    → v ≡ bytes_eq name.now (codes "serve") → v ≡ false → w ≡ bytes_eq name.now (codes "password") → w ≡ true
+    → read_by password (map (λ word. word.now) lent) ≡ words_of words
+password_lent words lent name b d e r v w are first is h also g third f fourth k fifth j sixth i =
+    sym (named_password (texts lent) name.now b d e r v w (first_text lent name first) is h also g third f fourth k fifth j sixth i) ∙ ap words_of are
+
+pub else_lent : (words : List (List ℕ)) (lent : List (Bor (List ℕ))) (name : Bor (List ℕ)) (b d e r v w : Bool) → map (λ word. word.now) lent ≡ words
+    → Some name ≡ slice_get lent 0 → b ≡ bytes_eq name.now (codes "check") → b ≡ false → d ≡ bytes_eq name.now (codes "talk") → d ≡ false
+    → e ≡ bytes_eq name.now (codes "setup") → e ≡ false → r ≡ bytes_eq name.now (codes "rotate") → r ≡ false
+    → v ≡ bytes_eq name.now (codes "serve") → v ≡ false → w ≡ bytes_eq name.now (codes "password") → w ≡ false → Usage ≡ words_of words
+else_lent words lent name b d e r v w are first is h also g third f fourth k fifth j sixth i =
+    sym (named_else (texts lent) name.now b d e r v w (first_text lent name first) is h also g third f fourth k fifth j sixth i) ∙ ap words_of are
 
 pub none_lent : (words : List (List ℕ)) (lent : List (Bor (List ℕ))) → map (λ word. word.now) lent ≡ words → None ≡ slice_get lent 0 → Usage ≡ words_of words
 none_lent words [] are first = sym (not_named [] refl) ∙ ap words_of are

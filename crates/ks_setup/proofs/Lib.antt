@@ -11,8 +11,10 @@ pub mod NameLemmas
 pub mod NumberLemmas
 pub mod OpeningLemmas
 pub mod OrphanLemmas
+pub mod PasswordLemmas
 pub mod RangeLemmas
 pub mod ReadLemmas
+pub mod RecordLemmas
 pub mod ServeLemmas
 pub mod ServeWordLemmas
 pub mod TalkLemmas

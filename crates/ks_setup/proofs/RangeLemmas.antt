@@ -1,26 +1,36 @@
 -- What a file of the right form opens with is in range.
-use Rattle.std.proofs.Common.{ℕ, suc, Bool, List, [], ◌∷◌, Option, Some, None, Ok, sym, subst, arith}
-use Rattle.std.specs.Prelude.{Result, IfOk, IfSome, codes, take, unwrap_or}
+use Rattle.std.proofs.Common.{◌≡◌, ℕ, suc, Bool, true, false, if◌then◌else◌, List, [], ◌∷◌, Option, Some, None, Ok, refl, sym, subst, arith}
+use Rattle.std.specs.Prelude.{Result, IfOk, IfSome, codes, decimal, option_and_then, option_map, take, unwrap_or}
 use Rattle.std.specs.Int.{IsInRange}
 use Rattle.std.specs.List.{AllByRecursion}
+use Rattle.std.specs.Str.{bytes_eq}
 use Rattle.serde_json.specs.Data.{Data, Items, no_items, item}
 use Rattle.ks_base.specs.declared.limits.TheConstants.{OPENING_BYTES}
 use Rattle.ks_base.specs.declared.shapes.ShapeFault.{ShapeFault}
+use Rattle.ks_base.specs.declared.users.PasswordRow.{PasswordRow}
+use Rattle.ks_base.specs.Results.{found, need}
 use Rattle.ks_machine.specs.declared.settings.Settings.{Settings}
 use Rattle.ks_machine.specs.Ranges.{AreRounds, IsDescription, IsDomainInRange, IsEndpointInRange, IsEndpointUrl, IsGroupInRange, IsName, IsProjectInRange, IsRegionInRange, IsRoleInRange, IsServiceInRange, IsServiceText, IsSettings, IsUserInRange}
 use Rattle.ks_shape.specs.Bodies.{whole_document}
 use Rattle.ks_shape.specs.Fields.{needed, optional, optional_value}
 use Rattle.ks_shape.specs.Places.{Place, entry_at, names}
-use Rattle.ks_shape.specs.Types.{description_text, endpoint_url, id_text, interface_text, list_of, name_text, password_text, service_text, truth, whole}
+use Rattle.ks_shape.specs.declared.misfit.Misfit.{Misfit}
+use Rattle.ks_shape.specs.declared.misfit.Misfit.TheVariants as misfit
+use Rattle.ks_shape.specs.Types.{any_text, description_text, endpoint_url, id_text, interface_text, list_of, name_text, password_text, service_text, truth, whole}
 use Rattle.ks_shape.proofs.CatalogLemmas.{service_text_in, url_in}
 use Rattle.ks_shape.proofs.PropertyLemmas.{If, needed_in, optional_in, skip, step}
 use Rattle.ks_shape.proofs.RangeLemmas.{name_in, description_in, whole_in}
 use Rattle.ks_setup.specs.declared.written.Written.{Written}
+use Rattle.ks_setup.specs.declared.written.WrittenPassword.{WrittenPassword}
+use Rattle.ks_setup.specs.declared.written.WrittenPassword.TheVariants as password
 use Rattle.ks_setup.specs.declared.written.WrittenUser.{WrittenUser}
 use Rattle.ks_setup.specs.Entries.{Entry, entries, entries_from, if_listed, listed}
 use Rattle.ks_setup.specs.Openings.{password_row, users_from}
 use Rattle.ks_setup.specs.Ranges.{OpensInRange}
-use Rattle.ks_setup.specs.Written.{default_domain, default_settings, document_of, domain_in, endpoint_in, file_of, grant_in, group_in, implication_in, is_folder, keys_of, member_in, project_in, region_in, role_in, service_in, settings_at, settings_in, settings_of, url_text, user_in, written_in}
+use Rattle.ks_setup.specs.Records.{counted_in, cut, record_in, rounds_in, salted_in, scheme, written_as, bytes_in}
+use Rattle.ks_setup.specs.Words.{number_between}
+use Rattle.ks_setup.proofs.NumberLemmas.{number_within}
+use Rattle.ks_setup.specs.Written.{absent, default_domain, default_settings, document_of, domain_in, endpoint_in, file_of, grant_in, group_in, implication_in, is_folder, keys_of, member_in, password_in, password_record, plain_or_record, project_in, region_in, role_in, service_in, settings_at, settings_in, settings_of, url_text, user_in, written_in}
 
 -- fields
 
@@ -85,17 +95,79 @@ project_is entry =
     skip IsProjectInRange (optional truth (names (codes "enabled")) entry) _ (λ enabled.
     (is_name, or_else IsDescription description [] is (omega arith))))))))
 
-abbrev HasName : WrittenUser → Type 0
-HasName user = IsName user.name
+-- the rounds of a record
+abbrev AreCounted : PasswordRow → Type 0
+AreCounted row = AreRounds row.rounds
 
-user_is : (entry : Place) → IfOk (user_in entry) HasName
+abbrev IsRecorded : WrittenPassword → Type 0
+IsRecorded (password.Plain text) = Unit {0}
+IsRecorded (password.Record row) = AreCounted row
+
+written_within : (word : List ℕ) (number : Option ℕ) → ((n : ℕ) → number ≡ Some n → AreRounds n) → IfSome (option_and_then (written_as word) number) AreRounds
+written_within word None within = tt
+written_within word (Some n) within = spelled (bytes_eq (decimal n) word)
+  where
+    spelled : (b : Bool) → IfSome (if b then Some n else None) AreRounds
+    spelled true = within n refl
+    spelled false = tt
+
+rounds_are : (word : List ℕ) → IfSome (rounds_in word) AreRounds
+unfolding rounds_in
+rounds_are word = written_within word (number_between 1 100000 word) (number_within 1 100000 word)
+
+found_are : {A : Type 0} (P : A → Type 0) (value : Option A) (fault : Misfit) → IfSome value P → IfOk (found value fault) P
+found_are P None fault is = tt
+found_are P (Some a) fault is = is
+
+salted_is : (rounds : ℕ) (text : List ℕ) → AreRounds rounds → IfOk (salted_in rounds text) AreCounted
+unfolding salted_in
+salted_is rounds text are =
+    skip AreCounted (found (cut text) misfit.Range) _ (λ parts.
+    skip AreCounted (found (bytes_in 16 parts.0) misfit.Range) _ (λ salt.
+    skip AreCounted (found (bytes_in 32 parts.1) misfit.Range) _ (λ digest. are)))
+
+counted_is : (text : List ℕ) → IfOk (counted_in text) AreCounted
+unfolding counted_in
+counted_is text =
+    skip AreCounted (found (cut text) misfit.Range) _ (λ parts.
+    step AreCounted AreRounds (found (rounds_in parts.0) misfit.Range) _ (found_are AreRounds (rounds_in parts.0) misfit.Range (rounds_are parts.0)) (λ rounds are.
+    salted_is rounds parts.1 are))
+
+record_is : (text : List ℕ) → IfOk (record_in text) AreCounted
+unfolding record_in
+record_is text =
+    skip AreCounted (found (cut text) misfit.Range) _ (λ parts.
+    skip AreCounted (need (bytes_eq parts.0 scheme) misfit.Range) _ (λ known. counted_is parts.1))
+
+password_record_is : (value : Data) → IfOk (password_record value) AreCounted
+unfolding password_record
+password_record_is value = skip AreCounted (any_text value) _ (λ text. record_is text)
+
+recorded : (row : Option PasswordRow) → If AreCounted row → If IsRecorded (option_map password.Record row)
+recorded None are = tt
+recorded (Some row) are = are
+
+plain_or_is : (plain : Option (List ℕ)) (entry : Place) → IfOk (plain_or_record plain entry) (If IsRecorded)
+plain_or_is (Some text) entry = skip (If IsRecorded) (absent (names (codes "password_record")) entry) _ (λ nothing. tt)
+plain_or_is None entry =
+    step (If IsRecorded) (If AreCounted) (optional password_record (names (codes "password_record")) entry) _
+    (optional_in AreCounted password_record password_record_is (names (codes "password_record")) entry) (λ row are. recorded row are)
+
+password_is : (entry : Place) → IfOk (password_in entry) (If IsRecorded)
+unfolding password_in
+password_is entry = skip (If IsRecorded) (optional password_text (names (codes "password")) entry) _ (λ plain. plain_or_is plain entry)
+
+abbrev IsUser : WrittenUser → Type 0
+IsUser user = IsName user.name × If IsRecorded user.password
+
+user_is : (entry : Place) → IfOk (user_in entry) IsUser
 unfolding user_in
 user_is entry =
-    skip HasName (needed id_text (names (codes "id")) entry) _ (λ id.
-    skip HasName (needed id_text (names (codes "domain_id")) entry) _ (λ domain.
-    step HasName IsName (needed name_text (names (codes "name")) entry) _ (needed_in IsName name_text name_in _ entry) (λ name is_name.
-    skip HasName (optional truth (names (codes "enabled")) entry) _ (λ enabled.
-    skip HasName (optional password_text (names (codes "password")) entry) _ (λ password. is_name)))))
+    skip IsUser (needed id_text (names (codes "id")) entry) _ (λ id.
+    skip IsUser (needed id_text (names (codes "domain_id")) entry) _ (λ domain.
+    step IsUser IsName (needed name_text (names (codes "name")) entry) _ (needed_in IsName name_text name_in _ entry) (λ name is_name.
+    skip IsUser (optional truth (names (codes "enabled")) entry) _ (λ enabled.
+    step IsUser (If IsRecorded) (password_in entry) _ (password_is entry) (λ given is_recorded. (is_name, is_recorded))))))
 
 group_is : (entry : Place) → IfOk (group_in entry) IsGroupInRange
 unfolding group_in
@@ -181,7 +253,7 @@ record AreInRange (written : Written) : Type 0 where
   settings : IsSettings written.settings
   domains : Are IsDomainInRange written.domains
   projects : Are IsProjectInRange written.projects
-  users : Are HasName written.users
+  users : Are IsUser written.users
   groups : Are IsGroupInRange written.groups
   roles : Are IsRoleInRange written.roles
   regions : Are IsRegionInRange written.regions
@@ -207,7 +279,7 @@ written_are file =
     skip AreInRange (keys_of file) _ (λ keys.
     step AreInRange (If (Are IsDomainInRange)) (listed domain_in (names (codes "domains")) file) _ (listed_in IsDomainInRange domain_in domain_is _ file) (λ domains are_domains.
     step AreInRange (Are IsProjectInRange) (entries project_in (names (codes "projects")) file) _ (entries_in IsProjectInRange project_in project_is _ file) (λ projects are_projects.
-    step AreInRange (Are HasName) (entries user_in (names (codes "users")) file) _ (entries_in HasName user_in user_is _ file) (λ users are_users.
+    step AreInRange (Are IsUser) (entries user_in (names (codes "users")) file) _ (entries_in IsUser user_in user_is _ file) (λ users are_users.
     step AreInRange (Are IsGroupInRange) (entries group_in (names (codes "groups")) file) _ (entries_in IsGroupInRange group_in group_is _ file) (λ groups are_groups.
     skip AreInRange (entries member_in (names (codes "members")) file) _ (λ members.
     step AreInRange (Are IsRoleInRange) (entries role_in (names (codes "roles")) file) _ (entries_in IsRoleInRange role_in role_is _ file) (λ roles are_roles.
@@ -234,15 +306,16 @@ file_are text = skip AreInRange (document_of text) _ (λ value. written_are (who
 
 -- the opening
 
-password_is : (rounds : ℕ) (password : Option (List ℕ)) (salt : List ℕ) → AreRounds rounds → IfSome (password_row rounds password salt) (λ row. AreRounds row.rounds)
-password_is rounds None salt are = tt
-password_is rounds (Some password) salt are = are
+row_is : (rounds : ℕ) (given : Option WrittenPassword) (salt : List ℕ) → AreRounds rounds → If IsRecorded given → IfSome (password_row rounds given salt) AreCounted
+row_is rounds None salt are is = tt
+row_is rounds (Some (password.Plain text)) salt are is = are
+row_is rounds (Some (password.Record row)) salt are is = is
 
-users_are : (rounds : ℕ) (users : List WrittenUser) (drawn : List ℕ) → AreRounds rounds → Are HasName users → Are IsUserInRange (users_from rounds users drawn)
+users_are : (rounds : ℕ) (users : List WrittenUser) (drawn : List ℕ) → AreRounds rounds → Are IsUser users → Are IsUserInRange (users_from rounds users drawn)
 unfolding users_from
 users_are rounds [] drawn many are = tt
 users_are rounds (user ∷ users) drawn many are =
-    ((are.0, password_is rounds user.password (take 16 drawn) many), users_are rounds users _ many are.1)
+    ((are.0.0, row_is rounds user.password (take 16 drawn) many are.0.1), users_are rounds users _ many are.1)
 
 pub opens_in_range : OpensInRange
 opens_in_range text held drawn opening opens =

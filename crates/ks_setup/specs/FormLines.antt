@@ -42,8 +42,9 @@ row_wanted path =
     if ends path (codes ".name") then codes "a text of 1 to 255 bytes" else
     (if ends path (codes ".description") then codes "a text of at most 4096 bytes" else
     (if ends path (codes ".password") then codes "a text of 1 to 4096 bytes" else
+    (if ends path (codes ".password_record") then codes "a text pbkdf2_sha256$ROUNDS$SALT$DIGEST in place of a password" else
     (if ends path (codes ".enabled") then codes "true or false" else
-    (if ends path (codes ".inherited") then codes "true or false, and not true on the system," else id_wanted path))))
+    (if ends path (codes ".inherited") then codes "true or false, and not true on the system," else id_wanted path)))))
 
 abbrev pub service_wanted : List ℕ → List ℕ
 service_wanted path =

@@ -1,5 +1,6 @@
 pub mod Words
 pub mod Entries
+pub mod Records
 pub mod Written
 pub mod Openings
 pub mod Spots

@@ -1,5 +1,5 @@
 -- What an opening file opens with. Its form is tested first, then its policy, then its keys; then the passwords are derived.
-use Rattle.std.specs.Prelude.{◌≡◌, ◌⊎◌, ◌≤◌, ◌<◌, ℕ, suc, ◌+◌, ◌*◌, Bool, if◌then◌else◌, List, [], ◌∷◌, ◌++◌, length, take, drop, replicate, Option, Some, None, is_some, Result, Ok, Err, unwrap_or, codes, decimal}
+use Rattle.std.specs.Prelude.{◌≡◌, ◌⊎◌, ◌≤◌, ◌<◌, ℕ, suc, ◌+◌, ◌*◌, Bool, true, false, if◌then◌else◌, List, [], ◌∷◌, ◌++◌, length, take, drop, replicate, Option, Some, None, Result, Ok, Err, unwrap_or, codes, decimal}
 use Rattle.serde_json.specs.Data.{Data, object, no_members}
 use Rattle.serde_json.specs.Find.{get}
 use Rattle.ks_base.specs.declared.key.Key.{Key}
@@ -23,6 +23,8 @@ use Rattle.ks_setup.specs.declared.opening.OpeningFault.TheVariants.{Shape, Poli
 use Rattle.ks_setup.specs.declared.written.KeysFrom.{KeysFrom}
 use Rattle.ks_setup.specs.declared.written.KeysFrom.TheVariants.{Folder, File}
 use Rattle.ks_setup.specs.declared.written.Written.{Written}
+use Rattle.ks_setup.specs.declared.written.WrittenPassword.{WrittenPassword}
+use Rattle.ks_setup.specs.declared.written.WrittenPassword.TheVariants.{Plain, Record}
 use Rattle.ks_setup.specs.declared.written.WrittenUser.{WrittenUser}
 use Rattle.ks_setup.specs.Written.{document_of, file_of, folder_wanted}
 
@@ -65,26 +67,37 @@ IsBadKey (File texts) path = (at : ℕ) × IsFirstBad 0 texts at × (path ≡ ba
 
 -- the users
 
--- how many users have a password
+-- a plain password is still to be derived
+abbrev pub is_plain : Option WrittenPassword → Bool
+is_plain None = false
+is_plain (Some (Plain password)) = true
+is_plain (Some (Record row)) = false
+
+-- how many users have a plain password
 abbrev pub passwords : List WrittenUser → ℕ
 passwords [] = 0
-passwords (user ∷ users) = if is_some user.password then suc (passwords users) else passwords users
+passwords (user ∷ users) = if is_plain user.password then suc (passwords users) else passwords users
 
-abbrev pub password_row : ℕ → Option (List ℕ) → List ℕ → Option PasswordRow
+-- what is kept of a password, by so many rounds with this salt
+abbrev pub derived_row : ℕ → List ℕ → List ℕ → PasswordRow
+derived_row rounds password salt = record { salt = salt; rounds = rounds; digest = pbkdf2_of password salt rounds }
+
+-- a record is kept as it is
+abbrev pub password_row : ℕ → Option WrittenPassword → List ℕ → Option PasswordRow
 password_row rounds None salt = None
-password_row rounds (Some password) salt =
-    Some (record { salt = salt; rounds = rounds; digest = pbkdf2_of password salt rounds })
+password_row rounds (Some (Plain password)) salt = Some (derived_row rounds password salt)
+password_row rounds (Some (Record row)) salt = Some row
 
 abbrev pub user_row : WrittenUser → Option PasswordRow → UserRow
 user_row user password =
     record { id = user.id; domain = user.domain; name = user.name; enabled = user.enabled; password = password }
 
--- each password is derived with the next 16 of the drawn bytes
+-- each plain password is derived with the next 16 of the drawn bytes
 unfoldable pub users_from : ℕ → List WrittenUser → List ℕ → List UserRow
 users_from rounds [] drawn = []
 users_from rounds (user ∷ users) drawn =
     user_row user (password_row rounds user.password (take 16 drawn))
-    ∷ users_from rounds users (if is_some user.password then drop 16 drawn else drawn)
+    ∷ users_from rounds users (if is_plain user.password then drop 16 drawn else drawn)
 
 -- the opening
 

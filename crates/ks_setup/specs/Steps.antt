@@ -5,9 +5,7 @@ use Rattle.ks_base.specs.declared.key.Key.{Key}
 use Rattle.ks_base.specs.declared.limits.TheConstants.{KEYS}
 use Rattle.ks_base.specs.declared.shapes.ShapeRefusal.{ShapeRefusal}
 use Rattle.ks_base.specs.declared.shapes.ShapeRefusal.TheVariants as refusal
-use Rattle.ks_base.specs.declared.users.PasswordRow.{PasswordRow}
 use Rattle.ks_base.specs.declared.users.UserRow.{UserRow}
-use Rattle.ks_hmac.specs.Pbkdf2.{pbkdf2_of}
 use Rattle.ks_outside.specs.Counts.{Rose}
 use Rattle.ks_outside.specs.Desks.{DeskState}
 use Rattle.ks_machine.specs.Openings.{NamedRule}
@@ -26,6 +24,8 @@ use Rattle.ks_setup.specs.declared.opening.OpeningFault.TheVariants.{Shape, Poli
 use Rattle.ks_setup.specs.declared.written.KeysFrom.{KeysFrom}
 use Rattle.ks_setup.specs.declared.written.KeysFrom.TheVariants.{Folder, File}
 use Rattle.ks_setup.specs.declared.written.Written.{Written}
+use Rattle.ks_setup.specs.declared.written.WrittenPassword.{WrittenPassword}
+use Rattle.ks_setup.specs.declared.written.WrittenPassword.TheVariants.{Plain, Record}
 use Rattle.ks_setup.specs.declared.written.WrittenUser.{WrittenUser}
 use Rattle.ks_setup.specs.Openings.{AreKeys, Drew, FallsShort, HasBadKey, HasPolicy, IsBadKey, IsFirstBad, IsFormed, IsRing, LoadsPolicy, bad_key_path, passwords, policy_in, users_from}
 use Rattle.ks_setup.specs.Written.{file_of, written_in}
@@ -96,12 +96,10 @@ Checks text held (Err Memory) = Unit {0}
 -- passwords
 
 -- how many bytes are drawn for a password
-abbrev pub bytes_for : Option (List ℕ) → ℕ
+abbrev pub bytes_for : Option WrittenPassword → ℕ
 bytes_for None = 0
-bytes_for (Some password) = 16
-
-abbrev pub derived_row : ℕ → List ℕ → List ℕ → PasswordRow
-derived_row rounds password salt = record { salt = salt; rounds = rounds; digest = pbkdf2_of password salt rounds }
+bytes_for (Some (Plain password)) = 16
+bytes_for (Some (Record row)) = 0
 
 -- so many bytes were drawn, and this was made of them; or the one fill failed, and none were drawn
 abbrev pub Draws : {Link A F : Type 0} → ℕ → (List ℕ → A) → DeskState Link → DeskState Link → Result A F → Type 0

@@ -7,10 +7,10 @@ use Rattle.std.specs.Str.{bytes_eq}
 use Rattle.std.specs.Str.Parse.{digits_value, without_leading_plus}
 use Rattle.clap.specs.Kinds.{Kinds}
 use Rattle.clap.specs.Words.{App, Row, Rule, fault_of, first_of, matches_of, new_app, new_rule, with_rule}
-use Rattle.ks_base.specs.declared.limits.TheConstants.{KEYS, FEWEST_KEYS, DEFAULT_KEYS, WORKERS, DEFAULT_WORKERS, CONNECTIONS}
+use Rattle.ks_base.specs.declared.limits.TheConstants.{KEYS, FEWEST_KEYS, DEFAULT_KEYS, WORKERS, DEFAULT_WORKERS, CONNECTIONS, ROUNDS, DEFAULT_ROUNDS}
 use Rattle.ks_setup.specs.declared.words.Places.{Places}
 use Rattle.ks_setup.specs.declared.words.Words.{Words}
-use Rattle.ks_setup.specs.declared.words.Words.TheVariants.{Check, Talk, Serve, Setup, Rotate, Usage}
+use Rattle.ks_setup.specs.declared.words.Words.TheVariants.{Check, Talk, Serve, Setup, Rotate, Password, Usage}
 
 -- the word begins with `-`
 abbrev pub is_dashed : List ℕ → Bool
@@ -132,14 +132,23 @@ abbrev pub connections_said : Option (List ℕ) → Option ℕ
 connections_said None = Some 0
 connections_said (Some word) = number_between 0 CONNECTIONS word
 
+abbrev pub password_app : App
+password_app = with_rule (new_app (codes "password")) (valued_word (codes "rounds"))
+
+-- by how many rounds a password is derived: 10,000 where nothing is said
+abbrev pub rounds_said : Option (List ℕ) → Option ℕ
+rounds_said None = Some DEFAULT_ROUNDS
+rounds_said (Some word) = number_between 1 ROUNDS word
+
 -- the numbers that a command was told: a rotation leaves from 2 to 32 keys; from 1 to 32 workers serve, and
--- each is told of at most 1,000,000 connections
+-- each is told of at most 1,000,000 connections; a password is derived by 1 to 100,000 rounds
 abbrev pub IsInRange : Words → Type 0
 IsInRange (Rotate places max) = (FEWEST_KEYS ≤ max) × (max ≤ KEYS)
 IsInRange (Serve places connections) = (1 ≤ places.workers) × (places.workers ≤ WORKERS) × (connections ≤ CONNECTIONS)
 IsInRange Check = Unit {0}
 IsInRange (Talk places) = Unit {0}
 IsInRange (Setup places) = Unit {0}
+IsInRange (Password rounds) = (1 ≤ rounds) × (rounds ≤ ROUNDS)
 IsInRange Usage = Unit {0}
 
 -- the path of the opening file that a command names
@@ -149,6 +158,7 @@ file_in (Talk places) = places.file
 file_in (Serve places connections) = places.file
 file_in (Setup places) = None
 file_in (Rotate places max) = None
+file_in (Password rounds) = None
 file_in Usage = None
 
 -- the path of the folder that a command names
@@ -158,6 +168,7 @@ folder_in (Talk places) = places.folder
 folder_in (Serve places connections) = places.folder
 folder_in (Setup places) = places.folder
 folder_in (Rotate places max) = places.folder
+folder_in (Password rounds) = None
 folder_in Usage = None
 
 -- the address to listen at that a command names
@@ -167,6 +178,7 @@ address_in (Talk places) = None
 address_in (Serve places connections) = places.address
 address_in (Setup places) = None
 address_in (Rotate places max) = None
+address_in (Password rounds) = None
 address_in Usage = None
 
 -- the path of the log of requests that a command names
@@ -176,6 +188,7 @@ log_in (Talk places) = None
 log_in (Serve places connections) = places.log
 log_in (Setup places) = None
 log_in (Rotate places max) = None
+log_in (Password rounds) = None
 log_in Usage = None
 
 abbrev pub rotated_with : Option (List ℕ) → Option ℕ → Words
@@ -200,8 +213,15 @@ serve = record {
       (workers_said (first_of (codes "workers") rows)) (connections_said (first_of (codes "connections") rows));
 }
 
+abbrev pub derived_by : Option ℕ → Words
+derived_by None = Usage
+derived_by (Some rounds) = Password rounds
+
+abbrev pub password : Form
+password = record { app = password_app; meaning = λ rows. derived_by (rounds_said (first_of (codes "rounds") rows)) }
+
 abbrev pub forms : List Form
-forms = check ∷ talk ∷ setup ∷ rotate ∷ serve ∷ []
+forms = check ∷ talk ∷ setup ∷ rotate ∷ serve ∷ password ∷ []
 
 -- what the words of a command mean
 unfoldable pub read_by : Form → List (List ℕ) → Words

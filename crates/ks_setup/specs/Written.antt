@@ -1,7 +1,7 @@
 -- What an opening file says, apart from its policy. Its members, the entries of each list and the fields of each entry are
 -- read in the order in which they stand here, and the first fault is the file's. Null counts as absent for a member of the
 -- file and for a field that is not needed.
-use Rattle.std.specs.Prelude.{ℕ, ◌==◌, ◌&&◌, ◌||◌, Bool, true, false, nat_lt, nat_le, List, [], ◌∷◌, length, Option, Some, None, Result, Ok, Err, codes, unwrap_or}
+use Rattle.std.specs.Prelude.{ℕ, ◌==◌, ◌&&◌, ◌||◌, Bool, true, false, nat_lt, nat_le, List, [], ◌∷◌, length, Option, Some, None, option_map, Result, Ok, Err, codes, unwrap_or}
 use Rattle.std.specs.List.{list_all, starts_with}
 use Rattle.std.specs.Str.{bytes_eq}
 use Rattle.serde_json.specs.Data.{Data, Items}
@@ -23,6 +23,7 @@ use Rattle.ks_base.specs.declared.rows.RoleRow.{RoleRow}
 use Rattle.ks_base.specs.declared.shapes.ShapeFault.{ShapeFault}
 use Rattle.ks_base.specs.declared.shapes.ShapeFault.TheVariants as fault
 use Rattle.ks_base.specs.declared.users.MemberRow.{MemberRow}
+use Rattle.ks_base.specs.declared.users.PasswordRow.{PasswordRow}
 use Rattle.ks_base.specs.Results.{found, need, ◌>>=◌}
 use Rattle.ks_machine.specs.declared.settings.Settings.{Settings}
 use Rattle.ks_shape.specs.declared.misfit.Misfit.TheVariants as misfit
@@ -33,8 +34,11 @@ use Rattle.ks_shape.specs.Types.{affirmation, any_text, count_of, description_te
 use Rattle.ks_setup.specs.declared.written.KeysFrom.{KeysFrom}
 use Rattle.ks_setup.specs.declared.written.KeysFrom.TheVariants as keys
 use Rattle.ks_setup.specs.declared.written.Written.{Written}
+use Rattle.ks_setup.specs.declared.written.WrittenPassword.{WrittenPassword}
+use Rattle.ks_setup.specs.declared.written.WrittenPassword.TheVariants as password
 use Rattle.ks_setup.specs.declared.written.WrittenUser.{WrittenUser}
 use Rattle.ks_setup.specs.Entries.{Entry, entries, entries_from, listed}
+use Rattle.ks_setup.specs.Records.{record_in}
 
 -- settings
 
@@ -141,13 +145,43 @@ project_in entry = do
     enabled = unwrap_or enabled true;
   })
 
+-- no value fits a field that may not be given
+abbrev pub nothing : FieldType (Unit {0})
+nothing value = Err misfit.Range
+
+-- nothing stands there, or null
+unfoldable pub absent : List (List ℕ) → Place → Result (Unit {0}) ShapeFault
+absent names entry = do
+  _ ← optional nothing names entry
+  Ok tt
+
+-- a plain password, or the record of one, or neither
+
+unfoldable pub password_record : FieldType PasswordRow
+password_record value = do
+  text ← any_text value
+  record_in text
+
+abbrev pub plain_or_record : Option (List ℕ) → Entry (Option WrittenPassword)
+plain_or_record (Some plain) entry = do
+  _ ← absent (names (codes "password_record")) entry
+  Ok (Some (password.Plain plain))
+plain_or_record None entry = do
+  row ← optional password_record (names (codes "password_record")) entry
+  Ok (option_map password.Record row)
+
+unfoldable pub password_in : Entry (Option WrittenPassword)
+password_in entry = do
+  plain ← optional password_text (names (codes "password")) entry
+  plain_or_record plain entry
+
 unfoldable pub user_in : Entry WrittenUser
 user_in entry = do
   id ← needed id_text (names (codes "id")) entry
   domain ← needed id_text (names (codes "domain_id")) entry
   name ← needed name_text (names (codes "name")) entry
   enabled ← optional truth (names (codes "enabled")) entry
-  password ← optional password_text (names (codes "password")) entry
+  password ← password_in entry
   Ok (record { id = id; domain = domain; name = name; enabled = unwrap_or enabled true; password = password })
 
 unfoldable pub group_in : Entry GroupRow
@@ -215,16 +249,6 @@ endpoint_in entry = do
     url = url;
     enabled = unwrap_or enabled true;
   })
-
--- no value fits a field that may not be given
-abbrev pub nothing : FieldType (Unit {0})
-nothing value = Err misfit.Range
-
--- nothing stands there, or null
-unfoldable pub absent : List (List ℕ) → Place → Result (Unit {0}) ShapeFault
-absent names entry = do
-  _ ← optional nothing names entry
-  Ok tt
 
 -- exactly one of a user and a group; where neither is given, the user is needed
 

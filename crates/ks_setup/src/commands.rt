@@ -1,11 +1,13 @@
 ghost use Rattle.std.specs.Prelude.{◌≡◌, IfOk, codes, map, option_map};
 ghost use Rattle.clap.specs.Words.{app_of, first_value, found_of};
-ghost use Rattle.ks_setup.specs.Words.{check, check_app, connections_said, folder_places, max_said, number_between, places_app, read_by, rotate, rotate_app, serve, serve_app, serve_places, setup, setup_app, talk, talk_app, workers_said};
+ghost use Rattle.ks_setup.specs.Words.{check, check_app, connections_said, folder_places, max_said, number_between, password, password_app, places_app, read_by, rotate, rotate_app, rounds_said, serve, serve_app, serve_places, setup, setup_app, talk, talk_app, workers_said};
 
 use crate::reader::parsed;
 use crate::words::{Places, Words};
 use clap::{Arg, ArgMatches, Command};
-use ks_base::limits::{CONNECTIONS, DEFAULT_KEYS, DEFAULT_WORKERS, FEWEST_KEYS, KEYS, WORKERS};
+use ks_base::limits::{
+    CONNECTIONS, DEFAULT_KEYS, DEFAULT_ROUNDS, DEFAULT_WORKERS, FEWEST_KEYS, KEYS, ROUNDS, WORKERS,
+};
 use ks_base::{Memory, Text};
 use std::alloc::{AllocError, Global};
 
@@ -173,7 +175,7 @@ fn serve_places(alloc: Global, matches: &ArgMatches<'_>, workers: u32) -> Result
 }
 
 /// The number within these bounds that a word writes.
-fn number_between(word: &str, least: u32, most: u32) -> Option<u32>
+pub(crate) fn number_between(word: &str, least: u32, most: u32) -> Option<u32>
     ensures { result ≡ number_between least most word.now }
 {
     let Ok(number) = word.parse::<u32>() else {
@@ -206,5 +208,34 @@ fn text_of(alloc: Global, matches: &ArgMatches<'_>, id: &str) -> Result<Option<T
     match matches.get_str(id) {
         Some(text) => Ok(Some(Text::of(alloc, text)?)),
         None => Ok(None),
+    }
+}
+
+/// `password [--rounds N]`.
+pub(crate) fn read_password(alloc: Global, words: &[&str]) -> Result<Words, Memory>
+    ensures { IfOk result (λ read. read ≡ read_by password (map (λ word. word.now) words.now)) }
+{
+    let Some(matches) = parsed(password_command(alloc)?, words)? else {
+        return Ok(Words::Usage);
+    };
+    match rounds_of(&matches) {
+        Some(rounds) => Ok(Words::Password(rounds)),
+        None => Ok(Words::Usage),
+    }
+}
+
+fn password_command<'a>(alloc: Global) -> Result<Command<'a>, AllocError>
+    ensures { IfOk result (λ command. app_of command ≡ password_app) }
+{
+    Command::new(alloc, "password").arg(Arg::new(alloc, "rounds").long("rounds"))
+}
+
+/// By how many rounds a password is to be derived.
+fn rounds_of(matches: &ArgMatches<'_>) -> Option<u32>
+    ensures { result ≡ rounds_said (first_value (found_of matches.now) (codes "rounds")) }
+{
+    match matches.get_str("rounds") {
+        Some(word) => number_between(word, 1, ROUNDS),
+        None => Some(DEFAULT_ROUNDS),
     }
 }

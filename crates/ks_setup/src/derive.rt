@@ -1,9 +1,9 @@
 ghost use Rattle.std.specs.Prelude.{◌≡◌, ◌≤◌, take};
-ghost use Rattle.ks_setup.specs.Openings.{password_row, user_row};
-ghost use Rattle.ks_setup.specs.Steps.{Derives, Draws, bytes_for, derived_row};
+ghost use Rattle.ks_setup.specs.Openings.{derived_row, password_row, user_row};
+ghost use Rattle.ks_setup.specs.Steps.{Derives, Draws, bytes_for};
 ghost use Rattle.ks_setup.specs.declared.derive.DeriveFault.TheVariants.{Random, Memory};
 
-use crate::written::WrittenUser;
+use crate::written::{WrittenPassword, WrittenUser};
 use ks_base::{ListOf, PasswordRow, Text, UserList, UserRow};
 use ks_machine::Derived;
 use ks_outside::{Desk, Failed};
@@ -42,7 +42,7 @@ impl<T: Drop> From<AllocFailed<T>> for DeriveFault {
     }
 }
 
-/// The rows of users, each password derived with the next random bytes of the desk as its salt.
+/// The rows of users, each plain password derived with the next random bytes of the desk as its salt.
 pub(crate) fn derive_users<P: Desk>(
     alloc: Global,
     rounds: u32,
@@ -74,7 +74,7 @@ fn derive_user<P: Desk>(rounds: u32, user: WrittenUser, desk: &mut P) -> Result<
         enabled,
         password,
     } = user;
-    let password = derive_if_given(rounds, password, desk)?;
+    let password = derive_if_plain(rounds, password, desk)?;
     Ok(UserRow {
         id,
         domain,
@@ -84,10 +84,10 @@ fn derive_user<P: Desk>(rounds: u32, user: WrittenUser, desk: &mut P) -> Result<
     })
 }
 
-/// A user without a password draws nothing.
-fn derive_if_given<P: Desk>(
+/// A user without a plain password draws nothing.
+fn derive_if_plain<P: Desk>(
     rounds: u32,
-    password: Option<Text>,
+    password: Option<WrittenPassword>,
     desk: &mut P,
 ) -> Result<Option<PasswordRow>, Failed>
     requires at_least_one { 1 ≤ rounds }
@@ -96,13 +96,20 @@ fn derive_if_given<P: Desk>(
         (P.desk desk.old) (P.desk desk.new) result }
 {
     match password {
-        Some(password) => Ok(Some(derive(rounds, password, desk)?)),
+        Some(WrittenPassword::Plain(password)) => Ok(Some(derive_password(
+            rounds, password, desk,
+        )?)),
+        Some(WrittenPassword::Record(row)) => Ok(Some(row)),
         None => Ok(None),
     }
 }
 
-/// What is kept of a password. The password itself is not.
-fn derive<P: Desk>(rounds: u32, password: Text, desk: &mut P) -> Result<PasswordRow, Failed>
+/// What is kept of a password, with 16 random bytes of the desk as its salt. The password itself is not.
+pub fn derive_password<P: Desk>(
+    rounds: u32,
+    password: Text,
+    desk: &mut P,
+) -> Result<PasswordRow, Failed>
     requires at_least_one { 1 ≤ rounds }
     requires limited { rounds ≤ 100_000 }
     ensures { Draws 16 (λ salt. derived_row rounds password salt) (P.desk desk.old) (P.desk desk.new) result }

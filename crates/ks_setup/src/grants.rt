@@ -10,7 +10,7 @@ use std::alloc::Global;
 
 /// Refuses what stands beside the field that is given.
 #[tactic(auto, using(ks_shape::proofs::RefusalLemmas::refused), unfolding(crate::specs::Written::absent, ks_shape::specs::Fields::optional))]
-fn absent(entry: &Node, names: &[&str]) -> Result<(), ShapeRefusal>
+pub(crate) fn absent(entry: &Node, names: &[&str]) -> Result<(), ShapeRefusal>
     ensures { Reads result (absent (names_in names.now) (place_of entry.now)) }
 {
     match entry.optional_value(names)? {

@@ -2,9 +2,10 @@
 //! does nothing.
 ghost use Rattle.std.specs.Prelude.{◌≡◌, ◌↔◌, ℕ, List, [], ◌∷◌, false, Some, codes};
 ghost use Rattle.ks_setup.specs.Ranges.{OpensInRange};
+ghost use Rattle.ks_setup.specs.Records.{RecordsAreRead};
 ghost use Rattle.ks_setup.specs.Words.{folder_places, is_dashed, serve_places, talk_places, words_of};
 ghost use Rattle.ks_setup.specs.declared.words.Places.{Places};
-ghost use Rattle.ks_setup.specs.declared.words.Words.TheVariants.{Check, Talk, Serve, Setup, Rotate};
+ghost use Rattle.ks_setup.specs.declared.words.Words.TheVariants.{Check, Talk, Serve, Setup, Rotate, Password};
 
 /// `check` is given by the one word `check` alone.
 pub fn check_is_one_word()
@@ -40,7 +41,17 @@ pub fn serve_has_four_workers()
         → words_of (codes "serve" ∷ file ∷ folder ∷ address ∷ []) ≡ Serve (serve_places (Some file) (Some folder) (Some address) None 4) 0 }
 {}
 
+/// `password` alone derives by 10,000 rounds.
+pub fn password_has_ten_thousand_rounds()
+    ensures { words_of (codes "password" ∷ []) ≡ Password 10_000 }
+{}
+
 /// The settings and rows of each opening are in range.
 pub fn openings_are_in_range()
     ensures { OpensInRange }
+{}
+
+/// What is written of a password's record is read as that record.
+pub fn records_are_read()
+    ensures { RecordsAreRead }
 {}

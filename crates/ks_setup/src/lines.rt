@@ -17,6 +17,7 @@ use crate::opening::OpeningFault;
 use crate::written::Written;
 use ks_base::{Memory, ShapeRefusal, Text};
 use ks_machine::OpenFault;
+pub(crate) use spot::joined;
 use std::alloc::Global;
 
 /// What is wrong with the form, the policy or the keys of an opening file, behind the path of the place where it is, as

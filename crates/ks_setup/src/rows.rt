@@ -2,14 +2,14 @@ ghost use Rattle.std.specs.Prelude.{◌≡◌, IfOk, unwrap_or};
 ghost use Rattle.ks_setup.specs.Written.{domain_in, endpoint_in, group_in, implication_in, key_in, member_in, project_in, region_in, role_in, service_in, user_in};
 
 use crate::entries::Entry;
+use crate::password::written_password;
 use crate::written::WrittenUser;
 use ks_base::{
     DomainRow, EndpointRow, GroupRow, ImplyRow, MemberRow, Memory, ProjectRow, RegionRow, RoleRow,
     ServiceRow, ShapeRefusal, Text,
 };
 use ks_shape::{
-    AnyText, DESCRIPTION, ENDPOINT_URL, IdText, InterfaceWord, NAME, Node, PASSWORD, SERVICE_TEXT,
-    Truth,
+    AnyText, DESCRIPTION, ENDPOINT_URL, IdText, InterfaceWord, NAME, Node, SERVICE_TEXT, Truth,
 };
 use std::alloc::Global;
 
@@ -82,7 +82,7 @@ impl Entry for WrittenUser {
         let domain = entry.needed(&["domain_id"], &IdText)?;
         let name = entry.needed(&["name"], &NAME)?;
         let enabled = entry.optional(&["enabled"], &Truth)?;
-        let password = entry.optional(&["password"], &PASSWORD)?;
+        let password = written_password(entry)?;
         Ok(WrittenUser {
             id,
             domain,

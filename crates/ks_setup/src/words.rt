@@ -1,7 +1,7 @@
 ghost use Rattle.std.specs.Prelude.{◌≡◌, IfOk, map, option_copied};
 ghost use Rattle.ks_setup.specs.Words.{IsInRange, address_in, file_in, folder_in, log_in, words_of};
 
-use crate::commands::{read_check, read_rotate, read_serve, read_setup, read_talk};
+use crate::commands::{read_check, read_password, read_rotate, read_serve, read_setup, read_talk};
 use ks_base::{Memory, Text};
 use std::alloc::{AllocError, Global};
 
@@ -49,6 +49,9 @@ pub enum Words {
     /// `rotate FOLDER [--max N]`: the keys of a folder are rotated, and at most N of them are left, from 2
     /// to 32. Where N is not said it is 3, as in Keystone.
     Rotate(Places, u32),
+    /// `password [--rounds N]`: the record of a password is made, derived by so many rounds, from 1 to 100,000;
+    /// where that is not said there are 10,000.
+    Password(u32),
     /// The words are no command's.
     Usage,
 }
@@ -64,6 +67,7 @@ impl Words {
             Words::Check => None,
             Words::Setup(_) => None,
             Words::Rotate(_, _) => None,
+            Words::Password(_) => None,
             Words::Usage => None,
         }
     }
@@ -78,6 +82,7 @@ impl Words {
             Words::Setup(places) => places.folder.as_ref(),
             Words::Rotate(places, _) => places.folder.as_ref(),
             Words::Check => None,
+            Words::Password(_) => None,
             Words::Usage => None,
         }
     }
@@ -92,6 +97,7 @@ impl Words {
             Words::Talk(_) => None,
             Words::Setup(_) => None,
             Words::Rotate(_, _) => None,
+            Words::Password(_) => None,
             Words::Usage => None,
         }
     }
@@ -106,6 +112,7 @@ impl Words {
             Words::Talk(_) => None,
             Words::Setup(_) => None,
             Words::Rotate(_, _) => None,
+            Words::Password(_) => None,
             Words::Usage => None,
         }
     }
@@ -140,6 +147,9 @@ pub fn read_words(alloc: Global, words: &[Text]) -> Result<Words, Memory>
     }
     if *name == "serve" {
         return read_serve(alloc, words);
+    }
+    if *name == "password" {
+        return read_password(alloc, words);
     }
     Ok(Words::Usage)
 }

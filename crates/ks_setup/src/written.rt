@@ -1,6 +1,6 @@
 use ks_base::{
-    DomainList, EndpointList, GrantList, GroupList, Id, ImplyList, ListOf, MemberList, ProjectList,
-    RegionList, RoleList, Row, ServiceList, Text, TextList,
+    DomainList, EndpointList, GrantList, GroupList, Id, ImplyList, ListOf, MemberList, PasswordRow,
+    ProjectList, RegionList, RoleList, Row, ServiceList, Text, TextList,
 };
 use ks_machine::Settings;
 
@@ -13,14 +13,23 @@ pub enum KeysFrom {
     File(TextList),
 }
 
-/// A user as an opening file has it: with the plain password.
+/// What an opening file has of a password.
+#[derive(Drop)]
+pub enum WrittenPassword {
+    /// The plain password.
+    Plain(Text),
+    /// What is kept of it.
+    Record(PasswordRow),
+}
+
+/// A user as an opening file has it.
 #[derive(Drop)]
 pub struct WrittenUser {
     pub id: Id,
     pub domain: Id,
     pub name: Text,
     pub enabled: bool,
-    pub password: Option<Text>,
+    pub password: Option<WrittenPassword>,
 }
 
 impl Row for WrittenUser {

@@ -16,6 +16,8 @@ const ACTOR: &str = "an id, of a user or else of a group,";
 
 const TARGET: &str = "an id, of a project or else of a domain, or else \"system\": true,";
 
+const RECORD: &str = "a text pbkdf2_sha256$ROUNDS$SALT$DIGEST in place of a password";
+
 const SERVICE_TEXT: &str = "a text of at most 255 bytes";
 
 fn begins(path: &[u8], front: &[u8]) -> bool
@@ -79,6 +81,9 @@ fn row_wanted(path: &[u8]) -> &'static str
     }
     if ends(path, b".password") {
         return "a text of 1 to 4096 bytes";
+    }
+    if ends(path, b".password_record") {
+        return RECORD;
     }
     if ends(path, b".enabled") {
         return "true or false";

@@ -2,7 +2,7 @@ use Rattle.std.proofs.Common.{ℕ, List, ◌∙◌, ap, rules}
 use Rattle.ks_base.specs.declared.users.PasswordRow.{PasswordRow}
 use Rattle.ks_machine.specs.Derivations.{Derivation}
 use Rattle.ks_setup.proofs.DrawLemmas.{drew_piece}
-use Rattle.ks_setup.proofs.derive.derive.Goals as goal
+use Rattle.ks_setup.proofs.derive.derive_password.Goals as goal
 
 pub returns : goal.returns
 returns g c =
