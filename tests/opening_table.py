@@ -4,11 +4,13 @@
     tests/opening_table.py
 
 The tables are `opening_lines`, `command_words` and `no_texts` in crates/ks_run_cases/data, whose README.txt says what they hold.
-Beside these, each list of an opening file is given one row more than may stand, the shorter ones also as many as may stand, and
-the system gives no random bytes. The program is
+Beside these, each list of an opening file is given one row more than may stand, the shorter ones also as many as may stand, the
+system gives no random bytes, and an opening file has the record of a password that the program made. The program is
 bin/ks of this repository; the environment's KS names another. The exit status is 1 where it ends or answers otherwise.
 """
 
+import base64
+import hashlib
 import json
 import os
 import re
@@ -23,7 +25,7 @@ TOP = os.path.dirname(os.path.dirname(os.path.abspath(__file__)))
 KS = os.path.abspath(os.environ.get("KS") or os.path.join(TOP, "bin", "ks"))
 DATA = os.path.join(TOP, "crates", "ks_run_cases", "data")
 
-USAGE = "usage: ks check | ks talk FILE FOLDER | ks serve FILE FOLDER ADDRESS [--workers N] [--connections N] [--log FILE] | ks setup FOLDER | ks rotate FOLDER [--max N]"
+USAGE = "usage: ks check | ks talk FILE FOLDER | ks serve FILE FOLDER ADDRESS [--workers N] [--connections N] [--log FILE] | ks setup FOLDER | ks rotate FOLDER [--max N] | ks password [--rounds N]"
 NOT_JSON = b'{"error":{"code":400,"message":"The body is not JSON.","title":"Bad Request"}}'
 NAMES = {name.decode(): text for name, text in rows(os.path.join(DATA, "parts.txt"))}
 
@@ -135,6 +137,19 @@ def try_without_random(work):
     expect("no random bytes", run(["talk", "f", "keys"], work, tracer=tracer), (10, b"", "ks: there were no random bytes"))
 
 
+def try_record(work):
+    """A record of a password is PBKDF2 of it with the salt that the record names, and an opening file may hold it."""
+    status, record, said = run(["password", "--rounds", "1000"], work, b"secret\n")
+    parts = record.decode().removesuffix("\n").split("$")
+    salt = base64.b64decode(parts[2], validate=True) if len(parts) == 4 else b""
+    digest = base64.b64encode(hashlib.pbkdf2_hmac("sha256", b"secret", salt, 1000, 32)).decode()
+    expect("a record", (status, len(salt), parts, said), (0, 16, ["pbkdf2_sha256", "1000", base64.b64encode(salt).decode(), digest], ""))
+    other = run(["password", "--rounds", "1000"], work, b"secret\n")[1]
+    expect("the salt of another record", other != record, True)
+    user = {"id": "u", "domain_id": "default", "name": "U", "password_record": record.decode().removesuffix("\n")}
+    try_opening(work, json.dumps({"users": [user]}).encode(), "")
+
+
 # Words of the command line.
 
 
@@ -170,6 +185,7 @@ def main():
         lay_out(os.path.join(work, "keys"), {3: NAMES["staged"], 7: NAMES["primary"]})
         files = try_openings(work) + try_full(work)
         try_without_random(work)
+        try_record(work)
         try_bodies(work, requests)
     for case in words:
         try_words(*case)

@@ -16,7 +16,7 @@ wrong=0
 runs=0
 
 key=cw_0x689RpI-jtRR7oE8h_eQsKImvJapLeSbXpwF4e4=
-usage='usage: ks check | ks talk FILE FOLDER | ks serve FILE FOLDER ADDRESS [--workers N] [--connections N] [--log FILE] | ks setup FOLDER | ks rotate FOLDER [--max N]'
+usage='usage: ks check | ks talk FILE FOLDER | ks serve FILE FOLDER ADDRESS [--workers N] [--connections N] [--log FILE] | ks setup FOLDER | ks rotate FOLDER [--max N] | ks password [--rounds N]'
 
 # is STATUS OUTPUT LINE: the run before ended so, with its status in $status.
 is() {

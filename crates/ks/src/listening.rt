@@ -20,6 +20,7 @@ pub fn serving(command: &Words) -> Option<&Places> {
         Words::Talk(_) => None,
         Words::Setup(_) => None,
         Words::Rotate(_, _) => None,
+        Words::Password(_) => None,
         Words::Usage => None,
     }
 }

@@ -20,6 +20,7 @@ pub held_ends : (f : Fault) (bytes : List ℕ) (old new : Checker) → Holds byt
 held_ends (fault.BadLine n) bytes old new h = ((step_of-long old.place _ h.0, h.1, h.2), tt)
 held_ends fault.Memory bytes old new h = (h, tt)
 held_ends fault.Usage bytes old new h = absurd h
+held_ends fault.BadPassword bytes old new h = absurd h
 held_ends fault.Folder bytes old new h = absurd h
 held_ends (fault.Keys reason) bytes old new h = absurd h
 held_ends (fault.Opening reason) bytes old new h = absurd h
@@ -78,6 +79,7 @@ stands_line (Err (fault.BadLine n)) whole last rest old new written before h ins
 }
 stands_line (Err fault.Memory) whole last rest old new written before h inside ends = holds_front whole (last ++ 10 ∷ rest) old new written before h ends.0
 stands_line (Err fault.Usage) whole last rest old new written before h inside ends = absurd ends.0
+stands_line (Err fault.BadPassword) whole last rest old new written before h inside ends = absurd ends.0
 stands_line (Err fault.Folder) whole last rest old new written before h inside ends = absurd ends.0
 stands_line (Err (fault.Keys reason)) whole last rest old new written before h inside ends = absurd ends.0
 stands_line (Err (fault.Opening reason)) whole last rest old new written before h inside ends = absurd ends.0
@@ -107,6 +109,7 @@ stands_hold (Err (fault.BadLine n)) whole bytes old new written before h inside 
 }
 stands_hold (Err fault.Memory) whole bytes old new written before h inside held = holds_front whole bytes old new written before h held
 stands_hold (Err fault.Usage) whole bytes old new written before h inside held = absurd held
+stands_hold (Err fault.BadPassword) whole bytes old new written before h inside held = absurd held
 stands_hold (Err fault.Folder) whole bytes old new written before h inside held = absurd held
 stands_hold (Err (fault.Keys reason)) whole bytes old new written before h inside held = absurd held
 stands_hold (Err (fault.Opening reason)) whole bytes old new written before h inside held = absurd held
@@ -192,6 +195,7 @@ finish_line (Err (fault.BadLine n)) whole old new written before h inside long e
 }
 finish_line (Err fault.Memory) whole old new written before h inside long ends forward = holds_front whole [] old new written before h ends.0
 finish_line (Err fault.Usage) whole old new written before h inside long ends forward = absurd ends.0
+finish_line (Err fault.BadPassword) whole old new written before h inside long ends forward = absurd ends.0
 finish_line (Err fault.Folder) whole old new written before h inside long ends forward = absurd ends.0
 finish_line (Err (fault.Keys reason)) whole old new written before h inside long ends forward = absurd ends.0
 finish_line (Err (fault.Opening reason)) whole old new written before h inside long ends forward = absurd ends.0
@@ -206,6 +210,7 @@ pub moves_err : (f : Fault) (whole : List ℕ → Checked) (rest rest' : List �
 moves_err (fault.BadLine n) whole rest rest' checker written before h = h
 moves_err fault.Memory whole rest rest' checker written before h = h
 moves_err fault.Usage whole rest rest' checker written before h = absurd h
+moves_err fault.BadPassword whole rest rest' checker written before h = absurd h
 moves_err fault.Folder whole rest rest' checker written before h = absurd h
 moves_err (fault.Keys reason) whole rest rest' checker written before h = absurd h
 moves_err (fault.Opening reason) whole rest rest' checker written before h = absurd h
@@ -399,6 +404,7 @@ stops_at fault.Memory n piece text left left' old new written written' before r 
   holds = moves;
 }
 stops_at fault.Usage n piece text left left' old new written written' before r taken short behind moves = absurd moves
+stops_at fault.BadPassword n piece text left left' old new written written' before r taken short behind moves = absurd moves
 stops_at fault.Folder n piece text left left' old new written written' before r taken short behind moves = absurd moves
 stops_at (fault.Keys reason) n piece text left left' old new written written' before r taken short behind moves = absurd moves
 stops_at (fault.Opening reason) n piece text left left' old new written written' before r taken short behind moves = absurd moves
@@ -439,6 +445,7 @@ finishes (Err fault.Memory) piece text left left' old new written before r taken
   holds = ends;
 }
 finishes (Err fault.Usage) piece text left left' old new written before r taken behind ends = absurd ends
+finishes (Err fault.BadPassword) piece text left left' old new written before r taken behind ends = absurd ends
 finishes (Err fault.Folder) piece text left left' old new written before r taken behind ends = absurd ends
 finishes (Err (fault.Keys reason)) piece text left left' old new written before r taken behind ends = absurd ends
 finishes (Err (fault.Opening reason)) piece text left left' old new written before r taken behind ends = absurd ends
@@ -481,6 +488,7 @@ closes (Err fault.Memory) text before left written written' old new h wrote othe
 }
 closes (Err fault.Write) text before left written written' old new h wrote others = absurd (others refl)
 closes (Err fault.Usage) text before left written written' old new h wrote others = absurd h
+closes (Err fault.BadPassword) text before left written written' old new h wrote others = absurd h
 closes (Err fault.Folder) text before left written written' old new h wrote others = absurd h
 closes (Err (fault.Keys reason)) text before left written written' old new h wrote others = absurd h
 closes (Err (fault.Opening reason)) text before left written written' old new h wrote others = absurd h
@@ -534,6 +542,7 @@ closes_short (Err fault.Memory) failed text before left written written' old new
     }
 closes_short (Err fault.Write) failed text before left written written' old new h wrote others = absurd (others refl)
 closes_short (Err fault.Usage) failed text before left written written' old new h wrote others = absurd h
+closes_short (Err fault.BadPassword) failed text before left written written' old new h wrote others = absurd h
 closes_short (Err fault.Folder) failed text before left written written' old new h wrote others = absurd h
 closes_short (Err (fault.Keys reason)) failed text before left written written' old new h wrote others = absurd h
 closes_short (Err (fault.Opening reason)) failed text before left written written' old new h wrote others = absurd h

@@ -273,6 +273,7 @@ does_tell view stream (asked.Serve places connections) old new f state does = el
 ]
 does_tell view stream (asked.Setup places) old new f state does = absurd (cc does.1)
 does_tell view stream (asked.Rotate places max) old new f state does = absurd (cc does.1)
+does_tell view stream (asked.Password rounds) old new f state does = absurd (cc does.1)
 does_tell view stream asked.Usage old new f state does = absurd (cc does.2)
 
 -- wherever an identity was opened

@@ -71,6 +71,7 @@ setup_said random files before now (Ok done) drawn made says = (drawn, made.0, m
 setup_said random files before now (Err fault.Write) drawn made says = (drawn, made.0, made.1, says)
 setup_said random files before now (Err fault.Memory) drawn made says = (inr drawn, inr (made.0, inr (inl made.1)), says)
 setup_said random files before now (Err fault.Usage) drawn made says = absurd says
+setup_said random files before now (Err fault.BadPassword) drawn made says = absurd says
 setup_said random files before now (Err fault.Read) drawn made says = absurd says
 setup_said random files before now (Err (fault.BadLine n)) drawn made says = absurd says
 setup_said random files before now (Err fault.Folder) drawn made says = absurd says
@@ -118,6 +119,7 @@ rotation_said max random files before now indices (Err fault.Write) drawn made s
     (drawn, made.0, made.1, subst (λ l. HasBegun (keys_line l) before now.written) made.2 says)
 rotation_said max random files before now indices (Err fault.Memory) drawn made says = (inr drawn, rotated_stands (staged_from random) max files now.files made.0 made.1, says)
 rotation_said max random files before now indices (Err fault.Usage) drawn made says = absurd says
+rotation_said max random files before now indices (Err fault.BadPassword) drawn made says = absurd says
 rotation_said max random files before now indices (Err fault.Read) drawn made says = absurd says
 rotation_said max random files before now indices (Err (fault.BadLine n)) drawn made says = absurd says
 rotation_said max random files before now indices (Err fault.Folder) drawn made says = absurd says

@@ -21,7 +21,7 @@ use Rattle.ks_top.specs.declared.fault.Fault.{Fault}
 use Rattle.ks_top.specs.declared.fault.Fault.TheVariants as fault
 use Rattle.ks_top.specs.Identities.{Opened, Stopped}
 use Rattle.ks_top.specs.Laws.{CommandsComplete, ConnectionsComplete, DeskFaultsAreCounted, EndsUnfailed, IsCounted, IsUnfailed, NothingFailed, SomeAcceptRose, StoodStill, places_of}
-use Rattle.ks_top.specs.Runs.{ChangesKeys, Checks, Does, Runs}
+use Rattle.ks_top.specs.Runs.{ChangesKeys, Checks, Does, MakesRecord, Runs}
 use Rattle.ks_top.specs.Serve.{desk_fault, serving}
 use Rattle.ks_top.specs.Serve as serve
 use Rattle.ks_top.specs.Talk.{ServedOne, Talks, ending}
@@ -32,7 +32,7 @@ use Rattle.ks_top.specs.World.{World}
 unfailed_as : (f g : Option Fault) → f ≡ g → EndsUnfailed g → EndsUnfailed f
 unfailed_as f g is ends = subst EndsUnfailed (sym is) ends
 
--- `check`, `setup` and `rotate`
+-- `check`, `password`, `setup` and `rotate`
 
 check_unfailed : {Link Seat : Type 0} (view : Seat → Place Link) (old new : World Link Seat) (f : Option Fault) → Checks old new f → NothingFailed view old new → EndsUnfailed f
 check_unfailed view old new None checks nothing = tt
@@ -41,11 +41,26 @@ check_unfailed view old new (Some fault.Write) checks nothing = absurd (nothing.
 check_unfailed view old new (Some fault.Memory) checks nothing = inl refl
 check_unfailed view old new (Some (fault.BadLine n)) checks nothing = inr tt
 check_unfailed view old new (Some fault.Usage) checks nothing = absurd checks.causes
+check_unfailed view old new (Some fault.BadPassword) checks nothing = absurd checks.causes
 check_unfailed view old new (Some (fault.Opening reason)) checks nothing = absurd checks.causes
 check_unfailed view old new (Some (fault.State reason)) checks nothing = absurd checks.causes
 check_unfailed view old new (Some fault.Folder) checks nothing = absurd checks.causes
 check_unfailed view old new (Some (fault.Keys reason)) checks nothing = absurd checks.causes
 check_unfailed view old new (Some fault.Desk) checks nothing = absurd checks.causes
+
+password_unfailed : {Link Seat : Type 0} (view : Seat → Place Link) (rounds : ℕ) (old new : World Link Seat) (f : Option Fault) → MakesRecord rounds old new f → NothingFailed view old new → EndsUnfailed f
+password_unfailed view rounds old new None makes nothing = tt
+password_unfailed view rounds old new (Some fault.Read) makes nothing = absurd (nothing.input (makes.reads.reads.rose refl))
+password_unfailed view rounds old new (Some fault.Write) makes nothing = absurd (nothing.output (makes.writes.writes.rose refl))
+password_unfailed view rounds old new (Some fault.Memory) makes nothing = inl refl
+password_unfailed view rounds old new (Some fault.BadPassword) makes nothing = inr tt
+password_unfailed view rounds old new (Some fault.Desk) makes nothing = absurd (nothing.fills (makes.draws.rose refl))
+password_unfailed view rounds old new (Some (fault.BadLine n)) makes nothing = absurd makes.causes
+password_unfailed view rounds old new (Some fault.Usage) makes nothing = absurd makes.causes
+password_unfailed view rounds old new (Some (fault.Opening reason)) makes nothing = absurd makes.causes
+password_unfailed view rounds old new (Some (fault.State reason)) makes nothing = absurd makes.causes
+password_unfailed view rounds old new (Some fault.Folder) makes nothing = absurd makes.causes
+password_unfailed view rounds old new (Some (fault.Keys reason)) makes nothing = absurd makes.causes
 
 keys_unfailed : {Link Seat : Type 0} (view : Seat → Place Link) (old new : World Link Seat) (f : Option Fault) → ChangesKeys old new f → NothingFailed view old new → EndsUnfailed f
 keys_unfailed view old new None changes nothing = tt
@@ -61,6 +76,7 @@ keys_unfailed view old new (Some (fault.Keys (keys.BadKey index))) changes nothi
 keys_unfailed view old new (Some (fault.Keys keys.TooMany)) changes nothing = absurd changes.causes
 keys_unfailed view old new (Some (fault.Keys keys.Memory)) changes nothing = absurd changes.causes
 keys_unfailed view old new (Some fault.Usage) changes nothing = absurd changes.causes
+keys_unfailed view old new (Some fault.BadPassword) changes nothing = absurd changes.causes
 keys_unfailed view old new (Some fault.Read) changes nothing = absurd changes.causes
 keys_unfailed view old new (Some (fault.BadLine n)) changes nothing = absurd changes.causes
 keys_unfailed view old new (Some (fault.Opening reason)) changes nothing = absurd changes.causes
@@ -87,6 +103,7 @@ stopped_unfailed view old new (fault.Keys keys.IndexEnd) stopped nothing = absur
 stopped_unfailed view old new (fault.Keys keys.Memory) stopped nothing = absurd stopped.stops
 stopped_unfailed view old new fault.Desk stopped nothing = absurd (nothing.fills stopped.stops.refused.1.3)
 stopped_unfailed view old new fault.Usage stopped nothing = absurd stopped.stops
+stopped_unfailed view old new fault.BadPassword stopped nothing = absurd stopped.stops
 stopped_unfailed view old new fault.Write stopped nothing = absurd stopped.stops
 stopped_unfailed view old new (fault.BadLine n) stopped nothing = absurd stopped.stops
 
@@ -193,6 +210,7 @@ does_unfailed view stream (asked.Talk places) old new f state does nothing = tal
 does_unfailed view stream (asked.Serve places connections) old new f state does nothing = serve_unfailed view stream places.workers connections old new f state does nothing
 does_unfailed view stream (asked.Setup places) old new f state does nothing = keys_unfailed view old new f does.0.changes nothing
 does_unfailed view stream (asked.Rotate places max) old new f state does nothing = keys_unfailed view old new f does.0.changes nothing
+does_unfailed view stream (asked.Password rounds) old new f state does nothing = password_unfailed view rounds old new f does.0 nothing
 does_unfailed view stream asked.Usage old new f state does nothing = unfailed_as f (Some fault.Usage) does.0 (inr tt)
 
 pub commands_complete : (Link Seat : Type 0) → CommandsComplete Link Seat
@@ -282,6 +300,10 @@ keys_counted : {Link Seat : Type 0} (view : Seat → Place Link) (old new : Worl
 keys_counted view old new None none changes = changes.draws.rose refl
 keys_counted view old new (Some state) none changes = absurd (cc none)
 
+password_counted : {Link Seat : Type 0} (view : Seat → Place Link) (rounds : ℕ) (old new : World Link Seat) (state : Option Shown) → state ≡ None → MakesRecord rounds old new (Some fault.Desk) → IsCounted view old new state
+password_counted view rounds old new None none makes = makes.draws.rose refl
+password_counted view rounds old new (Some state) none makes = absurd (cc none)
+
 does_count : {Link Seat : Type 0} (view : Seat → Place Link) (stream : Link → StreamState) (what : Words) (old new : World Link Seat) (state : Option Shown)
     → Does view stream what old new (Some fault.Desk) state → IsCounted view old new state
 unfolding Does
@@ -290,6 +312,7 @@ does_count view stream (asked.Talk places) old new state does = talk_counted vie
 does_count view stream (asked.Serve places connections) old new state does = serve_counted view stream places.workers connections old new state does
 does_count view stream (asked.Setup places) old new state does = keys_counted view old new state does.1 does.0.changes
 does_count view stream (asked.Rotate places max) old new state does = keys_counted view old new state does.1 does.0.changes
+does_count view stream (asked.Password rounds) old new state does = password_counted view rounds old new state does.1 does.0
 does_count view stream asked.Usage old new state does = absurd (cc does.0)
 
 pub desk_faults_are_counted : (Link Seat : Type 0) → DeskFaultsAreCounted Link Seat

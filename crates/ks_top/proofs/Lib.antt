@@ -3,6 +3,7 @@ pub mod CheckLemmas
 pub mod CheckerLemmas
 pub mod KeyFolderLemmas
 pub mod OpeningLemmas
+pub mod PasswordLemmas
 pub mod TalkLemmas
 pub mod RunLemmas
 pub mod ServeLemmas

@@ -35,6 +35,7 @@ pub read_stops : {Link : Type 0} (file : StreamState) (dir : DirState) (desk : D
 read_stops file dir desk fault.Read is = refl
 read_stops file dir desk fault.Memory is = ([], drew_none desk)
 read_stops file dir desk fault.Usage is = absurd is
+read_stops file dir desk fault.BadPassword is = absurd is
 read_stops file dir desk fault.Write is = absurd is
 read_stops file dir desk (fault.BadLine n) is = absurd is
 read_stops file dir desk fault.Folder is = absurd is
@@ -168,6 +169,7 @@ held_stops file dir desk text (fault.Keys keys.AlreadySet) read stops = absurd s
 held_stops file dir desk text (fault.Keys keys.IndexEnd) read stops = absurd stops
 held_stops file dir desk text (fault.Keys keys.Memory) read stops = absurd stops
 held_stops file dir desk text fault.Usage read stops = absurd stops
+held_stops file dir desk text fault.BadPassword read stops = absurd stops
 held_stops file dir desk text fault.Read read stops = absurd stops
 held_stops file dir desk text fault.Write read stops = absurd stops
 held_stops file dir desk text (fault.BadLine n) read stops = absurd stops

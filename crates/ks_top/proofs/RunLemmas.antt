@@ -14,7 +14,8 @@ use Rattle.ks_top.specs.declared.fault.Fault.{Fault}
 use Rattle.ks_top.specs.declared.fault.Fault.TheVariants as fault
 use Rattle.ks_top.specs.Ending.{EndsCheck, IsStreamFault, result_of}
 use Rattle.ks_top.specs.KeyFolders.{EndsRotation, EndsSetup, IsFolderFault, OnlyDraws}
-use Rattle.ks_top.specs.Runs.{ChangesKeys, Checks, Does, Rotates, Runs, SetsUp, outside}
+use Rattle.ks_top.specs.Passwords.{DrawsOnce, EndsPassword, IsPasswordFault, ReadsFront}
+use Rattle.ks_top.specs.Runs.{ChangesKeys, Checks, Does, MakesRecord, Rotates, Runs, SetsUp, outside}
 use Rattle.ks_top.specs.World.{World}
 use Rattle.ks_top.proofs.TalkLemmas.{counts_for, reads_for}
 
@@ -103,4 +104,28 @@ rotates max old new r f is told keeps fills = subst (Rotates max old new) (sym i
   told = λ random before files drawn stood written. subst (EndsRotation max random files before (outside new)) (sym (same_result r)) (told random before files drawn stood written);
   changes = changes_keys old new r keeps;
   fills = fills;
+})
+
+-- what `password` says of its result
+pub record SaysRecord {Link Seat : Type 0} (rounds : ℕ) (old new : World Link Seat) (r : Result (Unit {0}) Fault) : Type 0 where
+  pub told : (text before : List ℕ) → old.input.left ≡ Some text → old.output.written ≡ Some before
+      → EndsPassword rounds text before old.desk new.desk new.output.written r
+  pub causes : IfErr r IsPasswordFault
+  pub reach : (text : List ℕ) → old.input.left ≡ Some text → ReadsFront text new.input.left
+  pub reads : OnlyReads (r ≡ Err fault.Read) old.input new.input
+  pub draws : Counts (r ≡ Err fault.Desk) old.desk.fill_faults new.desk.fill_faults
+  pub drew : DrawsOnce old.desk new.desk
+  pub writes : OnlyWrites (r ≡ Err fault.Write) old.output new.output
+  pub others : new ≡ record old { input = new.input; output = new.output; desk = new.desk }
+
+pub makes_record : {Link Seat : Type 0} (rounds : ℕ) (old new : World Link Seat) (r : Result (Unit {0}) Fault) (f : Option Fault) → f ≡ fault_in r → SaysRecord rounds old new r → MakesRecord rounds old new f
+makes_record rounds old new r f is says = subst (MakesRecord rounds old new) (sym is) (record {
+  told = λ text before left written. subst (EndsPassword rounds text before old.desk new.desk new.output.written) (sym (same_result r)) (says.told text before left written);
+  causes = caused IsPasswordFault r says.causes;
+  reach = says.reach;
+  reads = reads_for (r ≡ Err fault.Read) (fault_in r ≡ Some fault.Read) old.input new.input (err_of r fault.Read) says.reads;
+  draws = counts_for (r ≡ Err fault.Desk) (fault_in r ≡ Some fault.Desk) old.desk.fill_faults new.desk.fill_faults (err_of r fault.Desk) says.draws;
+  drew = says.drew;
+  writes = writes_for (r ≡ Err fault.Write) (fault_in r ≡ Some fault.Write) old.output new.output (err_of r fault.Write) says.writes;
+  others = says.others;
 })

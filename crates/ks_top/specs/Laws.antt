@@ -56,6 +56,7 @@ pub record NothingFailed {Link Seat : Type 0} (view : Seat → Place Link) (old 
 -- the words or what was read is refused
 abbrev pub IsRefusal : Fault → Type 0
 IsRefusal fault.Usage = Unit {0}
+IsRefusal fault.BadPassword = Unit {0}
 IsRefusal (fault.BadLine n) = Unit {0}
 IsRefusal (fault.Opening (refusal.Shape reason)) = Unit {0}
 IsRefusal (fault.Opening (refusal.Policy reason)) = Unit {0}

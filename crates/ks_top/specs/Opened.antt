@@ -103,5 +103,6 @@ StopsOpening file dir old new (fault.Keys keys.IndexEnd) = ⊥
 StopsOpening file dir old new (fault.Keys keys.Memory) = ⊥
 StopsOpening file dir old new fault.Desk = RefusesFile file dir old new refusal.Random
 StopsOpening file dir old new fault.Usage = ⊥
+StopsOpening file dir old new fault.BadPassword = ⊥
 StopsOpening file dir old new fault.Write = ⊥
 StopsOpening file dir old new (fault.BadLine n) = ⊥

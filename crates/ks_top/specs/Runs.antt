@@ -14,6 +14,7 @@ use Rattle.ks_top.specs.declared.fault.Fault.{Fault}
 use Rattle.ks_top.specs.declared.fault.Fault.TheVariants as fault
 use Rattle.ks_top.specs.Ending.{EndsCheck, IsStreamFault, result_of}
 use Rattle.ks_top.specs.KeyFolders.{EndsRotation, EndsSetup, IsFolderFault, OnlyDraws, Outside}
+use Rattle.ks_top.specs.Passwords.{DrawsOnce, EndsPassword, IsPasswordFault, ReadsFront}
 use Rattle.ks_top.specs.Serve.{Serves}
 use Rattle.ks_top.specs.Talk.{Talks}
 use Rattle.ks_top.specs.World.{World}
@@ -53,6 +54,18 @@ pub record Rotates {Link Seat : Type 0} (max : ℕ) (old new : World Link Seat) 
   pub changes : ChangesKeys old new f
   pub fills : Makes (desk_call.Fill 32 ∷ []) old.desk.calls new.desk.calls
 
+-- the record of a password: its input is read and its output written, the desk gives 16 bytes at most, and nothing else is touched
+pub record MakesRecord {Link Seat : Type 0} (rounds : ℕ) (old new : World Link Seat) (f : Option Fault) : Type 0 where
+  pub told : (text before : List ℕ) → old.input.left ≡ Some text → old.output.written ≡ Some before
+      → EndsPassword rounds text before old.desk new.desk new.output.written (result_of f)
+  pub causes : IfSome f IsPasswordFault
+  pub reach : (text : List ℕ) → old.input.left ≡ Some text → ReadsFront text new.input.left
+  pub reads : OnlyReads (f ≡ Some fault.Read) old.input new.input
+  pub draws : Counts (f ≡ Some fault.Desk) old.desk.fill_faults new.desk.fill_faults
+  pub drew : DrawsOnce old.desk new.desk
+  pub writes : OnlyWrites (f ≡ Some fault.Write) old.output new.output
+  pub others : new ≡ record old { input = new.input; output = new.output; desk = new.desk }
+
 -- a command does this, and `talk` and `serve` alone have an identity at their end
 unfoldable pub Does : {Link Seat : Type 0} → (Seat → Place Link) → (Link → StreamState) → Words → World Link Seat → World Link Seat → Option Fault → Option Shown → Type 0
 Does view stream asked.Check old new f state = Checks old new f × (state ≡ None)
@@ -60,6 +73,7 @@ Does view stream (asked.Talk places) old new f state = Talks old new f state
 Does view stream (asked.Serve places connections) old new f state = Serves view stream places.workers connections old new f state
 Does view stream (asked.Setup places) old new f state = SetsUp old new f × (state ≡ None)
 Does view stream (asked.Rotate places max) old new f state = Rotates max old new f × (state ≡ None)
+Does view stream (asked.Password rounds) old new f state = MakesRecord rounds old new f × (state ≡ None)
 Does view stream asked.Usage old new f state = (f ≡ Some fault.Usage) × (new ≡ old) × (state ≡ None)
 
 -- there was no memory to read the words: nothing happened

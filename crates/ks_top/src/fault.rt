@@ -19,6 +19,8 @@ pub enum Fault {
     Memory,
     /// The line of this number, counted from 1, is not in the grammar of `check`.
     BadLine(u64),
+    /// The first line of the input is not a password.
+    BadPassword,
     /// The opening file is refused. It is never `Random` or `Memory`: these are faults of their own.
     Opening(OpeningFault),
     /// What the opening file says is refused. It is never `Memory`.
@@ -39,6 +41,7 @@ impl Drop for Fault {
             | Fault::Write
             | Fault::Memory
             | Fault::BadLine(_)
+            | Fault::BadPassword
             | Fault::Opening(_)
             | Fault::State(_)
             | Fault::Folder
@@ -58,7 +61,7 @@ impl Fault {
             Fault::Read => 3,
             Fault::Write => 4,
             Fault::Memory => 5,
-            Fault::BadLine(_) => 6,
+            Fault::BadLine(_) | Fault::BadPassword => 6,
             Fault::Opening(_) | Fault::State(_) => 7,
             Fault::Folder => 8,
             Fault::Keys(fault) => keys_status(fault),

@@ -6,7 +6,7 @@ use ks_base::limits::CHECK_LINES;
 use std::fmt;
 
 const USAGE: &str =
-    "usage: ks check | ks talk FILE FOLDER | ks serve FILE FOLDER ADDRESS [--workers N] [--connections N] [--log FILE] | ks setup FOLDER | ks rotate FOLDER [--max N]";
+    "usage: ks check | ks talk FILE FOLDER | ks serve FILE FOLDER ADDRESS [--workers N] [--connections N] [--log FILE] | ks setup FOLDER | ks rotate FOLDER [--max N] | ks password [--rounds N]";
 
 const FAILED: &str =
     "the key folder could not be read or written; if there is none yet, make it first";
@@ -23,6 +23,10 @@ impl fmt::Display for Fault {
                 write!(f, "line {n} is behind the last that is read")
             }
             Fault::BadLine(n) => write!(f, "line {n} is not a moment, one space and a token"),
+            Fault::BadPassword => write!(
+                f,
+                "the first line of the standard input is not a password of 1 to 4096 bytes in UTF-8"
+            ),
             // `opening_line` and `state_line` of ks_setup say why, and where in the file.
             Fault::Opening(_) | Fault::State(_) => write!(f, "the opening file is refused"),
             Fault::Folder => write!(f, "{FAILED}"),

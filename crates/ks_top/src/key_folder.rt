@@ -128,7 +128,7 @@ fn keys_line(alloc: Global, indices: &[u32]) -> Result<String, Memory>
 }
 
 /// Writes a line.
-fn say<K: Sink>(output: &mut K, line: &[u8]) -> Result<(), Fault>
+pub(crate) fn say<K: Sink>(output: &mut K, line: &[u8]) -> Result<(), Fault>
     ensures told { (before : List ℕ) → (K.stream output.old).written ≡ Some before → Says line.now before (K.stream output.new).written result }
     ensures cause { IfErr result (λ fault. fault ≡ Fault.Write) }
     ensures writes { OnlyWrites (result ≡ Err Fault.Write) (K.stream output.old) (K.stream output.new) }

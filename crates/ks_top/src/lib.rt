@@ -12,6 +12,7 @@ mod lines;
 mod opened;
 mod opening;
 mod outcome;
+mod password;
 mod program;
 mod serve;
 mod talk;

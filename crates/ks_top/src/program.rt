@@ -12,6 +12,7 @@ use crate::laws::{
     refused_ever_after, requests_complete,
 };
 use crate::outcome::Outcome;
+use crate::password::make_record;
 use crate::serve::serve;
 use crate::talk::talk;
 use ks_base::Text;
@@ -44,6 +45,9 @@ pub struct Ended<P, D> {
 /// desk's folder. `setup FOLDER` makes the keys of an empty folder, and `rotate FOLDER` rotates them; both say which
 /// indices the folder then has.
 ///
+/// `password [--rounds N]` reads a password, the first line of the input, and writes what an opening file may hold in its
+/// place: the text of its record, derived with 16 random bytes of the first desk.
+///
 /// `serve FILE FOLDER ADDRESS [--workers N] [--connections N]` opens an identity as `talk` does, and serves with the first
 /// N desks beside each other, 4 where N is not said and never more than there are. Each accepts links and serves them one
 /// after the other, until no more come, an accept fails, or it had its number of them, if one other than 0 is said; its own
@@ -52,7 +56,7 @@ pub struct Ended<P, D> {
 /// The statuses: 0 where the input was read and answered whole, or to the request or the refusal that
 /// ends the connection, or where the desks had no more links or their number of them; 2 where the words are not a
 /// command's; 3 where the input or the opening file could not be read; 4 where the output could not be written; 5 for want
-/// of memory; 6 where a line of `check` is not in the grammar; 7 where the opening file is refused; 8 where the folder
+/// of memory; 6 where a line of `check` is not in the grammar, or what `password` reads is no password; 7 where the opening file is refused; 8 where the folder
 /// failed; 9 where it has no keys, or bad or too many ones; 10 where there were no random bytes, or where an identity was
 /// opened and a desk's accept failed; 11 where `setup` found keys; 12 where `rotate` found the last index of all.
 pub fn run<
@@ -159,6 +163,11 @@ where
         Ok(Words::Rotate(_places, max)) => {
             let (desk, _place) = &mut desks[0];
             let outcome = Outcome::of(rotate(rt.alloc(), dir, desk, max, output));
+            (outcome, desks)
+        }
+        Ok(Words::Password(rounds)) => {
+            let (desk, _place) = &mut desks[0];
+            let outcome = Outcome::of(make_record(rt.alloc(), rounds, input, desk, output));
             (outcome, desks)
         }
         Ok(Words::Usage) => (Outcome::stopped(Fault::Usage), desks),

@@ -50,6 +50,7 @@ abbrev pub IsReadFault : Fault → Type 0
 IsReadFault fault.Read = Unit {0}
 IsReadFault fault.Memory = Unit {0}
 IsReadFault fault.Usage = ⊥
+IsReadFault fault.BadPassword = ⊥
 IsReadFault fault.Write = ⊥
 IsReadFault (fault.BadLine n) = ⊥
 IsReadFault (fault.Opening reason) = ⊥
@@ -79,6 +80,7 @@ StopsHeld text dir (fault.Keys keys.AlreadySet) = ⊥
 StopsHeld text dir (fault.Keys keys.IndexEnd) = ⊥
 StopsHeld text dir (fault.Keys keys.Memory) = ⊥
 StopsHeld text dir fault.Usage = ⊥
+StopsHeld text dir fault.BadPassword = ⊥
 StopsHeld text dir fault.Read = ⊥
 StopsHeld text dir fault.Write = ⊥
 StopsHeld text dir (fault.BadLine n) = ⊥

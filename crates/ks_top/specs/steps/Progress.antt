@@ -132,6 +132,7 @@ ReadsAll input left (Err fault.Read) checker written before = StoppedReading inp
 ReadsAll input left (Err fault.Memory) checker written before = StoppedReading input left checker written before
 ReadsAll input left (Err fault.Write) checker written before = IsCutShort input before left written
 ReadsAll input left (Err fault.Usage) checker written before = ⊥
+ReadsAll input left (Err fault.BadPassword) checker written before = ⊥
 ReadsAll input left (Err fault.Folder) checker written before = ⊥
 ReadsAll input left (Err (fault.Keys reason)) checker written before = ⊥
 ReadsAll input left (Err fault.Desk) checker written before = ⊥

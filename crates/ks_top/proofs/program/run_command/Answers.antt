@@ -1,7 +1,7 @@
 use Rattle.std.proofs.Common.{◌≡◌, inr, refl}
 use Rattle.ks_setup.specs.declared.words.Words.TheVariants as asked
 use Rattle.ks_setup.specs.Words.{words_of}
-use Rattle.ks_top.proofs.RunLemmas.{checks, rotates, runs_by, sets_up}
+use Rattle.ks_top.proofs.RunLemmas.{checks, makes_record, rotates, runs_by, sets_up}
 use Rattle.ks_top.specs.Runs.{Does, Runs}
 use Rattle.ks_top.proofs.program.run_command.Goals as goal
 
@@ -78,6 +78,30 @@ returns-in-Ok-Serve g c first others e =
     let is : asked.Serve c.in-Ok-Serve.places c.in-Ok-Serve.connections ≡ words_of c.args.words.now = (let w = c.in-Ok-Serve.ensures.words in let i = c.in-Ok-Serve.field-0-is in cc) in
     let s = c.serve.ensures (g.S.Stream.stream c.args.input.now) (g.K.Stream.stream c.args.output.now) first others e in
     (s.0, s.1, s.2, runs_by _ _ _ (asked.Serve c.in-Ok-Serve.places c.in-Ok-Serve.connections) _ _ _ _ is s.3)
+
+pub returns-in-Ok-Password : goal.returns-in-Ok-Password
+unfolding Does
+returns-in-Ok-Password g c first others e =
+    let given : c.index_mut-in-Ok-Password.result.now ≡ first = rw e at c.index_mut-in-Ok-Password.ensures.value in
+    let is : asked.Password c.in-Ok-Password.rounds ≡ words_of c.args.words.now = (let w = c.in-Ok-Password.ensures.words in let i = c.in-Ok-Password.field-0-is in cc) in
+    rw (← given) (
+      (c.make_record.new.desk, c.index_mut-in-Ok-Password.result.now.1),
+      others,
+      rw e refl,
+      runs_by _ _ _ (asked.Password c.in-Ok-Password.rounds) _ _ _ _ is (
+        makes_record c.in-Ok-Password.rounds _ _ c.make_record.result _ c.of-outcome-in-Ok-Password.ensures.fault (record {
+          told = c.make_record.ensures.told;
+          causes = c.make_record.ensures.causes;
+          reach = c.make_record.ensures.reach;
+          reads = c.make_record.ensures.reads;
+          draws = c.make_record.ensures.draws;
+          drew = c.make_record.ensures.drew;
+          writes = c.make_record.ensures.writes;
+          others = refl;
+        }),
+        c.of-outcome-in-Ok-Password.ensures.state,
+      ),
+    )
 
 pub returns-in-Ok-Usage : goal.returns-in-Ok-Usage
 unfolding Does
