@@ -5,12 +5,11 @@
 """
 
 import json
-import subprocess
 import sys
 import tempfile
 
 import talk
-from tables import asked, request, statuses
+from tables import asked, opened, request
 
 SIZES = [(0, 0), (5, 15), (40, 120), (1_024, 8_192)]
 URL = "http://cloud.example:8774/v2.1/$(project_id)s"
@@ -32,13 +31,9 @@ def opening(services, endpoints):
 
 
 def measured(ks, path, count):
-    """Microseconds of a core that a validation and a login take, and the bytes of a response."""
+    """Microseconds of a core that a validation, a login and the version take."""
     token = talk.sealed()
-    run = subprocess.Popen([ks, "talk", path, "keys"], stdin=subprocess.PIPE, stdout=subprocess.PIPE)
-    run.stdin.write(talk.validation(token))
-    run.stdin.flush()
-    if statuses(run.stdout, 1) != {200: 1}:
-        talk.fail("a validation is answered otherwise")
+    run = opened(ks, path, token)
     scope = {"project": {"name": "demo", "domain": {"id": "default"}}}
     login = {"auth": {"identity": {"methods": ["token"], "token": {"id": token}}, "scope": scope}}
     figures = {

@@ -82,14 +82,20 @@ def asked(run, requests, wanted):
     return (cpu_of(run) - before) / len(requests) * 1e6
 
 
-def measured(ks, path, told, admin, ids, projects, role, count):
-    token = talk.sealed()
-    began = time.monotonic()
+def opened(ks, path, token):
+    """`KS talk` over this opening file, which has answered a validation of the token."""
     run = subprocess.Popen([ks, "talk", path, "keys"], stdin=subprocess.PIPE, stdout=subprocess.PIPE)
     run.stdin.write(talk.validation(token))
     run.stdin.flush()
     if statuses(run.stdout, 1) != {200: 1}:
         talk.fail("a validation is answered otherwise")
+    return run
+
+
+def measured(ks, path, told, admin, ids, projects, role, count):
+    token = talk.sealed()
+    began = time.monotonic()
+    run = opened(ks, path, token)
     figures = {"opening, seconds": time.monotonic() - began}
     named = {"name": told["users"][-1]["name"], "domain": {"id": "default"}, "password": "a secret"}
     login = {"auth": {"identity": {"methods": ["password"], "password": {"user": named}}}}
