@@ -89,9 +89,12 @@ def try_life(folder):
     expect("the files behind a refused setup", files(folder), held)
     for highest, indices in ((2, "0 1 2"), (3, "0 2 3"), (4, "0 3 4")):
         before = held
+        os.chmod(os.path.join(folder, "0"), 0o644)
         run(["rotate", folder], 0, f"keys {indices}\n")
         held = files(folder)
         expect("the files of a rotation", sorted(held), indices.split())
+        for name in held:
+            expect(f"who may read {name} behind a rotation", os.stat(os.path.join(folder, name)).st_mode & 0o7777, 0o600)
         expect("the staged key became primary", held[str(highest)], before["0"])
         for name in indices.split()[1:-1]:
             expect(f"the key {name} stayed", held[name], before[name])

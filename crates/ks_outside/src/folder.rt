@@ -9,19 +9,22 @@ use crate::{DirFault, Failed, KeyDir};
 use ks_base::limits::{KEY_FILE_BYTES, LAST_KEY_INDEX};
 use ks_base::{Bytes, Memory};
 use std::alloc::Global;
-use std::fs::{DirEntry, File, OpenFile, OpenOptions};
+use std::fs::{DirEntry, File, OpenFile, OpenOptions, Permissions};
 use std::io::{ErrorKind, Read, Write};
 use std::marker::Model;
-use std::os::unix::fs::OpenOptionsExt;
+use std::os::unix::fs::{OpenOptionsExt, PermissionsExt};
 use std::rt::Files;
 use std::{fs, io};
 
-/// The mode of a new key file: its owner reads and writes it.
+/// The mode of a key file that is made or moved: its owner reads and writes it.
 const OWNER_ALONE: u32 = 0o600;
 
+/// The bits of a mode that say who may do what.
+const RIGHTS: u32 = 0o7777;
+
 /// A key folder over a folder of the system. The name of a key file is the decimal of its index without a
-/// leading zero; other names are passed over. A new key file has the mode 0600. It does not tell its files,
-/// and counts its faults. The count stands still at 2^64 - 1.
+/// leading zero; other names are passed over. A key file that is made or moved has the mode 0600. It does not
+/// tell its files, and counts its faults. The count stands still at 2^64 - 1.
 #[derive(Drop)]
 pub struct Folder<'a, R> {
     rt: &'a R,
@@ -125,7 +128,7 @@ fn read<R: Files + AllocGlobal>(
         return Ok(None);
     }
     let name = name_of(rt.alloc(), path, index)?;
-    let Some(mut file) = if_there(File::open(rt, name.as_str()))? else {
+    let Some(mut file) = opened(rt, name.as_str())? else {
         return Ok(None);
     };
     let mut held = [0; 65];
@@ -135,6 +138,16 @@ fn read<R: Files + AllocGlobal>(
     }
     into[..count].copy_from_slice(&held[..count]);
     Ok(Some(count))
+}
+
+/// The file of this name, if there is one. What is no file fails, and is not opened: who opens a FIFO waits until
+/// somebody writes to it.
+fn opened<R: Files>(rt: &R, name: &str) -> Result<Option<R::File>, DirFault> {
+    match if_there(fs::metadata(rt, name))? {
+        Some(found) if found.is_file() => if_there(File::open(rt, name)),
+        Some(_) => Err(DirFault::Failed),
+        None => Ok(None),
+    }
 }
 
 /// Reads until the piece is full or the input ends, and says how many bytes came.
@@ -192,8 +205,19 @@ fn rename<R: Files + AllocGlobal>(rt: &R, path: &str, from: u32, to: u32) -> Res
     if from > LAST_KEY_INDEX || to > LAST_KEY_INDEX || stands(rt, new.as_str())? {
         return Err(DirFault::Failed);
     }
+    leave_to_owner(rt, old.as_str())?;
     answered(fs::rename(rt, old.as_str(), new.as_str()))?;
     sync_names(rt, path)
+}
+
+/// Takes a file from all but its owner. One that is its owner's alone stays as it is, since nobody else may set its
+/// mode, and who may write the folder may move it.
+fn leave_to_owner<R: Files>(rt: &R, name: &str) -> Result<(), DirFault> {
+    let found = answered(fs::metadata(rt, name))?;
+    if found.permissions().mode() & RIGHTS == OWNER_ALONE {
+        return Ok(());
+    }
+    answered(fs::set_permissions(rt, name, Permissions::from_mode(OWNER_ALONE)))
 }
 
 fn remove<R: Files + AllocGlobal>(rt: &R, path: &str, index: u32) -> Result<(), DirFault> {
