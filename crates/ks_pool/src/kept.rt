@@ -6,7 +6,6 @@ use crate::framing::looks_long;
 use crate::limits::{CLOSING_BYTES, PIECE, WAITING_BYTES};
 use crate::queue::Queue;
 use crate::socket::{read_now, write_now};
-use ks_base::Memory;
 use ks_base::limits::HEAD_BYTES;
 use ks_outside::Failed;
 use mio::net::TcpStream;
@@ -153,13 +152,13 @@ impl Kept {
         self.pass_over()
     }
 
-    /// Takes bytes that came into the inbox, and looks at the head where they may end it.
-    fn take_in(&mut self, came: &[u8]) -> Result<(), Memory> {
-        self.inbox.push(came)?;
-        if came.contains(&b'\n') || self.inbox.len() >= HEAD_BYTES {
+    /// Looks at the head behind so many bytes that came into the inbox, where they may end it.
+    fn look_behind(&mut self, came: usize) {
+        let bytes = self.inbox.as_slice();
+        let before = bytes.len().saturating_sub(came);
+        if bytes.split_at(before).1.contains(&b'\n') || bytes.len() >= HEAD_BYTES {
             self.look();
         }
-        Ok(())
     }
 
     /// Looks how long the request in front of the inbox is, where that is not known.
@@ -172,7 +171,6 @@ impl Kept {
     /// Reads ahead into the inbox until a whole request lies there, or nothing more is there.
     pub fn read_ahead(&mut self) -> Result<AtHand, Failed> {
         self.look();
-        let mut piece = [0; PIECE];
         'pieces: for _ in 0..u64::MAX {
             if self.is_whole() {
                 return Ok(AtHand::Request);
@@ -180,14 +178,9 @@ impl Kept {
             if self.has_ended {
                 return Ok(self.at_end());
             }
-            match read_now(&mut self.stream, piece.as_mut_slice())? {
+            match self.inbox.read_from(&mut self.stream)? {
                 Some(0) => self.has_ended = true,
-                Some(count) => {
-                    let came = piece.as_slice().split_at(count).0;
-                    if self.take_in(came).is_err() {
-                        return Err(Failed);
-                    }
-                }
+                Some(count) => self.look_behind(count),
                 None => return Ok(AtHand::Part),
             }
         }

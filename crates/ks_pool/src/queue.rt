@@ -1,4 +1,8 @@
+use crate::limits::PIECE;
+use crate::socket::read_now;
 use ks_base::Memory;
+use ks_outside::Failed;
+use mio::net::TcpStream;
 use std::alloc::Global;
 
 /// Bytes that wait: they come in behind and go in front. Where none wait no memory is held.
@@ -55,12 +59,35 @@ impl Queue {
         Ok(())
     }
 
-    /// Lets so many bytes go in front.
-    pub fn advance(&mut self, count: usize) {
-        self.gone = self.gone.saturating_add(count);
-        if self.gone >= self.bytes.len() {
+    /// Has bytes that are there on a stream wait behind the others, a piece at most, and says how many came. They are
+    /// read into the queue itself, so that no copy of a password is left elsewhere.
+    pub fn read_from(&mut self, stream: &mut TcpStream) -> Result<Option<usize>, Failed> {
+        self.compact();
+        let waiting = self.bytes.len();
+        if self.bytes.resize(waiting.saturating_add(PIECE), 0).is_err() {
+            return Err(Failed);
+        }
+        let came = read_now(stream, self.bytes.as_mut_slice().split_at_mut(waiting).1);
+        let count = match came {
+            Ok(Some(count)) => count,
+            Ok(None) | Err(Failed) => 0,
+        };
+        self.bytes.truncate(waiting.saturating_add(count));
+        self.let_go();
+        came
+    }
+
+    /// Holds no memory where no bytes wait.
+    fn let_go(&mut self) {
+        if self.is_empty() {
             self.bytes = Vec::new(self.alloc);
             self.gone = 0;
         }
+    }
+
+    /// Lets so many bytes go in front.
+    pub fn advance(&mut self, count: usize) {
+        self.gone = self.gone.saturating_add(count);
+        self.let_go();
     }
 }
