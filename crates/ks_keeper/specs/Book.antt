@@ -5,7 +5,8 @@ use Rattle.sqlite_value.specs.declared.keys.Collation.TheVariants.{Binary}
 use Rattle.sqlite_value.specs.Order.{Row, column, bytes}
 use Rattle.sqlite_trees.specs.Tree.{Trees, has_rowid}
 use Rattle.sqlite_trees.specs.View.{is_int}
-use Rattle.sqlite.specs.Held.{Held, held_code}
+use Rattle.sqlite_trees.specs.declared.store.Store.{Ghosts}
+use Rattle.sqlite.specs.Held.{Held, held_code, state}
 use Rattle.std.specs.Coded.{Coded, code_by, coded×, coded_ℕ}
 use Rattle.sqlite_schema.specs.declared.schema.Kind.{Kind}
 use Rattle.sqlite_schema.specs.declared.schema.Kind.TheVariants.{Integer, Blob}
@@ -13,7 +14,7 @@ use Rattle.sqlite_schema.specs.declared.schema.Column.{Column}
 use Rattle.sqlite_schema.specs.declared.schema.Table.{Table}
 use Rattle.sqlite_schema.specs.declared.schema.Schema.{Schema}
 use Rattle.sqlite.specs.State.{State, HasCleanDisk}
-use Rattle.ks_keeper.specs.Keeper.{Kept}
+use Rattle.ks_keeper.specs.Keeper.{Kept, IsTidy}
 use Rattle.ks_keeper.specs.declared.shelf.Shelf.{Shelf}
 use Rattle.ks_keeper.specs.declared.shelf.Shelf.TheVariants.{Entries, Header}
 
@@ -121,10 +122,20 @@ pub record Moves (old new : State) : Type 0 where
   pub was_whole : IsWhole old
   pub settled : IsSettled new
 
--- what a book shows: the connection, and the count of its faults
+-- what a book shows: the connection, the count of its faults, and what the connection was when the book was made
 pub record BookState (S : Type 0) : Type 0 where
   pub held : Held S
   pub faults : ℕ
+  pub first : Held S
+
+-- what a book holds
+abbrev pub kept_by : {S : Type 0} → Ghosts S → BookState S → Kept
+kept_by store book = kept_in (state store book.held).now.trees
+
+-- the connection is whole, and what the book held when it was made is tidy
+abbrev pub IsWholeBook : {S : Type 0} → Ghosts S → BookState S → Type 0
+IsWholeBook store book = IsWhole (state store book.held) × IsTidy (kept_in (state store book.first).now.trees)
 
 abbrev pub book_code : {S : Type 0} → Coded S → Coded (BookState S)
-book_code {S} store = code_by (Held S × ℕ) (coded× (held_code store) coded_ℕ) (λ b. (b.held, b.faults)) (λ p. record { held = p.0; faults = p.1 }) (λ _. refl)
+book_code {S} store = code_by (Held S × (ℕ × Held S)) (coded× (held_code store) (coded× coded_ℕ (held_code store))) (λ b. (b.held, (b.faults, b.first)))
+    (λ p. record { held = p.0; faults = p.1.0; first = p.1.1 }) (λ _. refl)

@@ -1,8 +1,8 @@
 ghost use Rattle.std.specs.Prelude.{◌≡◌, ◌⊎◌, ◌<◌, ◌≤◌, ◌^◌, ℕ, pos, None, IfOk, IfSome, OnOk, OnErr};
 ghost use Rattle.sqlite.specs.Held.{state};
 ghost use Rattle.ks_outside.specs.Counts.{Counts};
-ghost use Rattle.ks_keeper.specs.Keeper.{with_entry, with_header};
-ghost use Rattle.ks_keeper.specs.Book.{kept_in, found_at, IsWhole, IsPut};
+ghost use Rattle.ks_keeper.specs.Keeper.{IsTidy, with_entry, with_header};
+ghost use Rattle.ks_keeper.specs.Book.{kept_by, found_at, IsWhole, IsWholeBook, IsPut};
 
 use crate::shelf::Shelf;
 use crate::statements::{put, read};
@@ -12,16 +12,18 @@ use ks_base::Bytes;
 use sqlite::{Alter, Connection, Error, ErrorCode};
 use std::alloc::Global;
 use std::marker::Model;
+use std::snapshot::Snapshot;
 
 /// A keeper over a database with a table of the entries and a table of the header. A change is one statement,
 /// which is committed before its answer: after an error it was not made.
 ///
 /// The clauses on what it holds are of a book that is whole: nobody else wrote the file, the disk gave back
-/// what was written, and no failure shut the connection. The count of faults stands still at 2^64 - 1.
+/// what was written, no failure shut the connection, and what it held at first was tidy. The count of faults stands still at 2^64 - 1.
 pub struct Book<S: Alter> {
     conn: Connection<S>,
     alloc: Global,
     faults: u64,
+    first: Snapshot<Connection<S>>,
 }
 
 impl<S: Alter + Drop> Drop for Book<S> {
@@ -30,6 +32,7 @@ impl<S: Alter + Drop> Drop for Book<S> {
             conn: _,
             alloc: _,
             faults: _,
+            first: _,
         } = self;
     }
 }
@@ -42,7 +45,7 @@ impl<S: Alter> Model for Book<S> {
 
     ghost coded = { book_code S.code };
 
-    ghost view = { λ b. record { held = b.conn; faults = b.faults } };
+    ghost view = { λ b. record { held = b.conn; faults = b.faults; first = b.first.value } };
 
     ghost invariant = { λ b. IsReady (state S.Store b.conn) };
 }
@@ -51,13 +54,16 @@ impl<S: Alter> Book<S> {
     /// A book over this connection, which is handed back where its tables are not those of a book or it is in
     /// a transaction.
     pub fn over(alloc: Global, conn: Connection<S>) -> Result<Book<S>, Connection<S>>
-        ensures { IfOk result (λ book. book ≡ record { held = conn; faults = 0 }) }
+        ensures is { IfOk result (λ book. book ≡ record { held = conn; faults = 0; first = conn }) }
+        ensures tidy { IfOk result (λ book. IsWholeBook S.Store book → IsTidy (kept_by S.Store book)) }
     {
         if conn.is_autocommit() && is_book(conn.schema()) {
+            let first = Snapshot::of(&conn);
             Ok(Book {
                 conn,
                 alloc,
                 faults: 0,
+                first,
             })
         } else {
             Err(conn)
@@ -70,6 +76,7 @@ impl<S: Alter> Book<S> {
         ensures told { IsWhole (state S.Store self.new.held) → IfOk result (λ found. found ≡ found_at shelf (state S.Store self.old.held).now.trees number) }
         ensures same { IsWhole (state S.Store self.new.held) → (state S.Store self.new.held).now ≡ (state S.Store self.old.held).now }
         ensures faults { Counts (result ≡ Err KeepFault.Failed) self.old.faults self.new.faults }
+        ensures first { self.new.first ≡ self.old.first }
     {
         match read(self.alloc, &mut self.conn, shelf, number) {
             Ok(found) => Ok(found),
@@ -83,6 +90,7 @@ impl<S: Alter> Book<S> {
         ensures ok { IsWhole (state S.Store self.new.held) → OnOk result (IsPut shelf number body.now (state S.Store self.old.held).now.trees (state S.Store self.new.held).now.trees) }
         ensures err { IsWhole (state S.Store self.new.held) → OnErr result ((state S.Store self.new.held).now ≡ (state S.Store self.old.held).now) }
         ensures faults { Counts (result ≡ Err KeepFault.Failed) self.old.faults self.new.faults }
+        ensures first { self.new.first ≡ self.old.first }
     {
         match put(&mut self.conn, shelf, number, body) {
             Ok(()) => Ok(()),
@@ -117,9 +125,9 @@ fn place_of(number: u64) -> Option<i64>
 }
 
 impl<S: Alter> Keeper for Book<S> {
-    ghost kept = { λ b. kept_in (state S.Store b.held).now.trees };
+    ghost kept = { kept_by S.Store };
 
-    ghost whole = { λ b. IsWhole (state S.Store b.held) };
+    ghost whole = { IsWholeBook S.Store };
 
     ghost faults = { λ b. b.faults };
 

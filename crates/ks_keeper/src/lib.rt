@@ -7,12 +7,14 @@ mod fault;
 mod keeper;
 mod memory;
 mod open;
+mod optional;
 mod shelf;
 mod statements;
 mod tables;
+mod tidy;
 
 pub use book::Book;
 pub use fault::KeepFault;
 pub use keeper::Keeper;
 pub use memory::MemoryKeeper;
-pub use open::NotBook;
+pub use open::{FileBook, NotBook};

@@ -2,17 +2,18 @@ ghost use Rattle.std.specs.Prelude.{◌≡◌, ◌≢◌, ◌⊎◌, ◌≤◌, 
 ghost use Rattle.std.specs.Ordering.{nat_cmp, is_eq};
 ghost use Rattle.std.specs.BTreeMap.{insert_entry};
 ghost use Rattle.ks_outside.specs.Counts.{Counts, next_count};
-ghost use Rattle.ks_keeper.specs.Keeper.{with_entry, with_header};
-ghost use Rattle.ks_keeper.specs.Memory.{told_kept, entry_in, planned};
+ghost use Rattle.ks_keeper.specs.Keeper.{IsTidy, with_entry, with_header};
+ghost use Rattle.ks_keeper.specs.Memory.{told_kept, first_kept, entry_in, planned};
 
 use crate::{KeepFault, Keeper};
 use ks_base::{Bytes, Memory};
 use std::alloc::Global;
 use std::collections::BTreeMap;
 use std::marker::Model;
+use std::snapshot::Snapshot;
 
 /// A keeper in memory. Chosen calls fail, and of each it is chosen whether its change is made all the same.
-/// The counts of calls and of faults stand still at 2^64 - 1.
+/// The counts of calls and of faults stand still at 2^64 - 1. It is whole where what it was made with is tidy.
 pub struct MemoryKeeper {
     alloc: Global,
     header: Option<Bytes>,
@@ -20,6 +21,8 @@ pub struct MemoryKeeper {
     failing: Vec<(u64, bool)>,
     calls: u64,
     faults: u64,
+    first_header: Snapshot<Option<Bytes>>,
+    first_entries: Snapshot<BTreeMap<u64, Bytes>>,
 }
 
 impl Drop for MemoryKeeper {
@@ -31,6 +34,8 @@ impl Drop for MemoryKeeper {
             failing: _,
             calls: _,
             faults: _,
+            first_header: _,
+            first_entries: _,
         } = self;
     }
 }
@@ -46,6 +51,8 @@ impl Model for MemoryKeeper {
       failing = k.failing.items;
       calls = k.calls;
       faults = k.faults;
+      first_header = k.first_header.value;
+      first_entries = k.first_entries.value.entries;
     } };
 }
 
@@ -58,15 +65,21 @@ impl MemoryKeeper {
         entries: BTreeMap<u64, Bytes>,
         failing: &[(u64, bool)],
     ) -> Result<MemoryKeeper, Memory>
-        ensures { IfOk result (λ made. made ≡ record { header = header; entries = entries.entries; failing = failing.now; calls = 0; faults = 0 }) }
+        ensures is { IfOk result (λ made. made ≡ record { header = header; entries = entries.entries; failing = failing.now; calls = 0; faults = 0; first_header = header; first_entries = entries.entries }) }
+        ensures tidy { IfOk result (λ made. IsTidy (first_kept made) → IsTidy (told_kept made)) }
     {
+        let failing = Vec::from_slice(alloc, failing)?;
+        let first_header = Snapshot::of(&header);
+        let first_entries = Snapshot::of(&entries);
         Ok(MemoryKeeper {
             alloc,
             header,
             entries,
-            failing: Vec::from_slice(alloc, failing)?,
+            failing,
             calls: 0,
             faults: 0,
+            first_header,
+            first_entries,
         })
     }
 
@@ -82,6 +95,8 @@ impl MemoryKeeper {
             failing: _,
             calls: _,
             faults: _,
+            first_header: _,
+            first_entries: _,
         } = self;
         (header, entries)
     }
@@ -157,14 +172,14 @@ fn copy_at(entries: &BTreeMap<u64, Bytes>, number: u64) -> Result<Option<Bytes>,
 impl Keeper for MemoryKeeper {
     ghost kept = { told_kept };
 
-    ghost whole = { λ _. Unit {0} };
+    ghost whole = { λ k. IsTidy (first_kept k) };
 
     ghost faults = { λ k. k.faults };
 
     fn header(&mut self) -> Result<Option<Bytes>, KeepFault>
-        ensures told { Unit {0} → IfOk result (λ found. found ≡ self.old.header) }
-        ensures same { Unit {0} → told_kept self.new ≡ told_kept self.old }
-        ensures since { Unit {0} → Unit {0} }
+        ensures told { IsTidy (first_kept self.new) → IfOk result (λ found. found ≡ self.old.header) }
+        ensures same { IsTidy (first_kept self.new) → told_kept self.new ≡ told_kept self.old }
+        ensures since { IsTidy (first_kept self.new) → IsTidy (first_kept self.old) }
         ensures faults { Counts (result ≡ Err KeepFault.Failed) self.old.faults self.new.faults }
 
         ensures goes { OnOk result (planned self.old.failing (next_count self.old.calls) ≡ None) }
@@ -178,9 +193,9 @@ impl Keeper for MemoryKeeper {
     }
 
     fn set_header(&mut self, header: &[u8]) -> Result<(), KeepFault>
-        ensures since { Unit {0} → Unit {0} }
-        ensures ok { Unit {0} → OnOk result (told_kept self.new ≡ with_header header.now (told_kept self.old)) }
-        ensures err { Unit {0} → OnErr result ((told_kept self.new ≡ told_kept self.old) ⊎ (told_kept self.new ≡ with_header header.now (told_kept self.old))) }
+        ensures since { IsTidy (first_kept self.new) → IsTidy (first_kept self.old) }
+        ensures ok { IsTidy (first_kept self.new) → OnOk result (told_kept self.new ≡ with_header header.now (told_kept self.old)) }
+        ensures err { IsTidy (first_kept self.new) → OnErr result ((told_kept self.new ≡ told_kept self.old) ⊎ (told_kept self.new ≡ with_header header.now (told_kept self.old))) }
         ensures faults { Counts (result ≡ Err KeepFault.Failed) self.old.faults self.new.faults }
 
         ensures goes { OnOk result (planned self.old.failing (next_count self.old.calls) ≡ None) }
@@ -201,9 +216,9 @@ impl Keeper for MemoryKeeper {
     }
 
     fn read(&mut self, number: u64) -> Result<Option<Bytes>, KeepFault>
-        ensures since { Unit {0} → Unit {0} }
-        ensures told { Unit {0} → IfOk result (λ found. found ≡ entry_in self.old.entries number) }
-        ensures same { Unit {0} → told_kept self.new ≡ told_kept self.old }
+        ensures since { IsTidy (first_kept self.new) → IsTidy (first_kept self.old) }
+        ensures told { IsTidy (first_kept self.new) → IfOk result (λ found. found ≡ entry_in self.old.entries number) }
+        ensures same { IsTidy (first_kept self.new) → told_kept self.new ≡ told_kept self.old }
         ensures faults { Counts (result ≡ Err KeepFault.Failed) self.old.faults self.new.faults }
 
         ensures goes { OnOk result (planned self.old.failing (next_count self.old.calls) ≡ None) }
@@ -217,9 +232,9 @@ impl Keeper for MemoryKeeper {
     }
 
     fn keep(&mut self, number: u64, entry: &[u8]) -> Result<(), KeepFault>
-        ensures since { Unit {0} → Unit {0} }
-        ensures ok { Unit {0} → OnOk result (told_kept self.new ≡ with_entry number entry.now (told_kept self.old)) }
-        ensures err { Unit {0} → OnErr result ((told_kept self.new ≡ told_kept self.old) ⊎ (told_kept self.new ≡ with_entry number entry.now (told_kept self.old))) }
+        ensures since { IsTidy (first_kept self.new) → IsTidy (first_kept self.old) }
+        ensures ok { IsTidy (first_kept self.new) → OnOk result (told_kept self.new ≡ with_entry number entry.now (told_kept self.old)) }
+        ensures err { IsTidy (first_kept self.new) → OnErr result ((told_kept self.new ≡ told_kept self.old) ⊎ (told_kept self.new ≡ with_entry number entry.now (told_kept self.old))) }
         ensures faults { Counts (result ≡ Err KeepFault.Failed) self.old.faults self.new.faults }
 
         ensures goes { OnOk result (planned self.old.failing (next_count self.old.calls) ≡ None) }

@@ -1,8 +1,11 @@
 //! A book at a path.
 ghost use Rattle.std.specs.Prelude.{◌≡◌, IfOk};
+ghost use Rattle.ks_keeper.specs.Keeper.{IsTidy};
 
-use crate::Book;
 use crate::statements::create;
+use crate::tables::is_book;
+use crate::tidy::{Untidy, untidiness};
+use crate::{Book, Keeper};
 use sqlite::{Connection, Error, ErrorCode, File, FileStore};
 use std::alloc::AllocError;
 use std::fs::OpenOptions;
@@ -12,6 +15,9 @@ use std::{fmt, fs, io};
 
 /// The mode of a new file: its owner reads and writes it.
 const OWNER_ALONE: u32 = 0o600;
+
+/// A book in a file.
+pub type FileBook = Book<FileStore<File>>;
 
 /// Why a file is not opened as a book. It is then as it was, and a log that is empty may stand beside it.
 #[derive(Debug, Drop)]
@@ -24,6 +30,10 @@ pub enum NotBook {
     LogAlone,
     /// Its tables are not those of a book.
     OtherTables,
+    /// It has no entry with this number, and one behind it.
+    Gap(u64),
+    /// It has entries, and no header.
+    NoHeader,
     /// It is no database, or it could not be read or written.
     Database(Error),
     /// It could not be looked at or made.
@@ -39,6 +49,11 @@ impl fmt::Display for NotBook {
             NotBook::Empty => write!(f, "it is empty"),
             NotBook::LogAlone => write!(f, "it is missing, and its log is not"),
             NotBook::OtherTables => write!(f, "its tables are not those of a book"),
+            NotBook::Gap(number) => write!(
+                f,
+                "entry {number} is missing, and one behind it is not"
+            ),
+            NotBook::NoHeader => write!(f, "it has entries and no header"),
             NotBook::Database(error) => write!(f, "{error}"),
             NotBook::File(error) => write!(f, "{error}"),
             NotBook::Memory => write!(f, "out of memory"),
@@ -64,6 +79,16 @@ impl From<Error> for NotBook {
     }
 }
 
+impl From<Untidy> for NotBook {
+    fn from(why: Untidy) -> NotBook {
+        match why {
+            Untidy::Gap(number) => NotBook::Gap(number),
+            Untidy::NoHeader => NotBook::NoHeader,
+            Untidy::OtherNumbers => NotBook::OtherTables,
+        }
+    }
+}
+
 impl From<io::Error> for NotBook {
     fn from(error: io::Error) -> NotBook {
         if error.kind() == ErrorKind::OutOfMemory {
@@ -78,7 +103,8 @@ impl Book<FileStore<File>> {
     /// Opens the book at this path, or makes it, so that its owner alone may read it. It has one writer:
     /// while a process has it open, no other can open it.
     pub fn open(rt: &HostRuntime, path: &str) -> Result<Book<FileStore<File>>, NotBook>
-        ensures { IfOk result (λ book. book.faults ≡ 0) }
+        ensures begins { IfOk result (λ book. book.faults ≡ 0) }
+        ensures tidy { IfOk result (λ book. ⟦<Book<FileStore<File>> as Keeper>⟧.whole book → IsTidy (⟦<Book<FileStore<File>> as Keeper>⟧.kept book)) }
     {
         make(rt, path)?;
         let mut conn = Connection::open(rt, path)?;
@@ -86,6 +112,12 @@ impl Book<FileStore<File>> {
         // A stop may have come before the tables were made.
         if schema.tables.is_empty() && schema.indexes.is_empty() && schema.views.is_empty() {
             create(&mut conn)?;
+        }
+        if !is_book(conn.schema()) {
+            return Err(NotBook::OtherTables);
+        }
+        if let Some(why) = untidiness(&mut conn)? {
+            return Err(why.into());
         }
         match Book::over(rt.alloc(), conn) {
             Ok(book) => Ok(book),
