@@ -20,7 +20,7 @@ use Rattle.ks_state.specs.Standing.{Stands, StandsWithAllKept, changes_made}
 use Rattle.ks_state.specs.StandingLaws.{made_so_far}
 
 -- an identity does not look at how many changes are kept
-apart : (shown : Shown) (f : Front) (count : ℕ) → Stands shown f → Stands shown (with_kept f count)
+pub apart : (shown : Shown) (f : Front) (count : ℕ) → Stands shown f → Stands shown (with_kept f count)
 unfolding replay
 apart shown f count stands = record {
   state = stands.state;

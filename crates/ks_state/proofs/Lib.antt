@@ -5,7 +5,9 @@ pub mod KeptLemmas
 pub mod MakeLemmas
 pub mod OpenLemmas
 pub mod PlanLemmas
+pub mod RedoLemmas
 pub mod ReplyLemmas
+pub mod RestoreLemmas
 pub mod SendLemmas
 pub mod SettleLemmas
 pub mod StandLemmas

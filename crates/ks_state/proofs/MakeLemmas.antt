@@ -27,11 +27,11 @@ parts settings rules ring rows log = record {
 }
 
 -- with room for more
-abbrev pub roomy : ℕ → ℕ → Logged → Logged
-roomy room places log = record log { revoked = record log.revoked { room = room }; places = places }
+abbrev pub roomy : ℕ → Logged → Logged
+roomy room log = record log { revoked = record log.revoked { room = room } }
 
 pub made : (most : ℕ) (settings : Settings) (rules : List NamedRule) (ring : RingState) (rows left : Rows) (log ready done : Logged) (things : List Revoke) (what : Change) →
-    ready ≡ roomy ready.revoked.room ready.places log → done ≡ written things what done.revoked.marks done.revoked.room done.places ready →
+    ready ≡ roomy ready.revoked.room log → done ≡ written things what done.revoked.marks done.revoked.room ready →
     things ≡ ended_by rows what → left ≡ rows_after rows what → ring ≡ ring_after (parts settings rules ring rows log).state what →
     is_room most log.revoked.events (length things) ≡ true → log.made < 2 ^ 58 →
     HasRoom most (parts settings rules ring rows log) what × (parts settings rules ring left done ≡ changed what (parts settings rules ring rows log))
@@ -39,10 +39,10 @@ unfolding apply
 made most settings rules ring rows left log ready done things what roomier is ends leaves turns room few = (
   (subst (λ (l : List Revoke). is_room most log.revoked.events (length l) ≡ true) ends room, few),
   ap {A = Logged} (λ d. parts settings rules ring left d)
-      (is ∙ ap {A = Logged} (λ r. written things what done.revoked.marks done.revoked.room done.places r) roomier
-      ∙ ap {A = List Revoke} (λ t. written t what done.revoked.marks done.revoked.room done.places log) ends)
-      ∙ ap {A = Rows} (λ r. parts settings rules ring r (written (ended_by rows what) what done.revoked.marks done.revoked.room done.places log)) leaves
-      ∙ ap {A = RingState} (λ r. parts settings rules r (rows_after rows what) (written (ended_by rows what) what done.revoked.marks done.revoked.room done.places log)) turns,
+      (is ∙ ap {A = Logged} (λ r. written things what done.revoked.marks done.revoked.room r) roomier
+      ∙ ap {A = List Revoke} (λ t. written t what done.revoked.marks done.revoked.room log) ends)
+      ∙ ap {A = Rows} (λ r. parts settings rules ring r (written (ended_by rows what) what done.revoked.marks done.revoked.room log)) leaves
+      ∙ ap {A = RingState} (λ r. parts settings rules r (rows_after rows what) (written (ended_by rows what) what done.revoked.marks done.revoked.room log)) turns,
 )
 
 -- the people and the grants that a domain leaves

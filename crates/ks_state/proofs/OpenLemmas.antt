@@ -1,5 +1,5 @@
 -- An identity that opens stands for the first front of its opening.
-use Rattle.std.proofs.Common.{◌≡◌, [], None, refl, sym, ap, subst, ◌∙◌, arith}
+use Rattle.std.proofs.Common.{◌≡◌, None, refl, sym, ap, subst, ◌∙◌, arith}
 use Rattle.ks_machine.specs.Fronts.{replay, replayed, first_front}
 use Rattle.ks_machine.specs.Lawful.{AreLawful, IsOpeningInRange}
 use Rattle.ks_machine.specs.Opened.{open_fault, opened_state}
@@ -15,11 +15,11 @@ unfolding replay replayed opened_state
 first_state opening = refl
 
 pub stands_first : (state : State) (opening : PlainOpening) → IsOpeningInRange opening → state ≡ opened_state opening → open_fault opening ≡ None →
-    Stands (record { state = state; newest = [] }) (first_front opening)
+    Stands (record { state = state; newest = None }) (first_front opening)
 unfolding AreLawful
 stands_first state opening range is none = record {
   state = is ∙ first_state opening;
-  newest = record { older = []; last = refl; few = omega arith; some = λ empty. refl };
+  newest = refl;
   lawful = record { range = range; accepted = none; changes = omega arith; high = omega arith; count = omega arith };
 }
 

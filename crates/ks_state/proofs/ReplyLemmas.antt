@@ -17,6 +17,7 @@ use Rattle.ks_machine.specs.Outcomes.{Outcome}
 use Rattle.ks_machine.specs.Room.{event_limit, room_for}
 use Rattle.ks_machine.specs.States.{State}
 use Rattle.ks_machine.specs.Steps.{Replies, Needs, step, step_at, stepped}
+use Rattle.ks_laws.proofs.LawLemmas.{lower_limit}
 use Rattle.ks_state.specs.Planning.{GoOn, IsPlan, moment_at, state_at, with_room}
 use Rattle.ks_state.specs.Replies.{CarriesOut, IsReply}
 use Rattle.ks_state.specs.Shown.{FitsWithRoom, HasRoom, Shown, changed, has_room, raised_to}
@@ -105,7 +106,7 @@ pub changed_lawful : (known : Known) (shown : Shown) (f : Front) (call : Call) (
     Stands shown f → outcome.change ≡ Some what → IsPlan known f call (Go outcome) → HasRoom (event_limit call.command) (raised_to (moment_at f call) shown) what →
     (step known (replay f) call ≡ Replies (reply.Ok outcome.told) (Some what)) × IsLawful (then f (moment_at f call) (Some what))
 changed_lawful known shown f call outcome what few are on fit stands some is room =
-    let there = room_there (state_at f call) call.command what (room_at shown f call what true stands room.0) in
+    let there = room_there (state_at f call) (event_limit call.command) what (lower_limit call.command) (room_at shown f call what true stands room.0) in
     let says = changing_step known f call outcome what some is there in
     (says, subst IsLawful (answered_as known f call (reply.Ok outcome.told) (Some what) few are says).1 (on f call stands.lawful fit (few_changes shown f stands room.1)))
 
@@ -132,7 +133,7 @@ full_reply : (known : Known) (shown : Shown) (f : Front) (call : Call) (outcome 
     Stands shown f → outcome.change ≡ Some what → IsPlan known f call (Go outcome) → has_room (event_limit call.command) (raised_to (moment_at f call) shown) what ≡ false →
     IsReply f call (reply.Refused (cause.Full kind.Event)) (raised_to (moment_at f call) shown)
 full_reply known shown f call outcome what few are stands some is lacks =
-    let room = room_lacks (state_at f call) call.command what (room_at shown f call what false stands lacks) in
+    let room = room_lacks (state_at f call) (event_limit call.command) what (lower_limit call.command) (room_at shown f call what false stands lacks) in
     same_reply known shown f call (reply.Refused (cause.Full kind.Event)) few are stands
     (full_step known f call outcome what (cause.Full kind.Event) some is room)
 

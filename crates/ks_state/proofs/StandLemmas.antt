@@ -1,33 +1,32 @@
 -- What a moment and a change make of a front is what they make of an identity that stands for it.
-use Rattle.std.proofs.Common.{◌≡◌, ℕ, suc, ◌+◌, ◌-◌, ◌≤◌, ◌==◌, ◌||◌, nat_le, true, false, List, [], ◌∷◌, ◌++◌, length, take, drop, Some, None, refl, sym, ap, ◌∙◌, arith, append_assoc, append-nil, length-append, length-drop}
+use Rattle.std.proofs.Common.{◌≡◌, ℕ, suc, ◌+◌, ◌≤◌, ◌==◌, ◌||◌, nat_le, true, false, List, [], ◌∷◌, ◌++◌, length, Some, None, refl, sym, ap, ◌∙◌, arith, append_assoc, append-nil}
 use Rattle.std.specs.Prelude.{◌&&◌}
 use Rattle.std.proofs.lemmas.Bool.{ne_eqb}
 use Rattle.std.proofs.lemmas.Bool.Decides.{nat_tests}
-use Rattle.std.proofs.lemmas.List.{take-append-drop}
-use Rattle.ks_laws.proofs.LawLemmas.{lawful_longer, lower_limit}
+use Rattle.ks_laws.proofs.LawLemmas.{lawful_longer}
 use Rattle.ks_base.specs.declared.events.EventRow.{EventRow}
 use Rattle.ks_base.specs.declared.events.Revoke.{Revoke}
 use Rattle.ks_base.specs.declared.kinds.Kind.TheVariants as kind
 use Rattle.ks_base.specs.declared.limits.TheConstants.{EVENTS}
+use Rattle.ks_base.specs.Limits.{limit}
 use Rattle.ks_base.specs.Revocation.{live}
 use Rattle.ks_machine.specs.declared.cause.Cause.TheVariants as cause
 use Rattle.ks_machine.specs.declared.change.Change.{Change}
 use Rattle.ks_machine.specs.declared.change.Entry.{Entry}
-use Rattle.ks_machine.specs.declared.command.Command.{Command}
 use Rattle.ks_machine.specs.Attempts.{Go, Stop}
 use Rattle.ks_machine.specs.Changes.{apply, ended_by, events_at, ring_after}
 use Rattle.ks_machine.specs.Fronts.{Front, replay, replayed, then}
 use Rattle.ks_machine.specs.Lawful.{AreLawful, Fits, IsLawful}
 use Rattle.ks_machine.specs.Moment.{last_moment}
 use Rattle.ks_machine.specs.Opened.{opened_state}
-use Rattle.ks_machine.specs.Room.{event_limit, has_event_room, room_for}
+use Rattle.ks_machine.specs.Room.{has_event_room, room_for}
 use Rattle.ks_machine.specs.States.{State}
 use Rattle.ks_machine.proofs.FrontLemmas.{changes_are_replayed}
 use Rattle.ks_revoke.proofs.LiveLemmas.{live_again, live_push}
-use Rattle.ks_state.specs.Logs.{is_room, newest_most, newest_with}
+use Rattle.ks_state.specs.Logs.{is_room}
 use Rattle.ks_state.specs.Shown.{Shown, changed, raised_to}
-use Rattle.ks_state.specs.Standing.{AreNewest, Stands, with_live}
-use Rattle.ks_state.specs.StandingLaws.{high_is, made_so_far, not_empty}
+use Rattle.ks_state.specs.Standing.{Stands, with_live}
+use Rattle.ks_state.specs.StandingLaws.{high_is, made_so_far}
 
 -- revocations at the moment itself are live
 live_with : (life moment : ℕ) (things : List Revoke) (events : List EventRow) →
@@ -52,18 +51,6 @@ pub live_raised : (S : State) (moment : ℕ) → S.high ≤ moment →
 live_raised S moment le =
     ap {A = List EventRow} (λ events. record S { events = events; high = moment }) (live_again S.settings.life S.high moment S.events le)
 
--- the newest changes
-
-pub newest_after : (newest changes : List Entry) (entry : Entry) → AreNewest newest changes → AreNewest (newest_with entry newest) (changes ++ entry ∷ [])
-newest_after newest changes entry are =
-    let gone = length newest + 1 - newest_most in record {
-      older = are.older ++ take gone newest;
-      last = ap (λ (all : List Entry). all ++ entry ∷ []) (are.last ∙ ap (λ (tail : List Entry). are.older ++ tail) (sym (take-append-drop gone newest)) ∙ sym (append_assoc are.older (take gone newest) (drop gone newest)))
-          ∙ append_assoc (are.older ++ take gone newest) (drop gone newest) (entry ∷ []);
-      few = omega (arith, length-append (drop gone newest) (entry ∷ []), length-drop gone newest, are.few);
-      some = λ empty. absurd (not_empty (drop gone newest) entry empty);
-    }
-
 -- lawful fronts
 
 pub lawful_raised : (f : Front) (moment : ℕ) → f.high ≤ moment → moment ≤ last_moment → IsLawful f → IsLawful (record f { high = moment })
@@ -75,14 +62,29 @@ lawful_raised f moment le last lawful = record {
   count = lawful.count;
 }
 
-last_fits : (S : State) (last : ℕ) (entries : List Entry) (entry : Entry) (high : ℕ) → AreLawful S last (entries ++ entry ∷ []) high →
-    Fits (replayed S entries) entry.moment entry.change
+-- an entry is the next after a state: it has its number, fits, and has room
+pub record IsNext (S : State) (entry : Entry) : Type 0 where
+  pub number : entry.number ≡ S.made
+  pub fits : Fits S entry.moment entry.change
+  pub room : room_for S entry.moment (limit kind.Event) (Some entry.change) ≡ Go tt
+
+-- the last of lawful changes is the next after the others, and what is the next can follow them
+
+pub last_is_next : (S : State) (last : ℕ) (entries : List Entry) (entry : Entry) (high : ℕ) → AreLawful S last (entries ++ entry ∷ []) high →
+    IsNext (replayed S entries) entry
 unfolding AreLawful replayed
-last_fits S last [] entry high h = h.2
-last_fits S last (next ∷ entries) entry high h = last_fits (apply S next.moment next.change) next.moment entries entry high h.4
+last_is_next S last [] entry high h = record { number = h.0; fits = h.2; room = h.3 }
+last_is_next S last (next ∷ entries) entry high h = last_is_next (apply S next.moment next.change) next.moment entries entry high h.4
+
+pub next_is_lawful : (S : State) (last : ℕ) (entries : List Entry) (entry : Entry) (high : ℕ) → AreLawful S last entries high → high ≤ entry.moment →
+    IsNext (replayed S entries) entry → AreLawful S last (entries ++ entry ∷ []) entry.moment
+unfolding AreLawful replayed
+next_is_lawful S last [] entry high h le is = (is.number, omega (arith, h, le), is.fits, is.room, omega arith)
+next_is_lawful S last (next ∷ entries) entry high h le is =
+    (h.0, h.1, h.2, h.3, next_is_lawful (apply S next.moment next.change) next.moment entries entry high h.4 le is)
 
 -- a change that fits a state fits it with other revocations and at another highest moment
-fits_apart : (S : State) (events : List EventRow) (high moment : ℕ) (what : Change) → Fits S moment what →
+pub fits_apart : (S : State) (events : List EventRow) (high moment : ℕ) (what : Change) → Fits S moment what →
     Fits (record S { events = events; high = high }) moment what
 unfolding Fits
 fits_apart S events high moment what fits = fits
@@ -92,7 +94,7 @@ unfolding replay
 fits_in f moment what lawful =
     let S = replayed (opened_state f.opening) f.changes in
     fits_apart S (live S.settings.life moment S.events) moment moment what
-    (last_fits (opened_state f.opening) 0 f.changes (record { number = length f.changes; moment = moment; change = what }) moment lawful.changes)
+    (last_is_next (opened_state f.opening) 0 f.changes (record { number = length f.changes; moment = moment; change = what }) moment lawful.changes).fits
 
 -- room
 
@@ -110,15 +112,15 @@ room_is S moment most (thing ∷ things) le =
     let count : ℕ = length (live S.settings.life moment S.events) + length (thing ∷ things) in
     both_within count most EVENTS le ∙ ap (λ b. b || (nat_le count most && nat_le count EVENTS)) (sym (some_is (length things)))
 
-pub room_there : (S : State) (asked : Command) (what : Change) → is_room (event_limit asked) (with_live S).events (length (ended_by S.rows what)) ≡ true →
-    room_for S S.high (event_limit asked) (Some what) ≡ Go tt
+pub room_there : (S : State) (most : ℕ) (what : Change) → most ≤ EVENTS → is_room most (with_live S).events (length (ended_by S.rows what)) ≡ true →
+    room_for S S.high most (Some what) ≡ Go tt
 unfolding room_for
-room_there S asked what is = rw (room_is S S.high (event_limit asked) (ended_by S.rows what) (lower_limit asked) ∙ is) refl
+room_there S most what le is = rw (room_is S S.high most (ended_by S.rows what) le ∙ is) refl
 
-pub room_lacks : (S : State) (asked : Command) (what : Change) → is_room (event_limit asked) (with_live S).events (length (ended_by S.rows what)) ≡ false →
-    room_for S S.high (event_limit asked) (Some what) ≡ Stop (cause.Full kind.Event)
+pub room_lacks : (S : State) (most : ℕ) (what : Change) → most ≤ EVENTS → is_room most (with_live S).events (length (ended_by S.rows what)) ≡ false →
+    room_for S S.high most (Some what) ≡ Stop (cause.Full kind.Event)
 unfolding room_for
-room_lacks S asked what is = rw (room_is S S.high (event_limit asked) (ended_by S.rows what) (lower_limit asked) ∙ is) refl
+room_lacks S most what le is = rw (room_is S S.high most (ended_by S.rows what) le ∙ is) refl
 
 -- what an identity stands for
 
@@ -138,6 +140,6 @@ changed_stands shown f what stands lawful =
     let high : shown.state.high ≡ f.high = high_is shown f stands in
     let made : shown.state.made ≡ length f.changes = made_so_far shown f stands in record {
       state = ap (λ (S : State). apply S S.high what) stands.state ∙ sym (live_applied (replay f) what) ∙ ap with_live (sym (changes_are_replayed f f.high what));
-      newest = rw (made, high) (newest_after shown.newest f.changes (record { number = length f.changes; moment = f.high; change = what }) stands.newest);
+      newest = (f.changes, rw (made, high) refl);
       lawful = lawful;
     }

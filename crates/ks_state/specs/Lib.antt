@@ -5,6 +5,7 @@ pub mod Ends
 pub mod Logs
 pub mod Planning
 pub mod Replies
+pub mod Restoring
 pub mod Shown
 pub mod Standing
 pub mod StandingLaws

@@ -1,5 +1,5 @@
 -- What contracts see of an identity, and what a change makes of it.
-use Rattle.std.specs.Prelude.{◌≡◌, ℕ, ◌<◌, ◌^◌, Bool, true, false, List, length, Option, Some, None, Result, Ok, Err}
+use Rattle.std.specs.Prelude.{◌≡◌, ℕ, ◌<◌, ◌^◌, Bool, true, false, length, Option, Some, None, Result, Ok, Err}
 use Rattle.ks_base.specs.declared.rows.ProjectRow.{ProjectRow}
 use Rattle.ks_base.specs.People.{PeopleState}
 use Rattle.ks_base.specs.Revocation.{live}
@@ -9,15 +9,15 @@ use Rattle.ks_machine.specs.declared.change.Entry.{Entry}
 use Rattle.ks_machine.specs.Changes.{apply, ended_by}
 use Rattle.ks_machine.specs.Lawful.{Fits}
 use Rattle.ks_machine.specs.States.{State}
-use Rattle.ks_state.specs.Logs.{is_room, newest_with}
+use Rattle.ks_state.specs.Logs.{is_room}
 use Rattle.ks_state.specs.declared.unmade.Unmade.{Unmade}
 use Rattle.ks_state.specs.declared.unmade.Unmade.TheVariants as unmade
 
 pub record Shown : Type 0 where
   -- the state, whose revocations are the live ones alone
   pub state : State
-  -- the newest changes, in the order in which they were made
-  pub newest : List Entry
+  -- the last change, if there was one
+  pub newest : Option Entry
 
 -- the tree and the people of an identity
 abbrev pub tree_in : Shown → TreeState
@@ -38,11 +38,11 @@ raised_to moment shown = record {
   newest = shown.newest;
 }
 
--- the state is the changed one, and the change stands among the newest
+-- the state is the changed one, and the change is the last
 abbrev pub changed : Change → Shown → Shown
 changed change shown = record {
   state = apply shown.state shown.state.high change;
-  newest = newest_with (record { number = shown.state.made; moment = shown.state.high; change = change }) shown.newest;
+  newest = Some (record { number = shown.state.made; moment = shown.state.high; change = change });
 }
 
 -- there is room for the revocations of a change among so many live ones

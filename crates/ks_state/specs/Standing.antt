@@ -1,6 +1,5 @@
 -- For which fronts an identity stands.
-use Rattle.std.specs.Prelude.{◌≡◌, ℕ, ◌≤◌, List, [], ◌++◌, length}
-use Rattle.ks_base.specs.declared.limits.TheConstants.{ENTRIES}
+use Rattle.std.specs.Prelude.{◌≡◌, ℕ, List, [], ◌∷◌, ◌++◌, length, Option, Some, None}
 use Rattle.ks_base.specs.Revocation.{live}
 use Rattle.ks_machine.specs.declared.change.Entry.{Entry}
 use Rattle.ks_machine.specs.Fronts.{Front, replay}
@@ -12,19 +11,17 @@ use Rattle.ks_state.specs.Shown.{Shown}
 abbrev pub with_live : State → State
 with_live S = record S { events = live S.settings.life S.high S.events }
 
--- the last of all changes, at most 65,536, and at least one where there is one
-pub record AreNewest (newest changes : List Entry) : Type 0 where
-  pub older : List Entry
-  pub last : changes ≡ older ++ newest
-  pub few : length newest ≤ ENTRIES
-  pub some : newest ≡ [] → changes ≡ []
+-- the last of all changes, if there is one
+abbrev pub IsNewest : Option Entry → List Entry → Type 0
+IsNewest None changes = changes ≡ []
+IsNewest (Some entry) changes = (older : List Entry) × (changes ≡ older ++ entry ∷ [])
 
 -- an identity stands for a front
 pub record Stands (shown : Shown) (f : Front) : Type 0 where
   -- its state is that of the front, with the live revocations alone
   pub state : shown.state ≡ with_live (replay f)
-  -- its changes are the newest of the front
-  pub newest : AreNewest shown.newest f.changes
+  -- its last change is that of the front
+  pub newest : IsNewest shown.newest f.changes
   -- and the front is one that calls can reach
   pub lawful : IsLawful f
 

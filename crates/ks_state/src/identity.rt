@@ -1,4 +1,5 @@
 ghost use Rattle.std.specs.Prelude.{◌≡◌, ◌≤◌, length, IfOk};
+ghost use Rattle.std.specs.Option.{option_copied};
 ghost use Rattle.ks_base.specs.declared.limits.TheConstants.{KEYS};
 ghost use Rattle.ks_state.specs.Shown.{raised_to};
 
@@ -6,7 +7,7 @@ use crate::log::Log;
 use ks_assign::Grants;
 use ks_base::{EventList, Memory};
 use ks_catalog::Catalog;
-use ks_machine::Settings;
+use ks_machine::{Entry, Settings};
 use ks_people::People;
 use ks_policy::Rules;
 use ks_ring::Ring;
@@ -16,8 +17,8 @@ use ks_trust::Trusts;
 use std::alloc::Global;
 use std::marker::Model;
 
-/// The identity of a server. Contracts see the machine's state, whose revocations are the live ones alone, and the newest
-/// changes: at most 65,536.
+/// The identity of a server. Contracts see the machine's state, whose revocations are the live ones alone, and the last
+/// change.
 pub struct Identity {
     pub(crate) alloc: Global,
     pub(crate) settings: Settings,
@@ -85,6 +86,13 @@ impl Identity {
         ensures moment { result.1 ≡ self.now.state.high }
     {
         (self.log.made(), self.log.high())
+    }
+
+    /// The last change, if there was one.
+    pub fn newest(&self) -> Option<&Entry>
+        ensures { option_copied result ≡ self.now.newest }
+    {
+        self.log.newest()
     }
 
     /// The live revocations, in the order in which they were written.

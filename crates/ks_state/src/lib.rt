@@ -1,4 +1,4 @@
-//! The identity of a server: its tables, its keys and rules, what was revoked, and its newest changes. It stands for all
+//! The identity of a server: its tables, its keys and rules, what was revoked, and its last change. It stands for all
 //! that happened since it was opened.
 #![tactic(auto)]
 
@@ -19,6 +19,8 @@ mod log;
 mod make;
 mod opening;
 mod puts;
+mod redo;
+mod restoring;
 mod settle;
 mod trusts_gone;
 mod unmade;
@@ -28,3 +30,5 @@ pub use decides::{Decides, Kept};
 pub use decision::Decision;
 pub use identity::Identity;
 pub use ks_plan::Needs;
+pub use redo::RedoFault;
+pub use restoring::{RestoreFault, restore};

@@ -1,28 +1,26 @@
 //! What is written down of each change.
-ghost use Rattle.std.specs.Prelude.{◌≡◌, ◌+◌, ◌-◌, ◌^◌, ◌<◌, ◌≤◌, ◌⊎◌, max, true, false, [], ◌∷◌, ◌++◌, length, drop, OnOk, OnErr, IfErr, IsErr};
-ghost use Rattle.std.specs.VecDeque.{deque_len, deque_capacity};
+ghost use Rattle.std.specs.Prelude.{◌≡◌, ◌^◌, ◌<◌, ◌≤◌, true, false, [], ◌++◌, length, Some, None, OnOk};
+ghost use Rattle.std.specs.Option.{option_copied};
 ghost use Rattle.ks_base.specs.Revocation.{live};
 ghost use Rattle.ks_state.specs.declared.unmade.Unmade.{Unmade};
 ghost use Rattle.ks_machine.specs.Changes.{events_at};
-ghost use Rattle.ks_state.specs.Logs.{is_room, newest_most, newest_with, written};
+ghost use Rattle.ks_state.specs.Logs.{is_room, written};
 
 use crate::unmade::Unmade;
-use ks_base::limits::ENTRIES;
-use ks_base::{EventRow, Memory, Revoke};
+use ks_base::{EventRow, Revoke};
 use ks_machine::{Change, Entry};
 use ks_revoke::{RevokeFault, Revoked};
 use std::alloc::Global;
-use std::collections::VecDeque;
 use std::marker::Model;
 
 /// How many changes may be made.
 const CHANGES: u64 = 1 << 58;
 
-/// The live revocations, the newest changes, and how many changes were made.
+/// The live revocations, the last change, and how many changes were made.
 pub(crate) struct Log {
     revoked: Revoked,
     high: u64,
-    newest: VecDeque<Entry>,
+    newest: Option<Entry>,
     made: u64,
 }
 
@@ -38,15 +36,14 @@ impl Drop for Log {
 }
 
 impl Model for Log {
-    ghost use Rattle.std.specs.Prelude.{◌≡◌, ◌≤◌, length};
-    ghost use Rattle.std.specs.VecDeque.{deque_len, deque_capacity};
-    ghost use Rattle.ks_state.specs.Logs.{Logged, newest_most, places_of};
+    ghost use Rattle.std.specs.Prelude.{◌≡◌};
+    ghost use Rattle.ks_state.specs.Logs.{Logged};
 
     ghost Value = { Logged };
 
-    ghost view = { λ log. record { revoked = log.revoked; newest = log.newest.items; made = log.made; places = places_of (deque_len log.newest) (deque_capacity log.newest) } };
+    ghost view = { λ log. record { revoked = log.revoked; newest = log.newest; made = log.made } };
 
-    ghost invariant = { λ log. (log.high ≡ log.revoked.high) × (length log.newest.items ≤ newest_most) };
+    ghost invariant = { λ log. log.high ≡ log.revoked.high };
 }
 
 /// Adds revocations at the greatest moment so far, for which there is room.
@@ -63,28 +60,15 @@ fn revoke_all(revoked: &mut Revoked, moment: u64, things: &[Revoke])
     }
 }
 
-/// Puts the entry behind the others, in the place of the oldest where as many are kept as may be.
-fn put_newest(newest: &mut VecDeque<Entry>, entry: Entry)
-    requires most { length newest.old.items ≤ newest_most }
-    requires place { (deque_len newest.old < deque_capacity newest.old) ⊎ (newest_most ≤ deque_len newest.old) }
-    ensures items { newest.new.items ≡ newest_with entry newest.old.items }
-{
-    let _change = &entry.change;
-    if newest.len() >= ENTRIES {
-        let _oldest = newest.pop_front();
-    }
-    newest.push_back_reserved(entry);
-}
-
 impl Log {
     /// Nothing yet, for tokens that live as many seconds. It takes no memory.
     pub(crate) fn new(alloc: Global, life: u64) -> Log
-        ensures { result ≡ record { revoked = record { life = life; high = 0; events = []; marks = []; room = result.revoked.room }; newest = []; made = 0; places = result.places } }
+        ensures { result ≡ record { revoked = record { life = life; high = 0; events = []; marks = []; room = result.revoked.room }; newest = None; made = 0 } }
     {
         Log {
             revoked: Revoked::new(alloc, life),
             high: 0,
-            newest: VecDeque::new(alloc),
+            newest: None,
             made: 0,
         }
     }
@@ -110,6 +94,13 @@ impl Log {
         self.made
     }
 
+    /// The last change, if there was one.
+    pub(crate) fn newest(&self) -> Option<&Entry>
+        ensures { option_copied result ≡ self.now.newest }
+    {
+        self.newest.as_ref()
+    }
+
     /// Raises the highest moment to this one, and lets the revocations that are past then go. It takes no memory.
     pub(crate) fn raise(&mut self, moment: u64)
         requires { self.old.revoked.high ≤ moment }
@@ -122,16 +113,18 @@ impl Log {
     /// Makes room for one change and as many more revocations. Refused is what would lead to more live ones than these, or
     /// than may ever be.
     pub(crate) fn ready(&mut self, most: usize, more: usize) -> Result<(), Unmade>
-        ensures same { self.new ≡ record self.old { revoked = record self.old.revoked { room = self.new.revoked.room }; places = self.new.places } }
+        ensures same { self.new ≡ record self.old { revoked = record self.old.revoked { room = self.new.revoked.room } } }
         ensures room { OnOk result (more ≤ self.new.revoked.room) }
-        ensures place { OnOk result ((1 ≤ self.new.places) × (self.old.made < 2 ^ 58)) }
+        ensures count { OnOk result (self.old.made < 2 ^ 58) }
         ensures free { OnOk result (is_room most self.old.revoked.events more ≡ true) }
         ensures full { result ≡ Err Unmade.Full → is_room most self.old.revoked.events more ≡ false }
     {
         if more > 0 {
             self.room(most, more)?;
         }
-        self.place()?;
+        if self.made >= CHANGES {
+            return Err(Unmade::Memory);
+        }
         Ok(())
     }
 
@@ -153,34 +146,18 @@ impl Log {
         }
     }
 
-    /// Makes room for one change.
-    fn place(&mut self) -> Result<(), Memory>
-        ensures same { self.new ≡ record self.old { places = self.new.places } }
-        ensures place { OnOk result ((1 ≤ self.new.places) × (self.old.made < 2 ^ 58)) }
-    {
-        if self.made >= CHANGES {
-            return Err(Memory);
-        }
-        if self.newest.len() < ENTRIES {
-            self.newest.reserve(1)?;
-        }
-        Ok(())
-    }
-
     /// Writes one change down, with what it revoked, for which there is room.
     pub(crate) fn write(&mut self, things: &[Revoke], change: Change)
         requires room { length things.now ≤ self.old.revoked.room }
-        requires place { 1 ≤ self.old.places }
         requires count { self.old.made < 2 ^ 58 }
-        ensures { self.new ≡ written things.now change self.new.revoked.marks self.new.revoked.room self.new.places self.old }
+        ensures { self.new ≡ written things.now change self.new.revoked.marks self.new.revoked.room self.old }
     {
         revoke_all(&mut self.revoked, self.high, things);
-        let entry = Entry {
+        self.newest = Some(Entry {
             number: self.made,
             moment: self.high,
             change,
-        };
-        put_newest(&mut self.newest, entry);
+        });
         self.made += 1;
     }
 }

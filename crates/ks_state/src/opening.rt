@@ -1,5 +1,5 @@
 //! How a server opens.
-ghost use Rattle.std.specs.Prelude.{◌≡◌, [], IfOk};
+ghost use Rattle.std.specs.Prelude.{◌≡◌, None, IfOk};
 ghost use Rattle.ks_machine.specs.Lawful.{IsOpeningInRange};
 ghost use Rattle.ks_machine.specs.Opened.{open_fault};
 ghost use Rattle.ks_machine.specs.Ranges.{IsSettings};
@@ -33,7 +33,7 @@ impl Identity {
     /// The identity of what a server opens with, before any change.
     fn new(alloc: Global, opened: Opened) -> Identity
         requires { IsSettings opened.settings }
-        ensures { result ≡ record { state = state_of opened; newest = [] } }
+        ensures { result ≡ record { state = state_of opened; newest = None } }
     {
         let log = Log::new(alloc, opened.settings.life);
         Identity {

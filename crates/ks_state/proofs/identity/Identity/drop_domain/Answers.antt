@@ -30,4 +30,4 @@ returns c =
     (made c.args.most i.settings i.rules i.ring before left i.log c.ready.new.self c.write.new.self c.as_slice-2.result.now what c.in_ok-ready.ensures.same c.write.ensures things
     (domain_rows i.tree c.drop_domain.new.self i.people c.drop_people.new.people i.roles i.grants c.drop_grants.new.grants i.trusts c.drop_all.new.self i.catalog c.args.id
     c.in-Ok.ensures.decides.1 people grants trusts)
-    refl room c.in_ok-ready.ensures.place.1)
+    refl room c.in_ok-ready.ensures.count)
