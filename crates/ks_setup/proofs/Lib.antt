@@ -1,5 +1,6 @@
 pub mod BoundLemmas
 pub mod CountLemmas
+pub mod DeriveLemmas
 pub mod DrawLemmas
 pub mod EntryLemmas
 pub mod FolderLemmas

@@ -1,6 +1,7 @@
 -- How the answers of the steps make the answer of the whole.
-use Rattle.std.proofs.Common.{◌≡◌, ℕ, List, [], Ok, Err, refl, ap, ◌∙◌}
+use Rattle.std.proofs.Common.{◌≡◌, ℕ, ◌*◌, ◌<◌, List, [], length, Ok, Err, refl, ap, subst, ◌∙◌}
 use Rattle.std.specs.Prelude.{Result}
+use Rattle.std.specs.List.{concat}
 use Rattle.serde_json.specs.Data.{Data}
 use Rattle.ks_base.specs.declared.key.Key.{Key}
 use Rattle.ks_base.specs.declared.shapes.ShapeFault.{ShapeFault}
@@ -10,17 +11,18 @@ use Rattle.ks_base.specs.Results.{◌>>=◌}
 use Rattle.ks_outside.specs.Desks.{DeskState}
 use Rattle.ks_policy.specs.declared.fault.PolicyFault.{PolicyFault}
 use Rattle.ks_policy.specs.declared.fault.PolicyFault.TheVariants as policy
+use Rattle.ks_policy.specs.Openings.{plain}
 use Rattle.ks_shape.specs.Bodies.{whole_document}
 use Rattle.ks_shape.specs.Readings.{ReadsBy}
 use Rattle.ks_setup.proofs.DrawLemmas.{drew_nothing}
-use Rattle.ks_setup.specs.declared.derive.DeriveFault.{DeriveFault}
-use Rattle.ks_setup.specs.declared.derive.DeriveFault.TheVariants as derive
+use Rattle.ks_setup.specs.declared.derive.DrawFault.{DrawFault}
+use Rattle.ks_setup.specs.declared.derive.DrawFault.TheVariants as draw
 use Rattle.ks_setup.specs.declared.opening.Checked.{Checked}
 use Rattle.ks_setup.specs.declared.opening.OpeningFault.{OpeningFault}
 use Rattle.ks_setup.specs.declared.opening.OpeningFault.TheVariants.{Shape, Policy, BadKey, Random, Memory}
 use Rattle.ks_setup.specs.declared.written.Written.{Written}
-use Rattle.ks_setup.specs.Openings.{AnswersOpening}
-use Rattle.ks_setup.specs.Steps.{Assembles, Checks, ChecksDocument, of_derive, of_shape}
+use Rattle.ks_setup.specs.Openings.{AnswersOpening, Opens, passwords}
+use Rattle.ks_setup.specs.Steps.{Checks, ChecksDocument, DrawsSalts, of_draw, of_shape, opened_with}
 use Rattle.ks_setup.specs.Written.{document_of, file_of, written_in}
 
 -- the document
@@ -71,10 +73,36 @@ unchecked_answers (BadKey path) text held desk h = (h.0, h.1, refl)
 unchecked_answers Random text held desk h = absurd h
 unchecked_answers Memory text held desk h = ([], drew_nothing desk)
 
-pub no_opening_answers : {Link : Type 0} (e : DeriveFault) (checked : Checked) (text : List ℕ) (held : List (ℕ × Key)) (old new : DeskState Link)
-    → Checks text held (Ok checked) → Assembles checked old new (Err e) → AnswersOpening text held old new (Err (of_derive e))
-no_opening_answers derive.Random checked text held old new file h = (
-  ((checked.written, file.0), (checked.rules, file.1)),
-  (h.0, (checked.written, file.0, (checked.ring, file.2), h.1), h.2, h.3),
-)
-no_opening_answers derive.Memory checked text held old new file h = h
+-- and what is refused for want of salts leaves it without them
+pub no_salts_answers : {Link : Type 0} (e : DrawFault) (checked : Checked) (count : ℕ) (text : List ℕ) (held : List (ℕ × Key)) (old new : DeskState Link)
+    → Checks text held (Ok checked) → count ≡ passwords checked.written.users → DrawsSalts count old new (Err e)
+    → AnswersOpening text held old new (Err (of_draw e))
+no_salts_answers draw.Random checked count text held old new file is h =
+    let short = subst (λ n. (given : ℕ) × (given < n) × (length h.0 ≡ 16 * given)) is h.1 in (
+      ((checked.written, file.0), (checked.rules, file.1)),
+      (h.0, (checked.written, file.0, (checked.ring, file.2), short), h.2, h.3),
+    )
+no_salts_answers draw.Memory checked count text held old new file is h = h
+
+-- a checked file opens with as many salts as it has plain passwords
+pub opens_with : (checked : Checked) (text : List ℕ) (held : List (ℕ × Key)) (salts : List (List ℕ)) → Checks text held (Ok checked)
+    → length (concat salts) ≡ 16 * passwords checked.written.users → Opens text held (concat salts) (plain (opened_with checked salts))
+opens_with checked text held salts file whole = record {
+  written = checked.written;
+  form = file.0;
+  policy = file.1;
+  ring = file.2;
+  draws = whole;
+  users = refl;
+  settings = refl;
+  domains = refl;
+  projects = refl;
+  groups = refl;
+  members = refl;
+  roles = refl;
+  implications = refl;
+  regions = refl;
+  services = refl;
+  endpoints = refl;
+  assignments = refl;
+}

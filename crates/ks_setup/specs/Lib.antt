@@ -9,3 +9,4 @@ pub mod RowLines
 pub mod FormLines
 pub mod Ranges
 pub mod Steps
+pub mod Headers

@@ -1,5 +1,6 @@
 -- What each step of opening a file answers.
-use Rattle.std.specs.Prelude.{◌≡◌, ◌≤◌, ◌<◌, ℕ, ◌*◌, List, [], length, Option, Some, None, Result, Ok, Err}
+use Rattle.std.specs.Prelude.{◌≡◌, ◌≤◌, ◌<◌, ℕ, ◌*◌, List, [], ◌∷◌, length, Option, Some, None, Result, Ok, Err}
+use Rattle.std.specs.List.{concat}
 use Rattle.serde_json.specs.Data.{Data}
 use Rattle.ks_base.specs.declared.key.Key.{Key}
 use Rattle.ks_base.specs.declared.limits.TheConstants.{KEYS}
@@ -13,9 +14,10 @@ use Rattle.ks_policy.specs.declared.fault.PolicyFault.{PolicyFault}
 use Rattle.ks_policy.specs.declared.fault.PolicyFault.TheVariants as policy
 use Rattle.ks_policy.specs.declared.opening.Opening.{Opening}
 use Rattle.ks_policy.specs.Loading.{Loads}
+use Rattle.ks_policy.specs.Openings.{plain}
 use Rattle.ks_shape.specs.Bodies.{whole_document}
-use Rattle.ks_setup.specs.declared.derive.DeriveFault.{DeriveFault}
-use Rattle.ks_setup.specs.declared.derive.DeriveFault.TheVariants as derive
+use Rattle.ks_setup.specs.declared.derive.DrawFault.{DrawFault}
+use Rattle.ks_setup.specs.declared.derive.DrawFault.TheVariants as draw
 use Rattle.ks_setup.specs.declared.keys.RingFault.{RingFault}
 use Rattle.ks_setup.specs.declared.keys.RingFault.TheVariants as keys
 use Rattle.ks_setup.specs.declared.opening.Checked.{Checked}
@@ -27,7 +29,7 @@ use Rattle.ks_setup.specs.declared.written.Written.{Written}
 use Rattle.ks_setup.specs.declared.written.WrittenPassword.{WrittenPassword}
 use Rattle.ks_setup.specs.declared.written.WrittenPassword.TheVariants.{Plain, Record}
 use Rattle.ks_setup.specs.declared.written.WrittenUser.{WrittenUser}
-use Rattle.ks_setup.specs.Openings.{AreKeys, Drew, FallsShort, HasBadKey, HasPolicy, IsBadKey, IsFirstBad, IsFormed, IsRing, LoadsPolicy, bad_key_path, passwords, policy_in, users_from}
+use Rattle.ks_setup.specs.Openings.{AnswersOpening, AreKeys, Drew, HasBadKey, HasPolicy, IsBadKey, IsFirstBad, IsFormed, IsRing, LoadsPolicy, Opens, bad_key_path, policy_in, users_from}
 use Rattle.ks_setup.specs.Written.{file_of, written_in}
 
 -- the faults of the steps, as those of the opening
@@ -44,9 +46,9 @@ abbrev pub of_keys : RingFault → OpeningFault
 of_keys (keys.BadKey path) = BadKey path
 of_keys keys.Memory = Memory
 
-abbrev pub of_derive : DeriveFault → OpeningFault
-of_derive derive.Random = Random
-of_derive derive.Memory = Memory
+abbrev pub of_draw : DrawFault → OpeningFault
+of_draw draw.Random = Random
+of_draw draw.Memory = Memory
 
 -- keys
 
@@ -106,12 +108,19 @@ abbrev pub Draws : {Link A F : Type 0} → ℕ → (List ℕ → A) → DeskStat
 Draws count made old new (Ok a) = (drawn : List ℕ) × (length drawn ≡ count) × (a ≡ made drawn) × Drew old new drawn 0
 Draws count made old new (Err fault) = (0 < count) × Drew old new [] 1 × Rose old.fill_faults new.fill_faults
 
-abbrev pub Derives : {Link : Type 0} → ℕ → List WrittenUser → DeskState Link → DeskState Link → Result (List UserRow) DeriveFault → Type 0
-Derives rounds users old new (Ok rows) =
-    (drawn : List ℕ) × (length drawn ≡ 16 * passwords users) × (rows ≡ users_from rounds users drawn) × Drew old new drawn 0
-Derives rounds users old new (Err derive.Random) =
-    (drawn : List ℕ) × FallsShort users drawn × Drew old new drawn 1 × Rose old.fill_faults new.fill_faults
-Derives rounds users old new (Err derive.Memory) = (drawn : List ℕ) × Drew old new drawn 0
+-- so many salts were drawn, each by a fill of its own, or the first of them alone
+abbrev pub DrawsSalts : {Link : Type 0} → ℕ → DeskState Link → DeskState Link → Result (List (List ℕ)) DrawFault → Type 0
+DrawsSalts count old new (Ok salts) = (length salts ≡ count) × (length (concat salts) ≡ 16 * count) × Drew old new (concat salts) 0
+DrawsSalts count old new (Err draw.Random) =
+    (drawn : List ℕ) × ((given : ℕ) × (given < count) × (length drawn ≡ 16 * given)) × Drew old new drawn 1
+    × Rose old.fill_faults new.fill_faults
+DrawsSalts count old new (Err draw.Memory) = (drawn : List ℕ) × Drew old new drawn 0
+
+-- a password takes the first of the salts where it is plain, and none where it is not
+abbrev pub Leaves : Option WrittenPassword → List (List ℕ) → List (List ℕ) → Type 0
+Leaves None salts left = left ≡ salts
+Leaves (Some (Plain password)) salts left = (salt : List ℕ) × (length salt ≡ 16) × (salts ≡ salt ∷ left)
+Leaves (Some (Record row)) salts left = left ≡ salts
 
 -- the opening, once the file is checked
 
@@ -134,11 +143,12 @@ opened checked users = record {
   assignments = checked.written.assignments;
 }
 
-abbrev pub Assembles : {Link : Type 0} → Checked → DeskState Link → DeskState Link → Result Opening DeriveFault → Type 0
-Assembles checked old new (Ok opening) =
-    (drawn : List ℕ) × (length drawn ≡ 16 * passwords checked.written.users)
-    × (opening ≡ opened checked (users_from checked.written.settings.rounds checked.written.users drawn)) × Drew old new drawn 0
-Assembles checked old new (Err derive.Random) =
-    (drawn : List ℕ) × FallsShort checked.written.users drawn × Drew old new drawn 1
-    × Rose old.fill_faults new.fill_faults
-Assembles checked old new (Err derive.Memory) = (drawn : List ℕ) × Drew old new drawn 0
+-- the opening of a checked file with these salts
+abbrev pub opened_with : Checked → List (List ℕ) → Opening
+opened_with checked salts = opened checked (users_from checked.written.settings.rounds checked.written.users (concat salts))
+
+-- what a reading of the file answers, with the salts that it drew
+abbrev pub OpensFirst : {Link : Type 0} → List ℕ → List (ℕ × Key) → DeskState Link → DeskState Link
+    → Result (Opening × List (List ℕ)) OpeningFault → Type 0
+OpensFirst text held old new (Ok (opening, salts)) = Opens text held (concat salts) (plain opening) × Drew old new (concat salts) 0
+OpensFirst text held old new (Err fault) = AnswersOpening text held old new (Err fault)

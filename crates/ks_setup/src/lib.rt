@@ -7,6 +7,7 @@ mod entries;
 mod file;
 mod folder;
 mod grants;
+mod header;
 mod key_texts;
 mod keys;
 mod laws;
@@ -23,6 +24,7 @@ mod written;
 
 pub use derive::derive_password;
 pub use folder::wants_folder;
+pub use header::{first_opening, opening_of};
 pub use laws::{
     check_is_one_word, openings_are_in_range, password_has_ten_thousand_rounds, records_are_read,
     rotate_leaves_three, serve_has_four_workers, setup_is_two_words, talk_is_three_words,

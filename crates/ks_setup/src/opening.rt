@@ -1,14 +1,17 @@
-ghost use Rattle.std.specs.Prelude.{◌≡◌, ◌≤◌};
+ghost use Rattle.std.specs.Prelude.{◌≡◌, ◌≤◌, ◌*◌, length, IfOk};
+ghost use Rattle.std.specs.List.{concat};
 ghost use Rattle.serde_json.specs.View.{view};
-ghost use Rattle.ks_setup.specs.Openings.{AnswersOpening};
-ghost use Rattle.ks_setup.specs.Steps.{Assembles, Checks, ChecksDocument, of_derive, of_keys, of_policy, of_shape};
+ghost use Rattle.ks_base.specs.declared.limits.TheConstants.{ROUNDS};
+ghost use Rattle.ks_setup.specs.Openings.{AnswersOpening, passwords};
+ghost use Rattle.ks_setup.specs.Steps.{Checks, ChecksDocument, OpensFirst, of_draw, of_keys, of_policy, of_shape, opened_with};
+ghost use Rattle.ks_setup.specs.declared.opening.OpeningFault.TheVariants.{Memory};
 
-use crate::derive::{DeriveFault, derive_users};
+use crate::derive::{DrawFault, derive_users, draw_salts, passwords};
 use crate::file::{read_file, read_written};
 use crate::keys::{RingFault, read_ring};
 use crate::policy::load_policy;
 use crate::written::Written;
-use ks_base::{Key, KeyList, ShapeFault, ShapeRefusal, Text};
+use ks_base::{Key, KeyList, ListOf, Memory, ShapeFault, ShapeRefusal, Text};
 use ks_outside::Desk;
 use ks_policy::{Opening, PolicyFault, Rules};
 use serde_json::Value;
@@ -24,7 +27,7 @@ pub enum OpeningFault {
     Policy(PolicyFault),
     /// The entry of `keys` with this path is not the text of a key.
     BadKey(Text),
-    /// The desk gave no random bytes.
+    /// The desk gave no random bytes, or a header has not as many salts as its file has plain passwords.
     Random,
     /// There was no memory.
     Memory,
@@ -63,14 +66,22 @@ impl From<RingFault> for OpeningFault {
     }
 }
 
-impl From<DeriveFault> for OpeningFault {
-    ghost from_gives = { λ refusal fault. fault ≡ of_derive refusal };
+impl From<DrawFault> for OpeningFault {
+    ghost from_gives = { λ refusal fault. fault ≡ of_draw refusal };
 
-    fn from(fault: DeriveFault) -> OpeningFault {
+    fn from(fault: DrawFault) -> OpeningFault {
         match fault {
-            DeriveFault::Random => OpeningFault::Random,
-            DeriveFault::Memory => OpeningFault::Memory,
+            DrawFault::Random => OpeningFault::Random,
+            DrawFault::Memory => OpeningFault::Memory,
         }
+    }
+}
+
+impl From<Memory> for OpeningFault {
+    ghost from_gives = { λ _ fault. fault ≡ Memory };
+
+    fn from(_memory: Memory) -> OpeningFault {
+        OpeningFault::Memory
     }
 }
 
@@ -94,12 +105,31 @@ pub fn read_opening<P: Desk>(
 ) -> Result<Opening, OpeningFault>
     ensures { AnswersOpening text.now held.now (P.desk desk.old) (P.desk desk.new) result }
 {
-    let checked = check(alloc, text, held)?;
-    let opening = assemble(alloc, checked, desk)?;
+    let (opening, _salts) = open(alloc, text, held, desk)?;
     Ok(opening)
 }
 
-fn check(alloc: Global, text: &[u8], held: &[(u32, Key)]) -> Result<Checked, OpeningFault>
+/// What the opening file opens with, and the salts that were drawn for it.
+pub(crate) fn open<P: Desk>(
+    alloc: Global,
+    text: &[u8],
+    held: &[(u32, Key)],
+    desk: &mut P,
+) -> Result<(Opening, ListOf<[u8; 16]>), OpeningFault>
+    ensures { OpensFirst text.now held.now (P.desk desk.old) (P.desk desk.new) result }
+{
+    let checked = check(alloc, text, held)?;
+    let salts = draw_salts(alloc, passwords(checked.written.users.as_slice()), desk)?;
+    let opening = assemble(alloc, checked, salts.as_slice())?;
+    Ok((opening, salts))
+}
+
+/// Tests the form of a file, its policy and its keys.
+pub(crate) fn check(
+    alloc: Global,
+    text: &[u8],
+    held: &[(u32, Key)],
+) -> Result<Checked, OpeningFault>
     ensures { Checks text.now held.now result }
 {
     let file = read_file(alloc, text)?;
@@ -121,18 +151,24 @@ fn check_document(alloc: Global, file: &Value, held: &[(u32, Key)]) -> Result<Ch
     })
 }
 
-/// The opening of a file whose passwords are derived with the random bytes of the desk.
-fn assemble<P: Desk>(alloc: Global, checked: Checked, desk: &mut P) -> Result<Opening, DeriveFault>
+/// The opening of a file whose passwords are derived with these salts.
+pub(crate) fn assemble(
+    alloc: Global,
+    checked: Checked,
+    salts: &[[u8; 16]],
+) -> Result<Opening, Memory>
     requires at_least_one { 1 ≤ checked.written.settings.rounds }
-    requires limited { checked.written.settings.rounds ≤ 100_000 }
-    ensures { Assembles checked (P.desk desk.old) (P.desk desk.new) result }
+    requires limited { checked.written.settings.rounds ≤ ROUNDS }
+    requires as_many { length salts.now ≡ passwords checked.written.users }
+    ensures opening { IfOk result (λ opening. opening ≡ opened_with checked salts.now) }
+    ensures whole { IfOk result (λ _. length (concat salts.now) ≡ 16 * passwords checked.written.users) }
 {
     let Checked {
         written,
         rules,
         ring,
     } = checked;
-    let users = derive_users(alloc, written.settings.rounds, written.users, desk)?;
+    let users = derive_users(alloc, written.settings.rounds, written.users, salts)?;
     Ok(Opening {
         settings: written.settings,
         rules,

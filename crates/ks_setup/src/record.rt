@@ -78,34 +78,20 @@ fn decoded(alloc: Global, text: &str) -> Result<Option<Vec<u8>>, Memory>
 
 const OUT_OF_RANGE: Unread = Unread::Misfit(Misfit::Range);
 
+/// The so many bytes that a text spells.
 #[tactic(auto, unfolding(crate::specs::Records::bytes_in))]
-fn salt_in(alloc: Global, text: &str) -> Result<[u8; 16], Unread>
-    ensures { Fits result (found (bytes_in 16 text.now) misfit.Range) }
+fn bytes_in<const N: usize>(alloc: Global, text: &str) -> Result<[u8; N], Unread>
+    ensures { Fits result (found (bytes_in N text.now) misfit.Range) }
 {
-    let Some(bytes) = decoded(alloc, text)? else {
+    let Some(spelled) = decoded(alloc, text)? else {
         return Err(OUT_OF_RANGE);
     };
-    if bytes.len() != 16 {
+    if spelled.len() != N {
         return Err(OUT_OF_RANGE);
     }
-    let mut salt = [0u8; 16];
-    salt.copy_from_slice(bytes.as_slice());
-    Ok(salt)
-}
-
-#[tactic(auto, unfolding(crate::specs::Records::bytes_in))]
-fn digest_in(alloc: Global, text: &str) -> Result<[u8; 32], Unread>
-    ensures { Fits result (found (bytes_in 32 text.now) misfit.Range) }
-{
-    let Some(bytes) = decoded(alloc, text)? else {
-        return Err(OUT_OF_RANGE);
-    };
-    if bytes.len() != 32 {
-        return Err(OUT_OF_RANGE);
-    }
-    let mut digest = [0u8; 32];
-    digest.copy_from_slice(bytes.as_slice());
-    Ok(digest)
+    let mut bytes = [0u8; N];
+    bytes.copy_from_slice(spelled.as_slice());
+    Ok(bytes)
 }
 
 /// `SALT$DIGEST`, of a record with so many rounds.
@@ -116,8 +102,8 @@ fn salted_in(alloc: Global, rounds: u32, text: &str) -> Result<PasswordRow, Unre
     let Some((salt, digest)) = cut(text) else {
         return Err(OUT_OF_RANGE);
     };
-    let salt = salt_in(alloc, salt)?;
-    let digest = digest_in(alloc, digest)?;
+    let salt = bytes_in::<16>(alloc, salt)?;
+    let digest = bytes_in::<32>(alloc, digest)?;
     Ok(PasswordRow {
         salt,
         rounds,
