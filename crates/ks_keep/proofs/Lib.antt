@@ -1,0 +1,4 @@
+pub mod BookLemmas
+pub mod DecideLemmas
+pub mod RedoneLemmas
+pub mod SendLemmas

@@ -1,0 +1,6 @@
+pub mod BookLaws
+pub mod Books
+pub mod Keeping
+pub mod Pasts
+pub mod Redoing
+pub mod Restored
