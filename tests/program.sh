@@ -100,9 +100,14 @@ printf 'x' >"$work/keys/5"
 run '' talk "$work/o.json" "$work/keys"
 is 9 '' "ks: $work/keys/5: not a Fernet key"
 
+# What is no file is refused, and not waited for.
 mkfifo "$work/fifo"
 run '' talk "$work/fifo" keys
 is 3 '' "ks: $work/fifo: it could not be read"
+mkdir "$work/pipes"
+mkfifo "$work/pipes/0"
+run '' talk "$work/o.json" "$work/pipes"
+is 8 '' "ks: $work/pipes: the key folder could not be read or written; if there is none yet, make it first"
 
 # A server that is refused does not say that it listens.
 serve "$work/none.json" keys 127.0.0.1:0
