@@ -13,7 +13,7 @@ mod validity;
 mod verdict;
 
 pub use facts::Facts;
-pub use roles::{closure, is_system, roles_at};
+pub use roles::{closure, is_system, roles_at, roles_to_give};
 pub use scope::{acts_as, is_domain_on, is_project_on, is_user_on};
 pub use tables::Tables;
 pub use validity::validate;

@@ -6,6 +6,7 @@ ghost use Rattle.ks_base.specs.Rows.{has_id, trust_of};
 ghost use Rattle.ks_base.specs.Tables.{Among};
 ghost use Rattle.ks_auth.specs.Answers.{rows_told};
 ghost use Rattle.ks_machine.specs.Effective.{closure, roles_at};
+ghost use Rattle.ks_machine.specs.TrustCommands.{roles_to_give};
 ghost use Rattle.ks_machine.specs.Validity.{are_kept, has_roles, is_kept, is_system, roles_of, trust_roles};
 
 use crate::Tables;
@@ -136,4 +137,13 @@ pub fn roles_at(
         user,
         target,
     )
+}
+
+/// The roles that the first trustor of a new trust has at its project, which are those that the trust may give
+/// (OS-TRUST).
+pub fn roles_to_give(alloc: Global, tables: &Tables, new: &TrustRow) -> Result<IdList, Memory>
+    ensures { IfOk result (λ roles. roles ≡ roles_to_give (rows_told tables.now) new.now) }
+{
+    let first = tables.trusts.first_of_new(new);
+    roles_at(alloc, tables, &first, &Target::Project(new.project))
 }

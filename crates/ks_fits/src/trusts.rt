@@ -3,15 +3,14 @@ ghost use Rattle.std.specs.Prelude.{◌≡◌, ◌↔◌, IfOk, IsTrue};
 ghost use Rattle.std.specs.List.{AllByRecursion};
 ghost use Rattle.ks_auth.specs.Answers.{rows_told};
 ghost use Rattle.ks_base.specs.Rows.{role_of};
-ghost use Rattle.ks_base.specs.Trusts.{first_of_new, Follows, FollowsParent};
+ghost use Rattle.ks_base.specs.Trusts.{Follows, FollowsParent};
 ghost use Rattle.ks_fits.specs.Told.{PartiesStand, SaysFit, state_told};
 ghost use Rattle.ks_machine.specs.declared.change.Change.TheVariants as changed;
 ghost use Rattle.ks_machine.specs.Lawful.{Fits, IsStanding};
-ghost use Rattle.ks_machine.specs.TrustCommands.{roles_to_give};
 
 use crate::ranges::is_trust_in_range;
-use ks_auth::{Tables, roles_at};
-use ks_base::{Id, IdList, Memory, Target, TrustRow};
+use ks_auth::{Tables, roles_to_give};
+use ks_base::{Id, Memory, TrustRow};
 use std::alloc::Global;
 
 /// Whether a trust has the project of its parent, and a count that follows from the parent's.
@@ -51,27 +50,6 @@ fn parties_stand(tables: &Tables, trust: &TrustRow) -> bool
         && tables.people.user(&trust.trustee).is_some()
         && tables.tree.project(&trust.project).is_some()
         && do_stand(tables, trust.roles.as_slice())
-}
-
-/// The trustor at the top of the chain of a new trust.
-fn first_of_new(tables: &Tables, new: &TrustRow) -> Id
-    ensures { result ≡ first_of_new tables.now.trusts.now new.now }
-{
-    let Some(parent) = &new.parent else {
-        return new.trustor;
-    };
-    match tables.trusts.first_trustor(parent) {
-        Some(first) => first,
-        None => new.trustor,
-    }
-}
-
-/// The roles of the first trustor at the project of a new trust.
-fn roles_to_give(alloc: Global, tables: &Tables, new: &TrustRow) -> Result<IdList, Memory>
-    ensures { IfOk result (λ roles. roles ≡ roles_to_give (rows_told tables.now) new.now) }
-{
-    let first = first_of_new(tables, new);
-    roles_at(alloc, tables, &first, &Target::Project(new.project))
 }
 
 /// Whether the trust may be made at this moment.

@@ -5,7 +5,7 @@ ghost use Rattle.ks_auth.specs.Answers.{rows_told};
 ghost use Rattle.ks_base.specs.declared.receipt.Drawn.TheVariants as drawns;
 ghost use Rattle.ks_base.specs.Refusals.{fault_in};
 ghost use Rattle.ks_base.specs.Rows.{has_id};
-ghost use Rattle.ks_base.specs.Trusts.{creation_fault, first_of_new};
+ghost use Rattle.ks_base.specs.Trusts.{creation_fault};
 ghost use Rattle.ks_machine.specs.declared.body_out.BodyOut.TheVariants as bodies;
 ghost use Rattle.ks_machine.specs.declared.change.Change.TheVariants as changed;
 ghost use Rattle.ks_machine.specs.Outcomes.{changes};
@@ -25,11 +25,11 @@ use crate::named::role_in;
 use crate::names::titled_roles;
 use crate::paths::joined;
 use crate::{Caller, Halt, Plan};
-use ks_auth::{Tables, roles_at};
+use ks_auth::{Tables, roles_to_give};
 use ks_base::limits::REDELEGATIONS;
 use ks_base::{
-    FieldList, Filter, Id, IdList, Kind, Memory, RoleList, RoleRow, ShapeFault, Target, Text,
-    TrustFault, TrustRow,
+    FieldList, Filter, Id, IdList, Kind, Memory, RoleList, RoleRow, ShapeFault, Text, TrustFault,
+    TrustRow,
 };
 use ks_machine::{BodyOut, Cause, Change, Named, Row, RowList, TrustBody};
 use std::alloc::Global;
@@ -207,27 +207,6 @@ fn new_trust(id: Id, asked: &TrustBody, parent: Option<&TrustRow>, roles: IdList
         count: count_for(asked, parent),
         parent: parent.map(|above| above.id),
     }
-}
-
-/// The trustor at the top of the chain of a new trust.
-fn first_of_new(tables: &Tables, new: &TrustRow) -> Id
-    ensures { result ≡ first_of_new tables.now.trusts.now new.now }
-{
-    let Some(parent) = &new.parent else {
-        return new.trustor;
-    };
-    match tables.trusts.first_trustor(parent) {
-        Some(first) => first,
-        None => new.trustor,
-    }
-}
-
-/// The roles of the first trustor at the project of a new trust.
-fn roles_to_give(alloc: Global, tables: &Tables, new: &TrustRow) -> Result<IdList, Memory>
-    ensures { IfOk result (λ roles. roles ≡ roles_to_give (rows_told tables.now) new.now) }
-{
-    let first = first_of_new(tables, new);
-    roles_at(alloc, tables, &first, &Target::Project(new.project))
 }
 
 /// What is told of a trust.

@@ -1,7 +1,7 @@
 //! From a trust up to the first of its chain.
 ghost use Rattle.std.specs.Prelude.{◌≡◌, IfSome, IsSomeAnd, option_map};
 ghost use Rattle.ks_base.specs.Rows.{trust_of};
-ghost use Rattle.ks_base.specs.Trusts.{first_trustor, goes, LeadsTo};
+ghost use Rattle.ks_base.specs.Trusts.{first_of_new, first_trustor, goes, LeadsTo};
 ghost use Rattle.ks_trust.specs.State.{is_listed};
 
 use crate::Trusts;
@@ -17,6 +17,17 @@ impl Trusts {
     {
         let trust = self.trust(id)?;
         Some(self.top_trustor(trust))
+    }
+
+    /// The trustor at the top of the chain that a new trust lengthens: its own where it names no parent, or none that
+    /// stands. It takes no memory.
+    pub fn first_of_new(&self, new: &TrustRow) -> Id
+        ensures { result ≡ first_of_new self.now new.now }
+    {
+        match self.parent(new) {
+            Some(parent) => self.top_trustor(parent),
+            None => new.trustor,
+        }
     }
 
     fn top_trustor(&self, trust: &TrustRow) -> Id
