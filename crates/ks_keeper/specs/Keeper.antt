@@ -1,6 +1,5 @@
 -- What a keeper holds: a header, and entries by number.
-use Rattle.std.specs.Prelude.{ℕ, List, Option, Some, None, ◌≡◌, ◌≤◌, MatchOption, if◌then◌else◌, ◌==◌}
-use Rattle.std.specs.Option.{option_map_or}
+use Rattle.std.specs.Prelude.{ℕ, List, Option, Some, None, ◌≡◌, ◌≤◌, if◌then◌else◌, ◌==◌}
 
 -- the bytes of the header, if there is one, and the bytes that stand at each number
 pub record Kept : Type 0 where
@@ -29,11 +28,3 @@ pub record Keeping (K : Type 0) : Type 1 where
 -- no header and no entries
 abbrev pub nothing_kept : Kept
 nothing_kept = record { header = None; entries = λ _. None }
-
--- how a keeper is seen where there may be none: none holds nothing, is always whole, and never counts a fault
-abbrev pub optional : {K : Type 0} → Keeping K → Keeping (Option K)
-optional {K} keeping = record {
-  kept = λ keeper. option_map_or keeping.kept keeper nothing_kept;
-  whole = λ keeper. MatchOption keeper (Unit {0}) keeping.whole;
-  faults = λ keeper. option_map_or keeping.faults keeper 0;
-}
