@@ -16,6 +16,7 @@ use Rattle.ks_state.specs.StandingLaws.{made_so_far}
 use Rattle.ks_state.proofs.KeptLemmas.{apart}
 use Rattle.ks_keep.specs.Books.{AreKept, BookedState, HasHeader, IsBookOf, Spell, Stand, StandsBooked, StandsSince}
 use Rattle.ks_keep.specs.Keeping.{GoesOn, IsLacking, IsSpelled}
+use Rattle.ks_keep.specs.Stops.{with_entries}
 
 -- a function with these bytes at this number
 abbrev put : ℕ → List ℕ → (ℕ → Option (List ℕ)) → ℕ → Option (List ℕ)
@@ -179,6 +180,18 @@ drop_next zero (y ∷ []) x rest e = cc
 drop_next zero (y ∷ z ∷ xs) x rest e = cc
 drop_next (suc count) [] x rest e = absurd (cc)
 drop_next (suc count) (y ∷ xs) x rest e = drop_next count xs x rest e
+
+-- a book stays one with the first of what is pending put into it, however many these are
+pub stopped : (count : ℕ) (pending : List (List ℕ)) (kept : Kept) (f : Front) (entries : List Entry) → drop f.kept f.changes ≡ entries → Spell pending entries →
+    IsBookOf kept f → IsBookOf (with_entries f.kept (take count pending) kept) f
+stopped zero [] kept f entries next spell book = book
+stopped zero (bytes ∷ more) kept f entries next spell book = book
+stopped (suc count) [] kept f entries next spell book = book
+stopped (suc count) (bytes ∷ more) kept f [] next spell book = absurd spell
+stopped (suc count) (bytes ∷ more) kept f (entry ∷ rest) next (one, spell) book =
+    let further : drop (f.kept + 1) f.changes ≡ rest = ap (λ count. drop count f.changes) (add-one f.kept) ∙ drop_next f.kept f.changes entry rest next in
+    let all = stopped count more (with_entry f.kept bytes kept) (with_kept f (f.kept + 1)) rest further spell (kept_next kept f bytes entry rest next one book) in
+    fewer_kept (with_entries (f.kept + 1) (take count more) (with_entry f.kept bytes kept)) (with_kept f (f.kept + 1)) f.kept (omega arith) all
 
 module _ {K : Type 0} (keeping : Keeping K) where
   -- the first of what is pending was put into the book

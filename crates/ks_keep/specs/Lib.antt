@@ -4,3 +4,4 @@ pub mod Keeping
 pub mod Pasts
 pub mod Redoing
 pub mod Restored
+pub mod Stops

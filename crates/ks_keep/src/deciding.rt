@@ -5,7 +5,7 @@ ghost use Rattle.ks_machine.specs.Fronts.{Front};
 ghost use Rattle.ks_outside.specs.Counts.{Counts};
 ghost use Rattle.ks_state.specs.Decides.{with_kept};
 
-use crate::{Booked, KeeperFailed, Since};
+use crate::{Booked, KeeperFailed, Since, stops_leave_books};
 use ks_auth::Facts;
 use ks_keeper::Keeper;
 use ks_laws::lawful_fronts_go_on;
@@ -64,6 +64,7 @@ impl<K: Keeper, N: Since> Decides for Booked<K, N> {
         ensures idle { self.old.pending ≡ [] → self.old.kept ≡ self.old.shown.state.made → (result ≡ Kept.Yes) × (self.new ≡ self.old) }
         ensures all { result ≡ Kept.Yes → K.whole self.new.keeper → (f : Front) → StandsSince (seen_by K.kept K.whole K.faults) N.holds self.new f → AreKept (K.kept self.new.keeper).entries f.changes }
     {
+        stops_leave_books();
         self.keep_changes()
     }
 
