@@ -9,17 +9,20 @@ is only known once its login is answered, so each request waits for the response
 
 import json
 import os
+import shutil
 import subprocess
 import sys
+import tempfile
 
 TOP = os.path.dirname(os.path.dirname(os.path.abspath(__file__)))
 
 
 class Client:
-    """One connection to `ks talk` over the opening file of the examples."""
+    """One connection to `ks talk` over a copy of the examples' opening file, beside which its changes are kept."""
 
-    def __init__(self, program):
-        words = [program, "talk", os.path.join(TOP, "examples", "o1.json"), os.path.join(TOP, "examples", "keys")]
+    def __init__(self, program, place):
+        file = shutil.copy(os.path.join(TOP, "examples", "o1.json"), place)
+        words = [program, "talk", file, os.path.join(TOP, "examples", "keys")]
         self.server = subprocess.Popen(words, stdin=subprocess.PIPE, stdout=subprocess.PIPE)
 
     def ask(self, method, path, body=None, **tokens):
@@ -46,7 +49,13 @@ class Client:
 
 
 def main():
-    client = Client(sys.argv[1] if len(sys.argv) > 1 else os.environ.get("KS") or os.path.join(TOP, "bin", "ks"))
+    program = sys.argv[1] if len(sys.argv) > 1 else os.environ.get("KS") or os.path.join(TOP, "bin", "ks")
+    with tempfile.TemporaryDirectory() as place:
+        return session(Client(program, place))
+
+
+def session(client):
+    """Asks, and tells whether it was answered as it has to be."""
     ann, bob, nobody = client.log_in("ann", "secret"), client.log_in("bob", "hunter2"), client.log_in("bob", "a guess")
     statuses = [
         client.ask("GET", "/v3/auth/tokens", auth=ann, subject=bob)[0],

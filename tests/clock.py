@@ -17,7 +17,7 @@ import sys
 import tempfile
 import time
 
-from served import TOP, Connection, Server, login, main_of, program_of, project_scope, require
+from served import TOP, Connection, Server, fresh, login, main_of, program_of, project_scope, require
 
 O1 = os.path.join(TOP, "examples", "o1.json")
 
@@ -149,7 +149,7 @@ def main():
         clocks = Clocks(os.environ["CLOCKS"])
         os.environ["LD_PRELOAD"] = library
         try:
-            server = Server(program, O1, "keys", 2)
+            server = Server(program, fresh(O1), "keys", 2)
         finally:
             del os.environ["LD_PRELOAD"]
         with server:

@@ -22,7 +22,7 @@ import threading
 import time
 
 sys.dont_write_bytecode = True
-from served import HOST, TOP, Connection, Failure, Server, login, main_of, program_of, project_scope, request, require, run
+from served import HOST, TOP, Connection, Failure, Server, fresh, login, main_of, program_of, project_scope, request, require, run
 
 O1 = os.path.join(TOP, "examples", "o1.json")
 
@@ -277,7 +277,7 @@ def limited(program, folder, kind, most):
     before = resource.getrlimit(kind)
     resource.setrlimit(kind, (most, before[1]))
     try:
-        return Server(program, O1, folder, WORKERS)
+        return Server(program, fresh(O1), folder, WORKERS)
     finally:
         resource.setrlimit(kind, before)
 
@@ -300,7 +300,7 @@ def more_than_descriptors(program, folder):
 
 def no_descriptors_for_a_while(program, folder):
     """While the process has no descriptors no worker ends, and it says so once, and once that it is over."""
-    with Server(program, O1, folder, WORKERS) as server:
+    with Server(program, fresh(O1), folder, WORKERS) as server:
         pid = server.process.pid
         with Connection(server.port) as kept:
             require(kept.ask("GET", "/v3").status == 200, "before descriptors are wanting")
@@ -362,7 +362,7 @@ def accepts_that_fail(program, work, folder):
     try:
         for code in PASSING + LASTING:
             os.environ["ACCEPT_FAILS"] = str(code)
-            servers.append((Server(program, O1, folder, WORKERS), code))
+            servers.append((Server(program, fresh(O1), folder, WORKERS), code))
     finally:
         del os.environ["LD_PRELOAD"], os.environ["ACCEPT_FAILS"]
     tries = [threading.Thread(target=tell, args=(outcome, an_accept_that_fails, *each)) for each in servers]
@@ -417,7 +417,7 @@ def threads_that_are_wanting(program, work, folder):
     shutil.copy(built if os.path.realpath(program) == os.path.realpath(launcher) else program, copy)
     os.chmod(work, 0o755)
     os.chmod(copy, 0o755)
-    ended = subprocess.run([copy, "serve", O1, folder, f"{HOST}:0", "--workers", str(WORKERS)], stdin=subprocess.DEVNULL,
+    ended = subprocess.run([copy, "serve", fresh(O1), folder, f"{HOST}:0", "--workers", str(WORKERS)], stdin=subprocess.DEVNULL,
                            capture_output=True, timeout=30, check=False, preexec_fn=few_threads)
     wanted = (5, f"ks: the system has no threads for {WORKERS} workers\n")
     require((ended.returncode, ended.stderr.decode()) == wanted, f"without threads: status {ended.returncode}, {ended.stderr!r}")
@@ -430,7 +430,7 @@ def tried(program):
         folder = os.path.join(work, "keys")
         os.mkdir(folder, 0o700)
         run(program, "setup", folder)
-        with Server(program, O1, folder, WORKERS) as server:
+        with Server(program, fresh(O1), folder, WORKERS) as server:
             slow = threading.Thread(target=lambda: tell(outcome, a_head_has_ten_seconds, server.port))
             outcome = []
             slow.start()

@@ -18,6 +18,9 @@ import subprocess
 import sys
 import tempfile
 
+sys.dont_write_bytecode = True
+from served import fresh
+
 TOP = os.path.dirname(os.path.dirname(os.path.abspath(__file__)))
 FIGURES = os.path.join(TOP, "bench", "instructions.txt")
 HEAD = """\
@@ -26,7 +29,8 @@ HEAD = """\
 """
 
 CHECK = ["check"]
-TALK = ["talk", os.path.join(TOP, "examples", "o1.json"), "keys"]
+OPENING = os.path.join(TOP, "examples", "o1.json")
+TALK = ["talk", OPENING, "keys"]
 VERSION = b"GET /v3/ HTTP/1.1\r\nHost: 127.0.0.1:5000\r\n\r\n"
 BODY = b"POST /v3 HTTP/1.1\r\nContent-Length: 4000\r\n\r\n" + b" " * 4000
 
@@ -52,18 +56,23 @@ HEAP = [
 TUNABLES = "glibc.cpu.hwcaps=-ERMS,-FSRM,-AVX2,-AVX2_Usable,-AVX512F,-AVX512F_Usable,-AVX512VL"
 
 
+def begun(words):
+    """The words, with an opening file of which nothing is kept yet."""
+    return [fresh(word) if word == OPENING else word for word in words]
+
+
 def program():
     """The program itself, since bin/ks is a script that builds it and becomes it."""
     if "KS" in os.environ:
         return os.environ["KS"]
-    subprocess.run([os.path.join(TOP, "bin", "ks"), *TALK], stdin=subprocess.DEVNULL, check=True)
+    subprocess.run([os.path.join(TOP, "bin", "ks"), *begun(TALK)], stdin=subprocess.DEVNULL, check=True)
     return os.path.join(TOP, "crates", "ks", "out", "ks")
 
 
 def run(before, words, given):
     """What the program writes for these bytes, by the command that stands before it."""
     env = {**os.environ, "GLIBC_TUNABLES": TUNABLES}
-    done = subprocess.run([*before, KS, *words], input=given, stdout=subprocess.PIPE, stderr=subprocess.PIPE, env=env)
+    done = subprocess.run([*before, KS, *begun(words)], input=given, stdout=subprocess.PIPE, stderr=subprocess.PIPE, env=env)
     if done.returncode != 0:
         sys.exit(f"instructions: status {done.returncode}: {done.stderr.decode(errors='replace')}")
     return done.stdout

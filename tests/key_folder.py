@@ -205,6 +205,7 @@ STOPS = (
     ("setup", (), "write", "ENOSPC", "0.new", {1: None}, "0 1"),
     ("setup", (), "rename", "EACCES", "0.new", {1: None}, "0 1"),
     # a rotation: the staged key becomes primary, the new one is written, and the oldest goes
+    ("rotate", (0, 1, 2), "chmod,fchmodat", "EPERM", "0", {0: 0, 1: 1, 2: 2}, "0 2 3"),
     ("rotate", (0, 1, 2), "rename", "EACCES", "0", {0: 0, 1: 1, 2: 2}, "0 2 3"),
     ("rotate", (0, 1, 2), "write", "ENOSPC", "0.new", {1: 1, 2: 2, 3: 0}, "0 2 3"),
     ("rotate", (0, 1, 2), "rename", "EACCES", "0.new", {1: 1, 2: 2, 3: 0}, "0 2 3"),

@@ -14,7 +14,7 @@ import sys
 import tempfile
 import time
 
-from served import HOST, TOP, Connection, Server, free_port, login, main_of, program_of, project_scope, request, require, run
+from served import HOST, TOP, Connection, Server, free_port, fresh, login, main_of, program_of, project_scope, request, require, run
 
 O1 = os.path.join(TOP, "examples", "o1.json")
 
@@ -141,7 +141,7 @@ def require_failures(lines):
 def try_file(program, folder):
     """A log in a file."""
     path, before = os.path.join(folder, "ks.log"), time.time()
-    with Server(program, O1, folder, 2, options=["--log", path]) as server:
+    with Server(program, fresh(O1), folder, 2, options=["--log", path]) as server:
         with Connection(server.port) as connection:
             secrets, due = speak(connection)
             due.append(long_path(connection))
@@ -161,7 +161,7 @@ def try_file(program, folder):
         require_line(lines_of(path, 1)[0], "GET", "/v3", "200", "-", "-", "-")
     mode = stat.S_IMODE(os.stat(path).st_mode)
     require(mode & ~0o640 == 0, f"the log has the mode {mode:o}")
-    with Server(program, O1, folder, 1, options=[f"--log={path}"]) as server:
+    with Server(program, fresh(O1), folder, 1, options=[f"--log={path}"]) as server:
         with Connection(server.port) as connection:
             connection.ask("GET", "/v3")
         require(len(lines_of(path, 2)) == 2, "the log did not go on")
@@ -197,7 +197,7 @@ def try_stalled(program, folder):
     """A log in a pipe whose reader stops."""
     path = os.path.join(folder, "pipe")
     os.mkfifo(path)
-    with Server(program, O1, folder, 2, options=["--log", path]) as server:
+    with Server(program, fresh(O1), folder, 2, options=["--log", path]) as server:
         ask_often(server.port, STALLED)
         pipe = os.open(path, os.O_RDONLY | os.O_NONBLOCK)
         told, lost = read_lines(pipe, 1)
@@ -214,13 +214,13 @@ def try_stalled(program, folder):
 
 def try_full(program, folder):
     """A log on a device that has no room."""
-    with Server(program, O1, folder, 1, options=["--log", "/dev/full"]) as server:
+    with Server(program, fresh(O1), folder, 1, options=["--log", "/dev/full"]) as server:
         ask_often(server.port, 3)
 
 
 def try_standard_error(program, folder):
     """A log on the standard error, beside what the server says there."""
-    with Server(program, O1, folder, 1, options=["--log=-"]) as server:
+    with Server(program, fresh(O1), folder, 1, options=["--log=-"]) as server:
         ask_often(server.port, 1)
         until = time.monotonic() + PATIENCE
         while len(server.lines) < 2:
@@ -233,17 +233,17 @@ def try_unusable(program, folder):
     """Logs that can't be opened."""
     place = f"{HOST}:{free_port()}"
     for path in [os.path.join(folder, "no", "such"), folder]:
-        status, _, said = run(program, "serve", O1, folder, place, "--log", path)
+        status, _, said = run(program, "serve", fresh(O1), folder, place, "--log", path)
         require(status == 4 and len(said) == 1 and said[0].startswith(f"ks: {path}: "), f"the log {path} gives {status} and {said}")
     for words in [["--log"], ["--log", "a", "--log", "b"], ["--log", "--workers"]]:
-        status, _, _ = run(program, "serve", O1, folder, place, *words)
+        status, _, _ = run(program, "serve", fresh(O1), folder, place, *words)
         require(status == 2, f"{words} give {status}")
 
 
 def try_cut_request(program, folder):
     """Bytes that are no request have no line, and a client that is gone has one."""
     path = os.path.join(folder, "cut.log")
-    with Server(program, O1, folder, 1, options=["--log", path]) as server:
+    with Server(program, fresh(O1), folder, 1, options=["--log", path]) as server:
         with Connection(server.port) as connection:
             connection.send(b"GET /v3\r\n\r\n")
             require(connection.response().status == 400, "no request was answered")

@@ -13,6 +13,9 @@ import subprocess
 import sys
 import threading
 
+sys.dont_write_bytecode = True
+from served import fresh
+
 TOP = os.path.dirname(os.path.dirname(os.path.abspath(__file__)))
 KS = os.environ.get("KS") or os.path.join(TOP, "bin", "ks")
 CHANGES = 65_537
@@ -27,7 +30,7 @@ def main():
         told = json.load(file)
     project, role = told["projects"][0]["id"], told["roles"][0]["id"]
     path = f"/v3/projects/{project}/users/bob/roles/{role}"
-    words = [KS, "talk", os.path.join(TOP, "examples", "o1.json"), os.path.join(TOP, "examples", "keys")]
+    words = [KS, "talk", fresh(os.path.join(TOP, "examples", "o1.json")), os.path.join(TOP, "examples", "keys")]
     run = subprocess.Popen(words, stdin=subprocess.PIPE, stdout=subprocess.PIPE)
     body = json.dumps(LOGIN).encode()
     run.stdin.write(f"POST /v3/auth/tokens HTTP/1.1\r\nContent-Length: {len(body)}\r\n\r\n".encode() + body)

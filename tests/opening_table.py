@@ -19,6 +19,7 @@ import sys
 import tempfile
 
 sys.dont_write_bytecode = True
+from served import fresh
 from tables import expanded, rows, with_length
 
 TOP = os.path.dirname(os.path.dirname(os.path.abspath(__file__)))
@@ -61,10 +62,18 @@ def lay_out(folder, files):
 # Opening files.
 
 
-def try_opening(work, content, line):
-    """An opening file is refused with this line, or opens where there is none."""
+def write_opening(work, content):
+    """Writes an opening file of which nothing is kept yet."""
+    for beside in ("f.book", "f.book-wal", "f.book-shm"):
+        if os.path.exists(os.path.join(work, beside)):
+            os.remove(os.path.join(work, beside))
     with open(os.path.join(work, "f"), "wb") as file:
         file.write(content)
+
+
+def try_opening(work, content, line):
+    """An opening file is refused with this line, or opens where there is none."""
+    write_opening(work, content)
     wanted = (7, b"", f"ks: f: {line}") if line else (0, b"", "")
     expect(f"opening {content[:150]!r}", run(["talk", "f", "keys"], work), wanted)
 
@@ -123,7 +132,8 @@ def try_full(work):
 
 def try_without_random(work):
     """An opening file with a password is refused where the system gives no random bytes, if an strace may see to that."""
-    tracer = "strace -f -qq -o /dev/null -e inject=getrandom:error=EIO".split()
+    # The C library and the new book draw first.
+    tracer = "strace -f -qq -o /dev/null -e inject=getrandom:error=EIO:when=4+".split()
     try:
         can_trace = subprocess.run([*tracer, "true"], capture_output=True, check=False).returncode == 0
     except FileNotFoundError:
@@ -132,8 +142,7 @@ def try_without_random(work):
         print("opening_table: skipped: no random bytes, for want of an strace that may trace")
         return
     user = {"id": "u", "domain_id": "default", "name": "U", "password": "p"}
-    with open(os.path.join(work, "f"), "w", encoding="utf-8") as file:
-        json.dump({"settings": {"rounds": 1}, "users": [user]}, file)
+    write_opening(work, json.dumps({"settings": {"rounds": 1}, "users": [user]}).encode())
     expect("no random bytes", run(["talk", "f", "keys"], work, tracer=tracer), (10, b"", "ks: there were no random bytes"))
 
 
@@ -173,7 +182,7 @@ def try_bodies(work, requests):
     fields = f"Content-Length: {len(NOT_JSON)}\r\nContent-Type: application/json\r\nVary: X-Auth-Token\r\n"
     response = f"HTTP/1.1 400 Bad Request\r\n{fields}\r\n".encode() + NOT_JSON
     given = b"".join(with_length(expanded(request, NAMES)) for request in requests)
-    ended = run(["talk", os.path.join(DATA, "o1.json"), "keys"], work, given)
+    ended = run(["talk", fresh(os.path.join(DATA, "o1.json")), "keys"], work, given)
     expect("bodies that are no text", ended, (0, response * len(requests), ""))
 
 

@@ -14,6 +14,7 @@ work=$(mktemp -d)
 trap 'rm -rf "$work"' EXIT INT TERM
 wrong=0
 runs=0
+copies=0
 
 key=cw_0x689RpI-jtRR7oE8h_eQsKImvJapLeSbXpwF4e4=
 usage='usage: ks check | ks talk FILE FOLDER | ks serve FILE FOLDER ADDRESS [--workers N] [--connections N] [--log FILE] | ks setup FOLDER | ks rotate FOLDER [--max N] | ks password [--rounds N]'
@@ -42,12 +43,22 @@ serve() {
     "$ks" serve "$@" </dev/null >"$work/out" 2>"$work/err" || status=$?
 }
 
+# fresh FILE: a copy of an opening file of which nothing is kept yet, in $fresh.
+fresh() {
+    copies=$((copies + 1))
+    mkdir "$work/copy$copies"
+    fresh=$work/copy$copies/${1##*/}
+    cp "$1" "$fresh"
+    chmod 600 "$fresh"
+}
+
 # Whole runs.
 run "$key" check
 is 0 '' ''
 run "$key\\n1 a\\n2 b" check
 is 0 'refused text\nrefused text\n' ''
-run '' talk examples/o1.json keys
+fresh examples/o1.json
+run '' talk "$fresh" keys
 is 0 '' ''
 
 # Words that are no command's, among them one that is not UTF-8 beside those of a command.
@@ -104,6 +115,8 @@ is 9 '' "ks: $work/keys/5: not a Fernet key"
 mkfifo "$work/fifo"
 run '' talk "$work/fifo" keys
 is 3 '' "ks: $work/fifo: it could not be read"
+run '' talk /dev/zero keys
+is 3 '' 'ks: /dev/zero: it could not be read'
 mkdir "$work/pipes"
 mkfifo "$work/pipes/0"
 run '' talk "$work/o.json" "$work/pipes"
@@ -133,13 +146,14 @@ serve "$work/o.json" keys 127.0.0.1:0
 is 7 '' "ks: $work/o.json: users[0].domain_id: missing; an id of 1 to 64 of the characters 0-9 A-Z a-z _ - is wanted"
 
 # An address at which nobody can listen here.
-cp examples/o1.json "$work/o1.json"
-serve "$work/o1.json" keys 192.0.2.1:5000
+fresh examples/o1.json
+serve "$fresh" keys 192.0.2.1:5000
 is 10 '' 'ks: 192.0.2.1:5000: Cannot assign requested address (os error 99)'
 
 # One connection of one worker, at a port that the system chose.
 runs=$((runs + 1))
-"$ks" serve examples/o1.json keys 127.0.0.1:0 --workers 1 --connections 1 >"$work/out" 2>"$work/err" &
+fresh examples/o1.json
+"$ks" serve "$fresh" keys 127.0.0.1:0 --workers 1 --connections 1 >"$work/out" 2>"$work/err" &
 server=$!
 port=
 tries=0
@@ -167,7 +181,8 @@ status=0
 "$ks" check </ >"$work/out" 2>"$work/err" || status=$?
 is 3 '' 'ks: standard input could not be read'
 status=0
-"$ks" talk examples/o1.json keys </ >"$work/out" 2>"$work/err" || status=$?
+fresh examples/o1.json
+"$ks" talk "$fresh" keys </ >"$work/out" 2>"$work/err" || status=$?
 is 3 '' 'ks: standard input could not be read'
 : >"$work/out"
 if [ -w /dev/full ]; then
@@ -175,7 +190,8 @@ if [ -w /dev/full ]; then
     printf '%s\n1 a\n' "$key" | "$ks" check >/dev/full 2>"$work/err" || status=$?
     is 4 '' 'ks: standard output could not be written'
     status=0
-    printf 'GET /v3 HTTP/1.1\r\n\r\n' | "$ks" talk examples/o1.json keys >/dev/full 2>"$work/err" || status=$?
+    fresh examples/o1.json
+    printf 'GET /v3 HTTP/1.1\r\n\r\n' | "$ks" talk "$fresh" keys >/dev/full 2>"$work/err" || status=$?
     is 4 '' 'ks: standard output could not be written'
 fi
 

@@ -17,7 +17,7 @@ import tempfile
 import time
 
 sys.dont_write_bytecode = True
-from served import HOST, TOP, Connection, Failure, Server, exchange, login, main_of, program_of, project_scope, request, require, run
+from served import HOST, TOP, Connection, Failure, Server, exchange, fresh, login, main_of, program_of, project_scope, request, require, run
 
 O1 = os.path.join(TOP, "examples", "o1.json")
 
@@ -174,12 +174,12 @@ def statuses(program, folder, port):
     """How the program ends where it does not serve."""
     for address in (f"{HOST}:{port}", "no address", "192.0.2.1:5000"):
         began = time.monotonic()
-        status, written, lines = run(program, "serve", O1, folder, address)
+        status, written, lines = run(program, "serve", fresh(O1), folder, address)
         require((status, written, len(lines)) == (10, "", 1), f"at {address}: status {status}, {written!r} and {lines}")
         require(lines[0].startswith("ks: "), f"at {address}: {lines}")
         require(time.monotonic() - began < 20, f"at {address}: it takes long to be refused")
     for words in (["--workers", "0"], ["--workers", "33"], ["--connections", "1000001"], ["--workers"], ["--port", "1"]):
-        status, written, lines = run(program, "serve", O1, folder, f"{HOST}:{port}", *words)
+        status, written, lines = run(program, "serve", fresh(O1), folder, f"{HOST}:{port}", *words)
         require((status, written, len(lines)) == (2, "", 1), f"with {words}: status {status}, {written!r} and {lines}")
 
 
@@ -214,7 +214,7 @@ def tried(program):
         os.mkdir(folder, 0o700)
         made = run(program, "setup", folder)
         require(made == (0, "keys 0 1\n", []), f"setup: {made}")
-        with Server(program, O1, folder, 2) as server:
+        with Server(program, fresh(O1), folder, 2) as server:
             two_at_once(server.port)
             cut(server.port)
             a_body_that_is_too_long(server.port)

@@ -1,13 +1,16 @@
 """A server that `ks serve` runs, and connections to it, for the scripts that try it and measure it."""
 
+import atexit
 import contextlib
 import json
 import os
 import random
 import re
+import shutil
 import socket
 import subprocess
 import sys
+import tempfile
 import threading
 import time
 
@@ -41,6 +44,13 @@ def free_port():
             found.bind((HOST, port))
             return port
     raise Failure("no port is free")
+
+
+def fresh(file):
+    """A copy of an opening file, beside which nothing is kept yet. It goes when the script ends."""
+    place = tempfile.mkdtemp()
+    atexit.register(shutil.rmtree, place, ignore_errors=True)
+    return shutil.copy(file, place)
 
 
 def without_modes(lines):
@@ -223,6 +233,19 @@ def exchange(token, scope):
 def project_scope(name):
     """A scope on a project of the default domain."""
     return {"project": {"name": name, "domain": {"id": "default"}}}
+
+
+def measure_in_folder(name, measure):
+    """Runs a measurement in a folder of its own: one line on the standard error and status 1 where something fails."""
+    work = tempfile.mkdtemp()
+    try:
+        measure(work)
+    except (Failure, OSError, subprocess.SubprocessError) as why:
+        print(f"{name}: {why}", file=sys.stderr)
+        return 1
+    finally:
+        shutil.rmtree(work, ignore_errors=True)
+    return 0
 
 
 def main_of(name, body):

@@ -11,6 +11,9 @@ import re
 import subprocess
 import sys
 
+sys.dont_write_bytecode = True
+from served import fresh
+
 TOP = os.path.dirname(os.path.dirname(os.path.abspath(__file__)))
 KS = os.environ.get("KS") or os.path.join(TOP, "bin", "ks")
 
@@ -21,7 +24,7 @@ def read(name):
 
 
 def main():
-    words = [KS, "talk", os.path.join(TOP, "examples", "o1.json"), os.path.join(TOP, "examples", "keys")]
+    words = [KS, "talk", fresh(os.path.join(TOP, "examples", "o1.json")), os.path.join(TOP, "examples", "keys")]
     ran = subprocess.run(words, input=read("session.http"), stdout=subprocess.PIPE, check=False)
     wanted = re.escape(read("session.out").rstrip(b"\n")).replace(rb"\.\.", rb"[^\n]*?")
     written = ran.stdout.replace(b"\r\n", b"\n")

@@ -17,7 +17,7 @@ import sys
 import time
 from concurrent.futures import ThreadPoolExecutor
 
-from served import HOST, PATIENCE, TOP, Connection, Server, main_of, program_of, request, require
+from served import HOST, PATIENCE, TOP, Connection, Server, fresh, main_of, program_of, request, require
 
 O1 = os.path.join(TOP, "examples", "o1.json")
 
@@ -31,7 +31,7 @@ class Held(Server):
     """A server from which the signals are held back."""
 
     def __init__(self, program, before=()):
-        super().__init__(program, O1, "keys", 2, before=[*before, *HELD])
+        super().__init__(program, fresh(O1), "keys", 2, before=[*before, *HELD])
 
     def seconds_to_end(self, sent):
         """Sends a signal, and tells how long the server, which sees it within two seconds, then took to end whole."""
@@ -120,7 +120,7 @@ def too_slow(program):
 
 def not_held(program):
     """Where the signal is not held back it ends the server at once."""
-    with Server(program, O1, "keys", 2) as server:
+    with Server(program, fresh(O1), "keys", 2) as server:
         server.process.send_signal(signal.SIGTERM)
         require(server.status() == -signal.SIGTERM, "SIGTERM did not end the server, which did not hold it back")
 

@@ -15,6 +15,7 @@ import sys
 import tempfile
 
 sys.dont_write_bytecode = True
+from served import fresh
 from tables import rows
 
 TOP = os.path.dirname(os.path.dirname(os.path.abspath(__file__)))
@@ -37,7 +38,7 @@ def response(name):
 
 def talk(folder, pieces):
     """What the program writes for the pieces over an empty folder, and its status."""
-    run = subprocess.Popen([KS, "talk", OPENING, folder], stdin=subprocess.PIPE, stdout=subprocess.PIPE, bufsize=0)
+    run = subprocess.Popen([KS, "talk", fresh(OPENING), folder], stdin=subprocess.PIPE, stdout=subprocess.PIPE, bufsize=0)
     try:
         for piece in pieces:
             run.stdin.write(piece)

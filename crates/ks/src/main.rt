@@ -5,6 +5,7 @@
 
 ghost use Rattle.std.specs.Prelude.{◌<◌, IfOk, length};
 
+mod book;
 mod listening;
 mod log_file;
 mod modes;
@@ -12,6 +13,7 @@ mod named;
 mod opening_file;
 mod threads;
 
+use book::{book_of, path_of_book};
 use ks_base::{Memory, Text};
 use ks_outside::{Folder, RealSink, RealSource};
 use ks_pool::{Log, Pool, RealDesk};
@@ -127,10 +129,18 @@ fn main(rt: HostRuntime) -> ExitCode {
         Ok(log) => log,
         Err(status) => return status,
     };
-    let mut source = OpeningFile::new(opened(&rt, file));
+    let Ok(book) = path_of_book(rt.alloc(), file) else {
+        return out_of_memory(&rt);
+    };
+    let opened = opened(&rt, file);
+    let keeper = match book_of(&rt, &command, book.as_str(), opened.is_some()) {
+        Ok(keeper) => keeper,
+        Err(status) => return status,
+    };
+    let mut source = OpeningFile::new(opened);
     let listening = match serving(&command) {
         Some(_) => {
-            modes::tell(&rt, file, folder);
+            modes::tell(&rt, file, book.as_str(), folder);
             Some(listen(&rt, address, workers, log))
         }
         None => None,
@@ -159,10 +169,12 @@ fn main(rt: HostRuntime) -> ExitCode {
         &mut output,
         &mut dir,
         desks,
+        keeper,
     );
     if let Some(fault) = &fault {
         let named = Named {
             file,
+            book: book.as_str(),
             folder,
             address,
             has_failed: source.has_failed(),

@@ -1,7 +1,7 @@
 //! What others may do with the files that hold secrets: others than their owner and their group.
 
 use std::fs;
-use std::os::unix::fs::{FileTypeExt, PermissionsExt};
+use std::os::unix::fs::PermissionsExt;
 use std::rt::Files;
 
 /// The bits of a mode by which others may read and write.
@@ -38,9 +38,15 @@ fn is_number(name: &str) -> bool {
     name.bytes().all(|byte| byte.is_ascii_digit())
 }
 
-/// Says of the opening file, of the folder of the keys and of each file of a key what others may do with it.
-pub fn tell<R: Files + AllocGlobal + Clone + Drop + Eprint>(rt: &R, file: &str, folder: &str) {
+/// Says of the opening file, of its book, of the folder of the keys and of each file of a key what others may do with it.
+pub fn tell<R: Files + AllocGlobal + Clone + Drop + Eprint>(
+    rt: &R,
+    file: &str,
+    book: &str,
+    folder: &str,
+) {
     tell_of(rt, file);
+    tell_of(rt, book);
     tell_of(rt, folder);
     let Ok(entries) = fs::read_dir(rt, folder) else {
         return;
@@ -53,10 +59,11 @@ pub fn tell<R: Files + AllocGlobal + Clone + Drop + Eprint>(rt: &R, file: &str, 
     }
 }
 
-/// Whether the file at this path can be opened without a wait: who opens a FIFO waits until somebody writes to it.
+/// Whether what lies at this path is a file, which is opened and read without a wait: who opens a FIFO waits until
+/// somebody writes to it, and who reads a terminal until somebody types.
 pub fn may_open<R: Files>(rt: &R, path: &str) -> bool {
     match fs::metadata(rt, path) {
-        Ok(metadata) => !metadata.file_type().is_fifo(),
+        Ok(metadata) => metadata.is_file(),
         Err(_) => false,
     }
 }

@@ -11,6 +11,7 @@ use std::{fs, io};
 #[derive(Drop)]
 pub struct Named<'a> {
     pub file: &'a str,
+    pub book: &'a str,
     pub folder: &'a str,
     pub address: &'a str,
     /// Whether the file could not be read.
@@ -57,6 +58,15 @@ impl Named<'_> {
             Fault::Keys(_) | Fault::Folder => {
                 let _ = eprintln!(rt; "ks: {}: {fault}", self.folder);
             }
+            Fault::Keeper(_) if self.is_open => self.tell_of_book(rt, "a change could not be kept"),
+            Fault::Keeper(_) => self.tell_of_book(rt, "it could not be read or written"),
+            Fault::OtherOpening => self.tell_of_other(rt),
+            Fault::BadEntry(number) => {
+                let _ = eprintln!(rt;
+                    "ks: {}: entry {number} can't follow those before it",
+                    self.book
+                );
+            }
             // Once an identity is open, all that fails of a desk is to accept a connection.
             Fault::Desk if self.is_open => self.tell_of_address(rt),
             Fault::Desk => {
@@ -91,6 +101,17 @@ impl Named<'_> {
             Err(_) => self.tell_of_file(rt, "it is refused, and could not be read again"),
         }
         Ok(())
+    }
+
+    fn tell_of_book<R: Eprint>(&self, rt: &R, line: &str) {
+        let _ = eprintln!(rt; "ks: {}: {line}", self.book);
+    }
+
+    fn tell_of_other<R: Eprint>(&self, rt: &R) {
+        let _ = eprintln!(rt;
+            "ks: {}: is not the file with which {} began",
+            self.file, self.book
+        );
     }
 
     fn tell_of_file<R: Eprint>(&self, rt: &R, line: &str) {

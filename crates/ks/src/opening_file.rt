@@ -7,11 +7,21 @@ use ks_outside::{Failed, RealSource, Source, Stream};
 use std::io::Read;
 use std::marker::Model;
 
-/// The opening file. It does not tell what it holds, and counts its faults. One that could not be opened fails at
-/// each read. The count stands still at 2^64 - 1.
+/// What is left to read of it.
+#[derive(Drop)]
+enum Left<R> {
+    Some(RealSource<R>),
+    /// It was read to its end, and closed.
+    None,
+    /// It could not be opened.
+    Unopened,
+}
+
+/// The opening file. It does not tell what it holds, and counts its faults. It is closed once its end was read, and one
+/// that could not be opened fails at each read. The count stands still at 2^64 - 1.
 #[derive(Drop)]
 pub struct OpeningFile<R> {
-    source: Option<RealSource<R>>,
+    left: Left<R>,
     faults: u64,
 }
 
@@ -29,7 +39,10 @@ impl<R> OpeningFile<R> {
         ensures { result ≡ record { reads = 0; writes = 0 } }
     {
         OpeningFile {
-            source: opened.map(RealSource::new),
+            left: match opened {
+                Some(file) => Left::Some(RealSource::new(file)),
+                None => Left::Unopened,
+            },
             faults: 0,
         }
     }
@@ -44,7 +57,7 @@ impl<R> Stream for OpeningFile<R> {
     ghost stream = { untold_stream };
 }
 
-impl<R: Read> Source for OpeningFile<R> {
+impl<R: Read + Drop> Source for OpeningFile<R> {
     /// Reads from the file.
     fn read(&mut self, into: &mut [u8]) -> Result<usize, Failed>
         requires { 0 < length into.old }
@@ -52,12 +65,15 @@ impl<R: Read> Source for OpeningFile<R> {
         ensures reads { OnlyReads (IsErr result) (untold_stream self.old) (untold_stream self.new) }
         ensures exact { self.new.reads ≡ (if is_ok result then self.old.reads else next_count self.old.reads) }
     {
-        let answer = match &mut self.source {
-            Some(source) => source.read(into),
-            None => Err(Failed),
+        let answer = match &mut self.left {
+            Left::Some(source) => source.read(into),
+            Left::None => Ok(0),
+            Left::Unopened => Err(Failed),
         };
-        if answer.is_err() {
-            self.faults = self.faults.saturating_add(1);
+        match answer {
+            Ok(0) => self.left = Left::None,
+            Ok(_) => {}
+            Err(Failed) => self.faults = self.faults.saturating_add(1),
         }
         answer
     }

@@ -24,6 +24,19 @@ impl Fails {
         write: 0,
     };
 
+    /// Whether nothing fails.
+    pub fn is_none(&self) -> bool {
+        let Fails {
+            file,
+            folder,
+            fill,
+            accept,
+            read,
+            write,
+        } = *self;
+        [file, folder, fill, accept, read, write] == [0; 6]
+    }
+
     /// What a cell says, as `fill 3`; an empty one says that nothing fails.
     pub fn read(cell: &str) -> Result<Fails> {
         let mut fails = Fails::NONE;

@@ -1,5 +1,6 @@
 //! The table of `setup` and `rotate`.
 
+use crate::kept::Kept;
 use crate::run::{End, Outside, WHOLE, desks_of, folder, run_over};
 use anyhow::Result;
 use ks_base::Bytes;
@@ -31,12 +32,13 @@ fn run_all<R: AllocGlobal + Threads + Wait + Sync>(
     let mut said = String::new(rt.alloc());
     let mut desks = desks_of(rt.alloc(), outside)?;
     for command in commands.split(';') {
+        let kept = Kept::nothing(rt.alloc());
         let End {
             status,
             written,
             desks: later,
             ..
-        } = run_over(rt, command, outside, dir, desks)?;
+        } = run_over(rt, command, outside, dir, desks, kept, &[])?;
         desks = later;
         push_end(&mut said, status, written.as_slice())?;
     }

@@ -1,5 +1,5 @@
 //! Tries whole runs of the program's commands on tables of cases, over objects in memory: lines of `check`, passwords, words, connections of
-//! `talk` and of `serve`, folders of keys, openings and whole sessions, of which every byte that is written is compared. Prints
+//! `talk` and of `serve`, folders of keys, openings, whole sessions, of which every byte that is written is compared, and restarts. Prints
 //! for each table of `data/` how many of its cases held, and what was otherwise.
 #![tactic(auto)]
 
@@ -7,6 +7,8 @@ mod checks;
 mod cuts;
 mod fails;
 mod folders;
+mod keepers;
+mod kept;
 mod many;
 mod names;
 mod openings;
@@ -103,5 +105,11 @@ fn try_sessions<R: Files + Print + AllocGlobal + Threads + Wait + Sync>(
         sessions::try_table(rt, world, name)?;
     }
     try_table(rt, "cuts", |_alloc, case| cuts::cuts(rt, world, case))?;
-    try_table(rt, "many", |_alloc, case| many::many(rt, world, case))
+    try_table(rt, "many", |_alloc, case| many::many(rt, world, case))?;
+    try_table(
+        rt,
+        "keepers",
+        |_alloc, case| keepers::keepers(rt, world, case),
+    )?;
+    try_table(rt, "books", |_alloc, case| keepers::books(rt, world, case))
 }

@@ -1,9 +1,12 @@
-//! Runs of the program over an input, an opening file, an output, folders and desks in memory.
+//! Runs of the program over an input, an opening file, an output, folders, desks and a keeper in memory.
 ghost use Rattle.std.specs.Prelude.{◌<◌, length};
+ghost use Rattle.ks_keeper.specs.Keeper.{IsTidy};
 
 use crate::fails::Fails;
+use crate::kept::Kept;
 use anyhow::{Context, Result, bail, ensure};
 use ks_base::Text;
+use ks_keeper::{Keeper, MemoryKeeper};
 use ks_outside::{
     Desk, KeyDir, MemoryDesk, MemoryDir, MemoryLink, MemorySink, MemorySource, Sink, Source,
 };
@@ -53,25 +56,37 @@ impl<'a> Outside<'a> {
     }
 }
 
-/// The end of a run: its status, its fault, what it wrote, and the desks behind it, each with its folder.
+/// The end of a run: its status, its fault, what it wrote, the desks behind it, each with its folder, and what is kept.
 #[derive(Drop)]
 pub struct End {
     pub status: u8,
     pub fault: Option<Fault>,
     pub written: Vec<u8>,
     pub desks: Vec<(MemoryDesk, MemoryDir)>,
+    pub kept: Kept,
 }
 
-/// Runs a command over one desk without links.
+/// Runs a command over one desk without links. Nothing is kept before.
 pub fn run<R: AllocGlobal + Threads + Wait + Sync>(
     rt: &R,
     command: &str,
     outside: &Outside<'_>,
 ) -> Result<End> {
+    run_again(rt, command, outside, Kept::nothing(rt.alloc()), &[])
+}
+
+/// The same where this is kept before, and of the keeper's calls those with these numbers fail.
+pub fn run_again<R: AllocGlobal + Threads + Wait + Sync>(
+    rt: &R,
+    command: &str,
+    outside: &Outside<'_>,
+    kept: Kept,
+    failing: &[(u64, bool)],
+) -> Result<End> {
     let alloc = rt.alloc();
     let mut dir = folder(alloc, outside.folder, outside.opening_fails.folder)?;
     let desks = desks_of(alloc, outside)?;
-    run_over(rt, command, outside, &mut dir, desks)
+    run_over(rt, command, outside, &mut dir, desks, kept, failing)
 }
 
 /// The same over a folder and desks.
@@ -81,6 +96,8 @@ pub fn run_over<R: AllocGlobal + Threads + Wait + Sync>(
     outside: &Outside<'_>,
     dir: &mut MemoryDir,
     desks: Vec<(MemoryDesk, MemoryDir)>,
+    kept: Kept,
+    failing: &[(u64, bool)],
 ) -> Result<End> {
     let alloc = rt.alloc();
     ensure!(!desks.is_empty(), "no desk");
@@ -90,7 +107,8 @@ pub fn run_over<R: AllocGlobal + Threads + Wait + Sync>(
     let mut input = MemorySource::new(alloc, outside.input, &[fails.read], longest)?;
     let mut file = MemorySource::new(alloc, outside.file, &[opening_fails.file], WHOLE)?;
     let mut output = MemorySink::new(alloc, ROOM, &[fails.write], longest)?;
-    let (status, fault, desks) = done(
+    let keeper = MemoryKeeper::new(alloc, kept.header, kept.entries, failing)?;
+    let (status, fault, desks, keeper) = done(
         rt,
         words.as_slice(),
         &mut input,
@@ -98,12 +116,15 @@ pub fn run_over<R: AllocGlobal + Threads + Wait + Sync>(
         &mut output,
         dir,
         desks,
+        keeper,
     );
+    let (header, entries) = keeper.context("no keeper")?.into_contents();
     Ok(End {
         status,
         fault,
         written: Vec::from_slice(alloc, output.written())?,
         desks,
+        kept: Kept { header, entries },
     })
 }
 
@@ -115,6 +136,7 @@ fn done<
     K: Sink,
     D: KeyDir + Send + Drop,
     P: Desk + Send + Drop,
+    B: Keeper + Send + Drop,
 >(
     rt: &R,
     words: &[Text],
@@ -123,18 +145,28 @@ fn done<
     output: &mut K,
     dir: &mut D,
     desks: Vec<(P, D)>,
-) -> (u8, Option<Fault>, Vec<(P, D)>)
+    keeper: B,
+) -> (u8, Option<Fault>, Vec<(P, D)>, Option<B>)
 where
     P::Link: Send,
-    requires { 0 < length desks.items }
+    requires some { 0 < length desks.items }
+    requires tidy { B.whole keeper → IsTidy (B.kept keeper) }
 {
     let Ended {
         status,
         fault,
         desks,
-        state: _state,
-    } = ks_top::run(rt, words, input, file, output, dir, desks);
-    (status, fault, desks)
+        state,
+        keeper,
+    } = ks_top::run(rt, words, input, file, output, dir, desks, keeper);
+    let keeper = match state {
+        Some(booked) => {
+            let (_identity, keeper) = booked.into_parts();
+            Some(keeper)
+        }
+        None => keeper,
+    };
+    (status, fault, desks, keeper)
 }
 
 /// The words of a command line, without the quotes around them.

@@ -1,5 +1,6 @@
 //! The tables of `serve`, and of `talk` over two desks.
 
+use crate::kept::Kept;
 use crate::run::{End, Outside, ROOM, WHOLE, desk_of, folder, run_over};
 use crate::session::TALK;
 use crate::talks::names;
@@ -22,12 +23,13 @@ pub fn serves<R: AllocGlobal + Threads + Wait + Sync>(
     let command = format!(in alloc; "serve o1.json keys 127.0.0.1:0 {}", case.str(2)?)?;
     let mut dir = folder(alloc, "", 0)?;
     let desks = desks(alloc, *outside, case)?;
-    let end = run_over(rt, command.as_str(), outside, &mut dir, desks)?;
+    let kept = Kept::nothing(alloc);
+    let end = run_over(rt, command.as_str(), outside, &mut dir, desks, kept, &[])?;
     said(alloc, known, end.status, end.desks.as_slice())
 }
 
-/// Of the links of two desks and the input of a `talk`: the responses to that, and what a `serve` with the same desks then
-/// answers on their links, which the talk left to come.
+/// Of the links of two desks and the input of a `talk`: the responses to that, and what a `serve` with the same desks and over
+/// what that kept then answers on their links, which the talk left to come.
 pub fn talk_desks<R: AllocGlobal + Threads + Wait + Sync>(
     rt: &R,
     outside: &Outside<'_>,
@@ -35,12 +37,8 @@ pub fn talk_desks<R: AllocGlobal + Threads + Wait + Sync>(
     case: &Case,
 ) -> Result<String> {
     let alloc = rt.alloc();
-    // Both openings draw from the first desk.
-    let mut random = Vec::from_slice(alloc, outside.random)?;
-    random.extend_from_slice(outside.random)?;
     let outside = Outside {
         input: case.bytes(2),
-        random: random.as_slice(),
         ..*outside
     };
     let mut dir = folder(alloc, "", 0)?;
@@ -49,11 +47,20 @@ pub fn talk_desks<R: AllocGlobal + Threads + Wait + Sync>(
         status,
         written,
         desks,
+        kept,
         fault: _fault,
-    } = run_over(rt, TALK, &outside, &mut dir, desks)?;
+    } = run_over(
+        rt,
+        TALK,
+        &outside,
+        &mut dir,
+        desks,
+        Kept::nothing(alloc),
+        &[],
+    )?;
     let told = names(alloc, known, written.as_slice())?;
     let command = "serve o1.json keys 127.0.0.1:0";
-    let end = run_over(rt, command, &outside, &mut dir, desks)?;
+    let end = run_over(rt, command, &outside, &mut dir, desks, kept, &[])?;
     let served = said(alloc, known, end.status, end.desks.as_slice())?;
     Ok(format!(in alloc; "{status}: {told}, then {served}")?)
 }

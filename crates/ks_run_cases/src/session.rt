@@ -2,9 +2,9 @@
 
 use crate::fails::Fails;
 use crate::names::{Names, expanded, with_length};
-use crate::run::Outside;
+use crate::run::{Outside, WHOLE};
 use crate::world::{Opening, World};
-use anyhow::{Result, ensure};
+use anyhow::{Context, Result, ensure};
 use ks_tables::Case;
 use std::alloc::Global;
 use std::rt::Files;
@@ -14,6 +14,14 @@ pub const TALK: &str = "talk opening.json keys";
 
 /// The bytes that a draw takes.
 const DRAWN: usize = 64;
+
+/// How much was read before a request.
+#[derive(Clone, Copy)]
+struct Mark {
+    input: usize,
+    readings: usize,
+    random: usize,
+}
 
 /// A connection over an opening, as far as its requests were read.
 pub struct Session {
@@ -29,6 +37,7 @@ pub struct Session {
     random: Vec<u8>,
     /// How many calls drew random bytes.
     fills: u64,
+    marks: Vec<Mark>,
 }
 
 impl Drop for Session {
@@ -43,6 +52,7 @@ impl Drop for Session {
             readings: _,
             random: _,
             fills: _,
+            marks: _,
         } = self;
     }
 }
@@ -61,6 +71,7 @@ impl Session {
             readings: Vec::new(alloc),
             random: salts(alloc, opening.passwords)?,
             fills: u64::from(opening.passwords),
+            marks: Vec::new(alloc),
             opening,
         })
     }
@@ -87,6 +98,11 @@ impl Session {
         drawn: &str,
         request: &str,
     ) -> Result<()> {
+        self.marks.push(Mark {
+            input: self.input.len(),
+            readings: self.readings.len(),
+            random: self.random.len(),
+        })?;
         self.need(alloc, reading, drawn)?;
         let request = expanded(alloc, request, &self.names, &world.names)?;
         let request = with_length(alloc, request.as_str())?;
@@ -112,6 +128,35 @@ impl Session {
         drawn.resize(DRAWN, 0)?;
         self.random.extend_from_slice(drawn.as_slice())?;
         Ok(())
+    }
+
+    /// Whether nothing fails, and no reading of the clock is before another.
+    pub fn is_plain(&self) -> bool {
+        let mut last = 0;
+        for reading in self.readings.iter() {
+            if *reading < last {
+                return false;
+            }
+            last = *reading;
+        }
+        self.status == 0 && self.fails.is_none() && self.opening.fails.is_none()
+    }
+
+    /// What two runs read that part the requests between them, so many of which go to the first.
+    pub fn parted(&self, first: usize) -> Result<(Outside<'_>, Outside<'_>)> {
+        let Mark {
+            input,
+            readings,
+            random,
+        } = *self.marks.get(first).context("no such request")?;
+        let mut before = self.outside(WHOLE);
+        let mut after = before;
+        (before.input, after.input) = self.input.split_at(input.min(self.input.len()));
+        (before.readings, after.readings) = self
+            .readings
+            .split_at(readings.min(self.readings.len()));
+        (before.random, after.random) = self.random.split_at(random.min(self.random.len()));
+        Ok((before, after))
     }
 
     /// What a run reads, in pieces of at most this length.

@@ -1,7 +1,7 @@
 //! The tables of sessions.
 
 use crate::names::token_of;
-use crate::run::{End, WHOLE, run};
+use crate::run::{End, WHOLE, run, run_again};
 use crate::session::{Session, TALK};
 use crate::world::World;
 use anyhow::{Result, bail, ensure};
@@ -27,19 +27,35 @@ pub fn try_table<R: Files + Print + AllocGlobal + Threads + Wait + Sync>(
     table: &str,
 ) -> Result<()> {
     let rows = read_rows(rt, table)?;
-    let (held, requests) = held(rt, world, table, rows.as_slice())?;
-    println!(rt; "{table} {held} with {requests} requests")?;
+    let Tally {
+        sessions,
+        requests,
+        restarted,
+    } = held(rt, world, table, rows.as_slice())?;
+    println!(rt; "{table} {sessions} with {requests} requests, {restarted} over a restart")?;
     Ok(())
 }
 
-/// How many sessions hold, and how many requests these have. A row with a name begins one.
+/// What held of a table: how many sessions, how many requests these have, and how many of them held over a restart too.
+#[derive(Clone, Copy)]
+struct Tally {
+    sessions: u64,
+    requests: usize,
+    restarted: u64,
+}
+
+/// What holds of these rows. A row with a name begins a session.
 fn held<R: Files + Print + AllocGlobal + Threads + Wait + Sync>(
     rt: &R,
     world: &World,
     table: &str,
     rows: &[Row],
-) -> Result<(u64, usize)> {
-    let (mut held, mut requests): (u64, usize) = (0, 0);
+) -> Result<Tally> {
+    let mut held = Tally {
+        sessions: 0,
+        requests: 0,
+        restarted: 0,
+    };
     for (at, row) in rows.iter().enumerate() {
         let name = row.case().str(0)?;
         if name.is_empty() {
@@ -47,14 +63,15 @@ fn held<R: Files + Print + AllocGlobal + Threads + Wait + Sync>(
         }
         let session = front(rows.split_at(at).1);
         match try_session(rt, world, name, session) {
-            Ok(()) => {
-                held = held.saturating_add(1);
-                requests = requests.saturating_add(session.len());
+            Ok(restarted) => {
+                held.sessions = held.sessions.saturating_add(1);
+                held.requests = held.requests.saturating_add(session.len());
+                held.restarted = held.restarted.saturating_add(u64::from(restarted));
             }
             Err(found) => println!(rt; "{table}, {name}: {found}")?,
         }
     }
-    Ok((held, requests))
+    Ok(held)
 }
 
 /// The rows of the session that the first row begins.
@@ -67,21 +84,46 @@ fn front(rows: &[Row]) -> &[Row] {
     rows
 }
 
-/// Fails where a session is answered otherwise: whole, or a short one in single bytes.
+/// Fails where a session is answered otherwise: whole, or a short one in single bytes, or with a restart in its middle. Says
+/// whether there was one.
 fn try_session<R: Files + AllocGlobal + Threads + Wait + Sync>(
     rt: &R,
     world: &World,
     name: &str,
     rows: &[Row],
-) -> Result<()> {
+) -> Result<bool> {
     let session = read_session(rt, world, name, rows)?;
     let is_cut = session.fails.read != 0 || session.fails.write != 0;
     let outside = session.outside(if is_cut { PIECE } else { WHOLE });
     try_end(&session, rows, &run(rt, TALK, &outside)?)?;
-    if is_cut || outside.input.len() > SHORT {
-        return Ok(());
+    if !is_cut && outside.input.len() <= SHORT {
+        try_end(&session, rows, &run(rt, TALK, &session.outside(1))?)?;
     }
-    try_end(&session, rows, &run(rt, TALK, &session.outside(1))?)
+    try_restart(rt, &session, rows)
+}
+
+/// Fails where a session is answered otherwise by two runs, the second of which goes on from what the first one kept. Only a
+/// session with time that goes on, where nothing fails and each request is answered, is the same then.
+fn try_restart<R: AllocGlobal + Threads + Wait + Sync>(
+    rt: &R,
+    session: &Session,
+    rows: &[Row],
+) -> Result<bool> {
+    let are_answered = rows.iter().all(|row| !row.case().bytes(5).is_empty());
+    if rows.len() < 2 || !are_answered || !session.is_plain() {
+        return Ok(false);
+    }
+    let middle = rows.len() / 2;
+    let (before, after) = session.parted(middle)?;
+    let (first, second) = rows.split_at(middle);
+    let end = run(rt, TALK, &before)?;
+    try_end(session, first, &end)?;
+    try_end(
+        session,
+        second,
+        &run_again(rt, TALK, &after, end.kept, &[])?,
+    )?;
+    Ok(true)
 }
 
 /// The session of these rows.

@@ -2,13 +2,13 @@
 use Rattle.std.proofs.Common.{◌≡◌, ℕ, ◌+◌, Bool, true, false, List, [], ◌∷◌, ◌++◌, length, map, Result, Ok, Err, refl, sym, ap, subst, ◌∙◌}
 use Rattle.std.proofs.lemmas.List.{length-map, map-append}
 use Rattle.std.specs.List.{AllByRecursion, AllZip}
-use Rattle.std.specs.declared.convert.Infallible.{Infallible}
 use Rattle.ks_base.specs.declared.faults.KeysFault.{KeysFault}
 use Rattle.ks_base.specs.declared.faults.KeysFault.TheVariants as keys
 use Rattle.ks_base.specs.declared.key.Key.{Key}
 use Rattle.ks_base.specs.declared.receipt.Receipt.{Receipt}
 use Rattle.ks_http.specs.declared.request.Request.{Request}
 use Rattle.ks_keyfiles.specs.Folders.{folder_of}
+use Rattle.ks_keep.specs.declared.keeping.KeeperFailed.{KeeperFailed}
 use Rattle.ks_machine.specs.declared.call.Call.{Call}
 use Rattle.ks_machine.specs.declared.call.FolderRead.{FolderRead}
 use Rattle.ks_machine.specs.declared.call.FolderRead.TheVariants as folder
@@ -119,7 +119,7 @@ same_size : (xs ys : List Exchange) → receipts_of xs ≡ receipts_of ys → le
 same_size xs ys same =
     length-map xs (λ x. x.request) ∙ sym (length-map xs (λ x. x.receipt)) ∙ ap (λ l. length l) same ∙ length-map ys (λ y. y.receipt) ∙ sym (length-map ys (λ y. y.request))
 
-same_requests : (journal other : Front) (number count : ℕ) (v w : Visit Infallible StreamState) → IsVisited (λ link. link) journal number v → IsVisited (λ link. link) other count w
+same_requests : (journal other : Front) (number count : ℕ) (v w : Visit KeeperFailed StreamState) → IsVisited (λ link. link) journal number v → IsVisited (λ link. link) other count w
     → SameBytes v w → requests_of v.exchanges ≡ requests_of w.exchanges
 same_requests journal other number count v w visited visited_too same =
     let one = session_follow v.why journal same.bytes same.written.0 v.returned.left v.returned.written v.exchanges (visited.told same.bytes same.written.0 same.told.0 same.written.1) in
@@ -127,12 +127,12 @@ same_requests journal other number count v w visited visited_too same =
     followed_once same.bytes (requests_of v.exchanges) (requests_of w.exchanges) one.rest two.rest (same_size v.exchanges w.exchanges same.receipts) one.are two.are
 
 -- what is read off each exchange is the same, connection by connection
-by_visits : {A : Type 0} (f : Exchange → A) (v w : Visit Infallible StreamState) (vs ws : List (Visit Infallible StreamState)) → map f v.exchanges ≡ map f w.exchanges
+by_visits : {A : Type 0} (f : Exchange → A) (v w : Visit KeeperFailed StreamState) (vs ws : List (Visit KeeperFailed StreamState)) → map f v.exchanges ≡ map f w.exchanges
     → map f (exchanges_of vs) ≡ map f (exchanges_of ws) → map f (exchanges_of (v ∷ vs)) ≡ map f (exchanges_of (w ∷ ws))
 by_visits f v w vs ws here there =
     map-append f v.exchanges (exchanges_of vs) ∙ (λ i. here i ++ there i) ∙ sym (map-append f w.exchanges (exchanges_of ws))
 
-all_requests : (journal other : Front) (number count : ℕ) (vs ws : List (Visit Infallible StreamState)) → AreVisited (λ link. link) journal number vs → AreVisited (λ link. link) other count ws
+all_requests : (journal other : Front) (number count : ℕ) (vs ws : List (Visit KeeperFailed StreamState)) → AreVisited (λ link. link) journal number vs → AreVisited (λ link. link) other count ws
     → AllZip SameBytes vs ws → requests_of (exchanges_of vs) ≡ requests_of (exchanges_of ws)
 all_requests journal other number count [] [] visited visited_too same = refl
 all_requests journal other number count [] (w ∷ ws) visited visited_too same = absurd same
@@ -141,7 +141,7 @@ all_requests journal other number count (v ∷ vs) (w ∷ ws) visited visited_to
     by_visits (λ (x : Exchange). x.request) v w vs ws (same_requests journal other _ _ v w visited.0 visited_too.0 same.0)
     (all_requests journal other (number + 1) (count + 1) vs ws visited.1 visited_too.1 same.1)
 
-all_receipts : (vs ws : List (Visit Infallible StreamState)) → AllZip SameBytes vs ws → receipts_of (exchanges_of vs) ≡ receipts_of (exchanges_of ws)
+all_receipts : (vs ws : List (Visit KeeperFailed StreamState)) → AllZip SameBytes vs ws → receipts_of (exchanges_of vs) ≡ receipts_of (exchanges_of ws)
 all_receipts [] [] same = refl
 all_receipts [] (w ∷ ws) same = absurd same
 all_receipts (v ∷ vs) [] same = absurd same

@@ -25,6 +25,9 @@ held_ends fault.Folder bytes old new h = absurd h
 held_ends (fault.Keys reason) bytes old new h = absurd h
 held_ends (fault.Opening reason) bytes old new h = absurd h
 held_ends (fault.State reason) bytes old new h = absurd h
+held_ends (fault.Keeper why) bytes old new h = absurd h
+held_ends fault.OtherOpening bytes old new h = absurd h
+held_ends (fault.BadEntry n) bytes old new h = absurd h
 held_ends fault.Desk bytes old new h = absurd h
 held_ends fault.Read bytes old new h = absurd h
 held_ends fault.Write bytes old new h = absurd h
@@ -84,6 +87,9 @@ stands_line (Err fault.Folder) whole last rest old new written before h inside e
 stands_line (Err (fault.Keys reason)) whole last rest old new written before h inside ends = absurd ends.0
 stands_line (Err (fault.Opening reason)) whole last rest old new written before h inside ends = absurd ends.0
 stands_line (Err (fault.State reason)) whole last rest old new written before h inside ends = absurd ends.0
+stands_line (Err (fault.Keeper why)) whole last rest old new written before h inside ends = absurd ends.0
+stands_line (Err fault.OtherOpening) whole last rest old new written before h inside ends = absurd ends.0
+stands_line (Err (fault.BadEntry n)) whole last rest old new written before h inside ends = absurd ends.0
 stands_line (Err fault.Desk) whole last rest old new written before h inside ends = absurd ends.0
 stands_line (Err fault.Read) whole last rest old new written before h inside ends = absurd ends.0
 stands_line (Err fault.Write) whole last rest old new written before h inside ends = absurd ends.0
@@ -114,6 +120,9 @@ stands_hold (Err fault.Folder) whole bytes old new written before h inside held 
 stands_hold (Err (fault.Keys reason)) whole bytes old new written before h inside held = absurd held
 stands_hold (Err (fault.Opening reason)) whole bytes old new written before h inside held = absurd held
 stands_hold (Err (fault.State reason)) whole bytes old new written before h inside held = absurd held
+stands_hold (Err (fault.Keeper why)) whole bytes old new written before h inside held = absurd held
+stands_hold (Err fault.OtherOpening) whole bytes old new written before h inside held = absurd held
+stands_hold (Err (fault.BadEntry n)) whole bytes old new written before h inside held = absurd held
 stands_hold (Err fault.Desk) whole bytes old new written before h inside held = absurd held
 stands_hold (Err fault.Read) whole bytes old new written before h inside held = absurd held
 stands_hold (Err fault.Write) whole bytes old new written before h inside held = absurd held
@@ -200,6 +209,9 @@ finish_line (Err fault.Folder) whole old new written before h inside long ends f
 finish_line (Err (fault.Keys reason)) whole old new written before h inside long ends forward = absurd ends.0
 finish_line (Err (fault.Opening reason)) whole old new written before h inside long ends forward = absurd ends.0
 finish_line (Err (fault.State reason)) whole old new written before h inside long ends forward = absurd ends.0
+finish_line (Err (fault.Keeper why)) whole old new written before h inside long ends forward = absurd ends.0
+finish_line (Err fault.OtherOpening) whole old new written before h inside long ends forward = absurd ends.0
+finish_line (Err (fault.BadEntry n)) whole old new written before h inside long ends forward = absurd ends.0
 finish_line (Err fault.Desk) whole old new written before h inside long ends forward = absurd ends.0
 finish_line (Err fault.Read) whole old new written before h inside long ends forward = absurd ends.0
 finish_line (Err fault.Write) whole old new written before h inside long ends forward = absurd ends.0
@@ -215,6 +227,9 @@ moves_err fault.Folder whole rest rest' checker written before h = absurd h
 moves_err (fault.Keys reason) whole rest rest' checker written before h = absurd h
 moves_err (fault.Opening reason) whole rest rest' checker written before h = absurd h
 moves_err (fault.State reason) whole rest rest' checker written before h = absurd h
+moves_err (fault.Keeper why) whole rest rest' checker written before h = absurd h
+moves_err fault.OtherOpening whole rest rest' checker written before h = absurd h
+moves_err (fault.BadEntry n) whole rest rest' checker written before h = absurd h
 moves_err fault.Desk whole rest rest' checker written before h = absurd h
 moves_err fault.Read whole rest rest' checker written before h = absurd h
 moves_err fault.Write whole rest rest' checker written before h = h
@@ -409,6 +424,9 @@ stops_at fault.Folder n piece text left left' old new written written' before r 
 stops_at (fault.Keys reason) n piece text left left' old new written written' before r taken short behind moves = absurd moves
 stops_at (fault.Opening reason) n piece text left left' old new written written' before r taken short behind moves = absurd moves
 stops_at (fault.State reason) n piece text left left' old new written written' before r taken short behind moves = absurd moves
+stops_at (fault.Keeper why) n piece text left left' old new written written' before r taken short behind moves = absurd moves
+stops_at fault.OtherOpening n piece text left left' old new written written' before r taken short behind moves = absurd moves
+stops_at (fault.BadEntry number) n piece text left left' old new written written' before r taken short behind moves = absurd moves
 stops_at fault.Desk n piece text left left' old new written written' before r taken short behind moves = absurd moves
 stops_at fault.Read n piece text left left' old new written written' before r taken short behind moves = absurd moves
 
@@ -450,6 +468,9 @@ finishes (Err fault.Folder) piece text left left' old new written before r taken
 finishes (Err (fault.Keys reason)) piece text left left' old new written before r taken behind ends = absurd ends
 finishes (Err (fault.Opening reason)) piece text left left' old new written before r taken behind ends = absurd ends
 finishes (Err (fault.State reason)) piece text left left' old new written before r taken behind ends = absurd ends
+finishes (Err (fault.Keeper why)) piece text left left' old new written before r taken behind ends = absurd ends
+finishes (Err fault.OtherOpening) piece text left left' old new written before r taken behind ends = absurd ends
+finishes (Err (fault.BadEntry n)) piece text left left' old new written before r taken behind ends = absurd ends
 finishes (Err fault.Desk) piece text left left' old new written before r taken behind ends = absurd ends
 finishes (Err fault.Read) piece text left left' old new written before r taken behind ends = absurd ends
 finishes (Err fault.Write) piece text left left' old new written before r taken behind ends = absurd ends
@@ -493,6 +514,9 @@ closes (Err fault.Folder) text before left written written' old new h wrote othe
 closes (Err (fault.Keys reason)) text before left written written' old new h wrote others = absurd h
 closes (Err (fault.Opening reason)) text before left written written' old new h wrote others = absurd h
 closes (Err (fault.State reason)) text before left written written' old new h wrote others = absurd h
+closes (Err (fault.Keeper why)) text before left written written' old new h wrote others = absurd h
+closes (Err fault.OtherOpening) text before left written written' old new h wrote others = absurd h
+closes (Err (fault.BadEntry n)) text before left written written' old new h wrote others = absurd h
 closes (Err fault.Desk) text before left written written' old new h wrote others = absurd h
 
 -- the last answers could not be written
@@ -547,6 +571,9 @@ closes_short (Err fault.Folder) failed text before left written written' old new
 closes_short (Err (fault.Keys reason)) failed text before left written written' old new h wrote others = absurd h
 closes_short (Err (fault.Opening reason)) failed text before left written written' old new h wrote others = absurd h
 closes_short (Err (fault.State reason)) failed text before left written written' old new h wrote others = absurd h
+closes_short (Err (fault.Keeper why)) failed text before left written written' old new h wrote others = absurd h
+closes_short (Err fault.OtherOpening) failed text before left written written' old new h wrote others = absurd h
+closes_short (Err (fault.BadEntry n)) failed text before left written written' old new h wrote others = absurd h
 closes_short (Err fault.Desk) failed text before left written written' old new h wrote others = absurd h
 
 -- nothing was read and nothing written

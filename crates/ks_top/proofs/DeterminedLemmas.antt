@@ -1,20 +1,22 @@
 -- What is made of an opening is determined by what was told, and a call whose checks pass has its reply.
-use Rattle.std.proofs.Common.{◌≡◌, ℕ, zero, suc, ◌+◌, ◌<◌, ◌≤◌, Bool, true, false, List, [], ◌∷◌, ◌++◌, length, take, inl, inr, Option, Some, None, if◌then◌else◌, ◌==◌, refl, sym, ap, subst, ◌∙◌, arith}
+use Rattle.std.proofs.Common.{◌≡◌, ℕ, zero, suc, ◌+◌, ◌<◌, ◌≤◌, Bool, true, false, List, [], ◌∷◌, ◌++◌, length, take, inl, inr, Option, Some, None, if◌then◌else◌, ◌==◌, refl, sym, ap, subst, ◌∙◌, arith, lt_of_not-le}
+use native.Mathlib.Decide.{dec_le}
 use Rattle.std.proofs.lemmas.Bool.{eqb-true}
 use Rattle.std.proofs.lemmas.Bool.Decides.{nat_tests}
 use Rattle.std.proofs.lemmas.List.{length-append, length-take, length-take-le, take-append-le, take_all}
 use Rattle.std.specs.List.{AllByRecursion}
 use Rattle.ks_base.specs.Tables.{Among}
 use Rattle.ks_base.proofs.AmongLemmas.{all_among}
+use Rattle.ks_keep.specs.Books.{BookedState}
+use Rattle.ks_keeper.specs.Keeper.{Keeping}
 use Rattle.ks_machine.specs.declared.call.Call.{Call}
 use Rattle.ks_machine.specs.declared.cause.Cause.{Cause}
 use Rattle.ks_machine.specs.declared.change.Change.{Change}
 use Rattle.ks_machine.specs.declared.change.Entry.{Entry}
 use Rattle.ks_machine.specs.declared.reply.Reply.TheVariants as reply
 use Rattle.ks_machine.specs.Attempts.{Attempt, Go}
-use Rattle.ks_machine.specs.Fronts.{Front, ◌⊑◌, after, answer, change_of, first_front, replay, reply_of, then}
+use Rattle.ks_machine.specs.Fronts.{Front, ◌⊑◌, after, answer, change_of, replay, reply_of, then}
 use Rattle.ks_machine.specs.Moment.{moment_of}
-use Rattle.ks_machine.specs.Openings.{PlainOpening}
 use Rattle.ks_machine.specs.Outcomes.{Outcome}
 use Rattle.ks_machine.specs.Steps.{step_at, stepped}
 use Rattle.ks_outside.specs.Streams.{StreamState}
@@ -24,7 +26,6 @@ use Rattle.ks_server.specs.Laws.{IsPlaced}
 use Rattle.ks_server.specs.Workers.{Place, exchanges_of}
 use Rattle.ks_service.specs.Called.{made_by, numbered}
 use Rattle.ks_setup.specs.declared.words.Words.{Words}
-use Rattle.ks_state.specs.Shown.{Shown}
 use Rattle.ks_top.specs.declared.fault.Fault.{Fault}
 use Rattle.ks_top.specs.Headline.{Headline, TellsOf, Worker, exchanges_by}
 use Rattle.ks_top.specs.Laws.{ChangesAreDetermined, RequestsComplete, checked_at}
@@ -32,11 +33,11 @@ use Rattle.ks_top.specs.World.{World}
 use Rattle.ks_top.proofs.AlikeLemmas.{workers_same}
 use Rattle.ks_turn.specs.Sums.{below, times}
 
--- a journal has these exchanges: each has its place in it, and each of its changes is that of exactly one of them
+-- a journal has these exchanges: each has its place in it, and each of its changes behind the first front is that of exactly one of them
 pub record IsJournalOf (first journal : Front) (xs : List Exchange) : Type 0 where
   pub later : first ⊑ journal
   pub placed : AllByRecursion (λ x. IsPlaced first journal x) xs
-  pub made : (n : ℕ) → times n (made journal xs) ≡ below n (length journal.changes)
+  pub made : (n : ℕ) → times n (made journal xs) + below n (length first.changes) ≡ below n (length journal.changes)
 
 -- the exchange that made a change
 
@@ -68,6 +69,9 @@ made_has n journal (x ∷ xs) some = makes_at n journal x xs (change_by journal 
 
 below_one : (n m : ℕ) → n < m → 1 ≤ below n m
 below_one n m lt = grind (arith, nat_tests)
+
+below_none : (n m : ℕ) → m < suc n → below n m ≡ 0
+below_none n m lt = grind (arith, nat_tests)
 
 -- the change is the next one of the front after it
 
@@ -107,13 +111,25 @@ same_step first f g xs n opening on_f on_g within same m =
     ∙ ap (λ (h : Front). h.changes) left
     ∙ sym (take_front (front_after g x) g (suc n) (all_among (λ (y : Exchange). IsPlaced first g y) xs x on_g m.among).is_past also)
 
+-- the changes of the first front are the same in both
+same_first : (first f g : Front) (n : ℕ) → first ⊑ f → first ⊑ g → n ≤ length first.changes → take n f.changes ≡ take n g.changes
+same_first first f g n on also within =
+    ap (take n) on.changes ∙ take-append-le n first.changes on.later within ∙ sym (ap (take n) also.changes ∙ take-append-le n first.changes also.later within)
+
+-- and of those behind it, the next one
+same_behind : (first f g : Front) (xs : List Exchange) (n : ℕ) → IsJournalOf first f xs → IsJournalOf first g xs → suc n ≤ length f.changes
+    → take n f.changes ≡ take n g.changes → Dec (suc n ≤ length first.changes) → take (suc n) f.changes ≡ take (suc n) g.changes
+same_behind first f g xs n one other within same (yes le) = same_first first f g (suc n) one.later other.later le
+same_behind first f g xs n one other within same (no gt) =
+    let made = one.made n in
+    let none = below_none n (length first.changes) (lt_of_not-le gt) in
+    let is_below = below_one n (length f.changes) within in
+    same_step first f g xs n (sym one.later.opening ∙ other.later.opening) one.placed other.placed within same (made_has n f xs (omega (arith, made, none, is_below)))
+
 same_upto : (first f g : Front) (xs : List Exchange) (n : ℕ) → IsJournalOf first f xs → IsJournalOf first g xs → n ≤ length f.changes → take n f.changes ≡ take n g.changes
 same_upto first f g xs zero one other within = refl
 same_upto first f g xs (suc n) one other within =
-    let made = one.made n in
-    let is_below = below_one n (length f.changes) (omega arith) in
-    same_step first f g xs n (sym one.later.opening ∙ other.later.opening) one.placed other.placed within
-    (same_upto first f g xs n one other (omega arith)) (made_has n f xs (omega arith))
+    same_behind first f g xs n one other within (same_upto first f g xs n one other (omega arith)) (dec_le (suc n) (length first.changes))
 
 pub same_changes : (first f g : Front) (xs : List Exchange) → IsJournalOf first f xs → IsJournalOf first g xs → f.changes ≡ g.changes
 same_changes first f g xs one other =
@@ -133,18 +149,18 @@ placed_by first journal [] each = tt
 placed_by first journal (w ∷ workers) each =
     all_both (λ (x : Exchange). IsPlaced first journal x) (exchanges_of w.connections) (exchanges_by workers) each.0.placed (placed_by first journal workers each.1)
 
-journal_of : {Link Seat : Type 0} (view : Seat → Place Link) (stream : Link → StreamState) (what : Words) (old new : World Link Seat) (f : Option Fault) (state : Shown)
-    → (said : Headline view stream what old new f state) → IsJournalOf (first_front said.opening) said.journal (exchanges_by said.workers)
-journal_of view stream what old new f state said =
-    record { later = said.later; placed = placed_by (first_front said.opening) said.journal said.workers said.each; made = said.made }
+journal_of : {Link Seat K : Type 0} (keeping : Keeping K) (view : Seat → Place Link) (stream : Link → StreamState) (what : Words) (old new : World Link Seat K) (f : Option Fault) (state : BookedState K)
+    → (said : Headline keeping view stream what old new f state) → IsJournalOf said.first said.journal (exchanges_by said.workers)
+journal_of keeping view stream what old new f state said =
+    record { later = said.later; placed = placed_by said.first said.journal said.workers said.each; made = said.made }
 
-pub changes_are_determined : (Link Seat : Type 0) → ChangesAreDetermined Link Seat
-changes_are_determined Link Seat view stream what what_too old new old_too new_too f f_too state state_too one other opening alike =
-    same_changes (first_front other.opening) one.journal other.journal (exchanges_by other.workers)
-    (subst (IsJournalOf (first_front other.opening) one.journal)
-    (workers_same (first_front one.opening) (first_front other.opening) one.journal other.journal one.workers other.workers one.each other.each alike)
-    (subst (λ (o : PlainOpening). IsJournalOf (first_front o) one.journal (exchanges_by one.workers)) opening (journal_of view stream what old new f state one)))
-    (journal_of view stream what_too old_too new_too f_too state_too other)
+pub changes_are_determined : (Link Seat : Type 0) {K : Type 0} (keeping : Keeping K) → ChangesAreDetermined Link Seat keeping
+changes_are_determined Link Seat {K} keeping view stream what what_too old new old_too new_too f f_too state state_too one other same alike =
+    same_changes other.first one.journal other.journal (exchanges_by other.workers)
+    (subst (IsJournalOf other.first one.journal)
+    (workers_same one.first other.first one.journal other.journal one.workers other.workers one.each other.each alike)
+    (subst (λ (first : Front). IsJournalOf first one.journal (exchanges_by one.workers)) same (journal_of keeping view stream what old new f state one)))
+    (journal_of keeping view stream what_too old_too new_too f_too state_too other)
 
 -- a call whose checks pass
 

@@ -2,8 +2,9 @@
 use Rattle.std.proofs.Common.{◌≡◌, List, [], ◌∷◌, arith, sym, ap, subst, ◌∙◌}
 use Rattle.std.specs.List.{AllByRecursion}
 use Rattle.ks_base.proofs.AmongLemmas.{all_among}
+use Rattle.ks_keeper.specs.Keeper.{Keeping}
 use Rattle.ks_laws.proofs.LawLemmas.{earlier_is_lawful}
-use Rattle.ks_machine.specs.Fronts.{Front, IsSound, ◌⊑◌, after, answer, first_front}
+use Rattle.ks_machine.specs.Fronts.{Front, IsSound, ◌⊑◌, after, answer}
 use Rattle.ks_machine.specs.Lawful.{IsLawful}
 use Rattle.ks_server.proofs.TieLemmas.{all_both}
 use Rattle.ks_server.specs.Exchanges.{Exchange, cut_at, front_after, left_by, replied, reply_to}
@@ -32,9 +33,9 @@ cut_lawful first journal x lawful placed place =
     let sound : IsSound (cut_at journal x.receipt) = record { moments = place.lawful; kept = omega arith } in
     earlier_is_lawful (cut_at journal x.receipt) journal lawful placed.in_journal sound
 
-pub refused_ever_after : (Link Seat : Type 0) → RefusedEverAfter Link Seat
-refused_ever_after Link Seat view stream what old new f state run x y call token ended among later =
-    let first = first_front run.opening in
+pub refused_ever_after : (Link Seat : Type 0) {K : Type 0} (keeping : Keeping K) → RefusedEverAfter Link Seat keeping
+refused_ever_after Link Seat {K} keeping view stream what old new f state run x y call token ended among later =
+    let first = run.first in
     let journal = run.journal in
     let xs = exchanges_by run.workers in
     let front = cut_at journal y.receipt in

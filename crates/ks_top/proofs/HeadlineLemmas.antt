@@ -1,15 +1,17 @@
 -- Wherever an identity was opened, all that was told is told by one journal.
-use Rattle.std.proofs.Common.{◌≡◌, ℕ, ◌+◌, ◌⊎◌, inl, inr, List, [], ◌∷◌, ◌++◌, length, map, Option, Some, None, IfSome, refl, sym, ap, subst, ◌∙◌, append-nil}
+use Rattle.std.proofs.Common.{◌≡◌, ℕ, ◌+◌, ◌⊎◌, inl, inr, List, [], ◌∷◌, ◌++◌, length, map, Option, Some, None, IfSome, refl, sym, ap, subst, ◌∙◌, append-nil, arith}
 use Rattle.std.specs.List.{AllByRecursion}
-use Rattle.std.specs.declared.convert.Infallible.{Infallible}
-use Rattle.ks_machine.specs.Fronts.{Front, IsSound, ◌⊑◌, first_front}
-use Rattle.ks_machine.specs.Opened.{open_fault}
-use Rattle.ks_machine.specs.Openings.{PlainOpening}
-use Rattle.ks_machine.proofs.FrontLemmas.{reflexive, transitive}
+use Rattle.ks_keep.specs.declared.keeping.KeeperFailed.{KeeperFailed}
+use Rattle.ks_keep.specs.Books.{BookedState}
+use Rattle.ks_keeper.specs.Keeper.{Keeping}
+use Rattle.ks_laws.proofs.FrontLemmas.{lawful_is_sound}
+use Rattle.ks_machine.specs.Fronts.{Front, IsSound, ◌⊑◌}
+use Rattle.ks_machine.specs.Lawful.{IsLawful}
+use Rattle.ks_machine.proofs.FrontLemmas.{reflexive}
 use Rattle.ks_outside.specs.Desks.{DeskState}
 use Rattle.ks_outside.specs.Streams.{StreamState}
 use Rattle.ks_server.proofs.LawLemmas.{receipts_are_placed}
-use Rattle.ks_server.proofs.OrderLemmas.{bare_before, chain_to}
+use Rattle.ks_server.proofs.OrderLemmas.{bare_before}
 use Rattle.ks_server.proofs.TieLemmas.{tied_none}
 use Rattle.ks_server.specs.declared.closed.Closed.{Closed}
 use Rattle.ks_server.specs.Exchanges.{Exchange, bare, made}
@@ -21,12 +23,9 @@ use Rattle.ks_setup.specs.declared.words.Places.{Places}
 use Rattle.ks_setup.specs.declared.words.Words.{Words}
 use Rattle.ks_setup.specs.declared.words.Words.TheVariants as asked
 use Rattle.ks_setup.specs.Words.{words_of}
-use Rattle.ks_state.specs.Shown.{Shown}
 use Rattle.ks_top.specs.declared.fault.Fault.{Fault}
-use Rattle.ks_top.proofs.ServeLemmas.{below_none, first_sound}
 use Rattle.ks_top.specs.Headline.{AreWorkers, HasLinks, Headline, TellsOf, Worker, exchanges_by, serves, talks}
-use Rattle.ks_top.specs.Identities.{HadNoRoom}
-use Rattle.ks_top.specs.Opened.{IsOpening}
+use Rattle.ks_top.specs.Identities.{Begins, HadNoRoom}
 use Rattle.ks_top.specs.Runs.{Does, Runs}
 use Rattle.ks_top.specs.Serve.{ServedDesks, serving}
 use Rattle.ks_top.specs.Talk as talk
@@ -49,12 +48,25 @@ tells_of first journal w xs are on sound order tied told =
       told = told;
     }
 
-made_by : (journal : Front) (all xs : List Exchange) → all ≡ xs
-    → ((n : ℕ) → times n (made journal xs) ≡ below n (length journal.changes)) → (n : ℕ) → times n (made journal all) ≡ below n (length journal.changes)
-made_by journal all xs are once n = ap (λ l. times n (made journal l)) are ∙ once n
+made_by : (first journal : Front) (all xs : List Exchange) → all ≡ xs
+    → ((n : ℕ) → times n (made journal xs) + below n (length first.changes) ≡ below n (length journal.changes))
+    → (n : ℕ) → times n (made journal all) + below n (length first.changes) ≡ below n (length journal.changes)
+made_by first journal all xs are once n = ap (λ l. times n (made journal l) + below n (length first.changes)) are ∙ once n
 
-abbrev IsHigh : Front → List Exchange → Type 0
-IsHigh journal xs = (journal.high ≡ 0) ⊎ IsReadingAmong journal.high xs
+abbrev IsHigh : Front → Front → List Exchange → Type 0
+IsHigh first journal xs = (journal.high ≡ first.high) ⊎ IsReadingAmong journal.high xs
+
+-- a server begins with all that is kept
+begun_kept : {Link Seat K : Type 0} (keeping : Keeping K) (old new : World Link Seat K) (desk : DeskState Link) (first : Front) → Begins keeping old new desk first
+    → first.kept ≡ length first.changes
+begun_kept keeping old new desk first (inl anew) = ap (λ (f : Front). f.kept) anew.is_first ∙ sym (ap (λ (f : Front). length f.changes) anew.is_first)
+begun_kept keeping old new desk first (inr on) = ap (λ (f : Front). f.kept) on.is_first ∙ sym (ap (λ (f : Front). length f.changes) on.is_first)
+
+begun_sound : {Link Seat K : Type 0} (keeping : Keeping K) (old new : World Link Seat K) (desk : DeskState Link) (first : Front) → Begins keeping old new desk first → IsLawful first
+    → IsSound first
+begun_sound keeping old new desk first begins lawful =
+    let kept = begun_kept keeping old new desk first begins in
+    lawful_is_sound first lawful (omega (arith, kept))
 
 -- there was no memory to serve: each desk is as the opening left it
 
@@ -90,31 +102,31 @@ idle_links stream place = record {
   returned = λ told is. is ∙ ap Some (sym (append-nil told));
 }
 
-none_made : (opening : PlainOpening) (n : ℕ) → times n (made (first_front opening) []) ≡ below n 0
+none_made : (first : Front) (n : ℕ) → times n (made first []) + below n (length first.changes) ≡ below n (length first.changes)
 unfolding made
-none_made opening n = sym (below_none n)
+none_made first n = omega arith
 
-none_told : {Link Seat : Type 0} (view : Seat → Place Link) (stream : Link → StreamState) (what : Words) (old new : World Link Seat) (opening : PlainOpening) (desk : DeskState Link) (count : ℕ) (f : Option Fault) (state : Shown)
-    → IsOpening old.file old.dir old.desk desk opening → open_fault opening ≡ None → HadNoRoom old new opening desk f state
-    → AreWorkers view stream old new f (map idle (serving view count desk old.place old.others)) count what → Headline view stream what old new f state
-none_told view stream what old new opening desk count f state opened lawful had are =
-    let first = first_front opening in
+none_told : {Link Seat K : Type 0} (keeping : Keeping K) (view : Seat → Place Link) (stream : Link → StreamState) (what : Words) (old new : World Link Seat K) (first : Front) (desk : DeskState Link) (count : ℕ) (f : Option Fault) (state : BookedState K)
+    → Begins keeping old new desk first → IsLawful first → new.keeper ≡ state.keeper → HadNoRoom keeping old new first desk f state
+    → AreWorkers view stream old new f (map idle (serving view count desk old.place old.others)) count what → Headline keeping view stream what old new f state
+none_told keeping view stream what old new first desk count f state begins lawful kept had are =
     let places = serving view count desk old.place old.others in
     let none = none_by places in
-    let place : old.place ≡ new.place = sym (ap (λ (w : World _ _). w.place) had.others) in
-    let others : old.others ≡ new.others = sym (ap (λ (w : World _ _). w.others) had.others) in
+    let place : old.place ≡ new.place = sym (ap (λ (w : World _ _ _). w.place) had.others) in
+    let others : old.others ≡ new.others = sym (ap (λ (w : World _ _ _). w.others) had.others) in
     let stayed : places ≡ serving view count new.desk new.place new.others = λ i. serving view count (sym had.desk i) (place i) (others i) in
     record {
-      opening = opening;
+      first = first;
       desk = desk;
       journal = first;
       count = count;
       workers = map idle places;
-      opened = opened;
+      begins = begins;
       lawful = lawful;
       later = reflexive first;
       stands = had.stands;
-      made = made_by first (exchanges_by (map idle places)) [] none (none_made opening);
+      keeper = kept;
+      made = made_by first first (exchanges_by (map idle places)) [] none (none_made first);
       high = inl refl;
       are = are;
       before = same_places (λ w. w.before) places (λ place. refl);
@@ -124,39 +136,38 @@ none_told view stream what old new opening desk count f state opened lawful had 
 
 -- a talk
 
-abbrev talk_of : {Link Seat : Type 0} → World Link Seat → World Link Seat → DeskState Link → List Exchange → Closed Infallible → Worker Link
+abbrev talk_of : {Link Seat K : Type 0} → World Link Seat K → World Link Seat K → DeskState Link → List Exchange → Closed KeeperFailed → Worker Link
 talk_of old new desk xs why = record {
   before = record { desk = desk; dir = old.place };
   after = record { desk = new.desk; dir = new.place };
   connections = record { accepted = link_of old; returned = link_of new; exchanges = xs; why = why } ∷ [];
 }
 
-talk_told : {Link Seat : Type 0} (view : Seat → Place Link) (stream : Link → StreamState) (places : Places) (old new : World Link Seat) (opening : PlainOpening) (desk : DeskState Link) (f : Option Fault) (state : Shown)
-    → IsOpening old.file old.dir old.desk desk opening → open_fault opening ≡ None → talk.ServesOne old new opening desk f state
-    → Headline view stream (asked.Talk places) old new f state
-talk_told view stream places old new opening desk f state opened lawful s =
-    let first = first_front opening in
+talk_told : {Link Seat K : Type 0} (keeping : Keeping K) (view : Seat → Place Link) (stream : Link → StreamState) (places : Places) (old new : World Link Seat K) (first : Front) (desk : DeskState Link) (f : Option Fault) (state : BookedState K)
+    → Begins keeping old new desk first → IsLawful first → new.keeper ≡ state.keeper → talk.ServesOne keeping old new first desk f state
+    → Headline keeping view stream (asked.Talk places) old new f state
+talk_told keeping view stream places old new first desk f state begins lawful kept s =
     let t = s.talked in
     let w = talk_of old new desk s.exchanges s.why in
     let are : exchanges_by (w ∷ []) ≡ s.exchanges = append-nil (s.exchanges ++ []) ∙ append-nil s.exchanges in
-    let later = transitive first (bare s.journal) s.journal (chain_to s.journal first (bare s.journal) s.exchanges t.in_order) (bare_before s.journal) in
     record {
-      opening = opening;
+      first = first;
       desk = desk;
       journal = s.journal;
       count = 1;
       workers = w ∷ [];
-      opened = opened;
+      begins = begins;
       lawful = lawful;
-      later = later;
+      later = t.later;
       stands = s.stands;
-      made = made_by s.journal (exchanges_by (w ∷ [])) s.exchanges are t.made;
-      high = subst (IsHigh s.journal) (sym are) t.high;
+      keeper = kept;
+      made = made_by first s.journal (exchanges_by (w ∷ [])) s.exchanges are t.made;
+      high = subst (IsHigh first s.journal) (sym are) t.high;
       are = talks places (inl (refl, refl), tt);
       before = refl;
       after = refl;
       each = (
-        tells_of first s.journal w s.exchanges (append-nil s.exchanges) later (first_sound opening) (record { now = bare s.journal; goes = t.in_order; on = bare_before s.journal }) t.tied
+        tells_of first s.journal w s.exchanges (append-nil s.exchanges) t.later (begun_sound keeping old new desk first begins lawful) (record { now = bare s.journal; goes = t.in_order; on = bare_before s.journal }) t.tied
             (record { numbered = t.numbered; told = t.told; reads = t.reads; writes = t.writes; names = refl }, tt),
         tt,
       );
@@ -164,22 +175,22 @@ talk_told view stream places old new opening desk f state opened lawful s =
 
 -- desks that were served
 
-abbrev visits_by : {Link : Type 0} → (Link → StreamState) → List (Visit Infallible Link) → List (Visit Infallible StreamState)
+abbrev visits_by : {Link : Type 0} → (Link → StreamState) → List (Visit KeeperFailed Link) → List (Visit KeeperFailed StreamState)
 visits_by stream visits = map (λ v. record { accepted = stream v.accepted; returned = stream v.returned; exchanges = v.exchanges; why = v.why }) visits
 
-same_exchanges : {Link : Type 0} (stream : Link → StreamState) (visits : List (Visit Infallible Link)) → exchanges_of (visits_by stream visits) ≡ exchanges_of visits
+same_exchanges : {Link : Type 0} (stream : Link → StreamState) (visits : List (Visit KeeperFailed Link)) → exchanges_of (visits_by stream visits) ≡ exchanges_of visits
 same_exchanges stream [] = refl
 same_exchanges stream (v ∷ visits) = ap (λ l. v.exchanges ++ l) (same_exchanges stream visits)
 
-same_came : {Link : Type 0} (stream : Link → StreamState) (visits : List (Visit Infallible Link)) → map stream (accepted_of visits) ≡ accepted_of (visits_by stream visits)
+same_came : {Link : Type 0} (stream : Link → StreamState) (visits : List (Visit KeeperFailed Link)) → map stream (accepted_of visits) ≡ accepted_of (visits_by stream visits)
 same_came stream [] = refl
 same_came stream (v ∷ visits) = ap (λ l. stream v.accepted ∷ l) (same_came stream visits)
 
-same_went : {Link : Type 0} (stream : Link → StreamState) (visits : List (Visit Infallible Link)) → map stream (returned_of visits) ≡ returned_of (visits_by stream visits)
+same_went : {Link : Type 0} (stream : Link → StreamState) (visits : List (Visit KeeperFailed Link)) → map stream (returned_of visits) ≡ returned_of (visits_by stream visits)
 same_went stream [] = refl
 same_went stream (v ∷ visits) = ap (λ l. stream v.returned ∷ l) (same_went stream visits)
 
-all_told : {Link : Type 0} (stream : Link → StreamState) (journal : Front) (count : ℕ) (visits : List (Visit Infallible Link)) → AreVisited stream journal count visits
+all_told : {Link : Type 0} (stream : Link → StreamState) (journal : Front) (count : ℕ) (visits : List (Visit KeeperFailed Link)) → AreVisited stream journal count visits
     → AreVisited (λ link. link) journal count (visits_by stream visits)
 all_told stream journal count [] visited = tt
 all_told stream journal count (v ∷ visits) visited =
@@ -195,10 +206,10 @@ pub record Served {Link : Type 0} (stream : Link → StreamState) (seen journal 
   pub links : AllByRecursion (HasLinks stream) workers
   pub each : AllByRecursion (TellsOf seen journal) workers
 
-abbrev worker_of : {Link : Type 0} → (Link → StreamState) → Place Link → Place Link → Shift Infallible Link → Worker Link
+abbrev worker_of : {Link : Type 0} → (Link → StreamState) → Place Link → Place Link → Shift KeeperFailed Link → Worker Link
 worker_of stream old new shift = record { before = old; after = new; connections = visits_by stream shift.visits }
 
-worker_links : {Link : Type 0} (stream : Link → StreamState) (connections : ℕ) (seen journal : Front) (old new : Place Link) (shift : Shift Infallible Link)
+worker_links : {Link : Type 0} (stream : Link → StreamState) (connections : ℕ) (seen journal : Front) (old new : Place Link) (shift : Shift KeeperFailed Link)
     → IsServed stream connections seen journal old new shift → HasLinks stream (worker_of stream old new shift)
 worker_links stream connections seen journal old new shift served = record {
   came = accepted_of shift.visits;
@@ -208,7 +219,7 @@ worker_links stream connections seen journal old new shift served = record {
   returned = served.returned;
 }
 
-served_by : {Link : Type 0} (stream : Link → StreamState) (connections : ℕ) (seen journal : Front) (olds news : List (Place Link)) (shifts : List (Shift Infallible Link))
+served_by : {Link : Type 0} (stream : Link → StreamState) (connections : ℕ) (seen journal : Front) (olds news : List (Place Link)) (shifts : List (Shift KeeperFailed Link))
     → seen ⊑ journal → IsSound seen → AreServed stream connections seen journal olds news shifts → Served stream seen journal olds news (all_exchanges shifts)
 served_by stream connections seen journal [] [] [] on sound served = record { workers = []; before = refl; after = refl; exchanges = refl; links = tt; each = tt }
 served_by stream connections seen journal [] [] (shift ∷ shifts) on sound served = absurd served
@@ -231,25 +242,26 @@ served_by stream connections seen journal (old ∷ olds) (new ∷ news) (shift �
       );
     }
 
-serve_told : {Link Seat : Type 0} (view : Seat → Place Link) (stream : Link → StreamState) (places : Places) (connections : ℕ) (old new : World Link Seat) (opening : PlainOpening) (desk : DeskState Link) (f : Option Fault) (state : Shown)
-    → IsOpening old.file old.dir old.desk desk opening → open_fault opening ≡ None → ServedDesks view stream places.workers connections old new f opening desk state
-    → Headline view stream (asked.Serve places connections) old new f state
-serve_told view stream places connections old new opening desk f state opened lawful s =
+serve_told : {Link Seat K : Type 0} (keeping : Keeping K) (view : Seat → Place Link) (stream : Link → StreamState) (places : Places) (connections : ℕ) (old new : World Link Seat K) (first : Front) (desk : DeskState Link) (f : Option Fault) (state : BookedState K)
+    → Begins keeping old new desk first → IsLawful first → new.keeper ≡ state.keeper → ServedDesks keeping view stream places.workers connections old new f first desk state
+    → Headline keeping view stream (asked.Serve places connections) old new f state
+serve_told keeping view stream places connections old new first desk f state begins lawful kept s =
     let olds = serving view places.workers desk old.place old.others in
     let news = serving view places.workers new.desk new.place new.others in
-    let all = served_by stream connections (first_front opening) s.journal olds news s.shifts s.later (first_sound opening) s.desks in
+    let all = served_by stream connections first s.journal olds news s.shifts s.later (begun_sound keeping old new desk first begins lawful) s.desks in
     record {
-      opening = opening;
+      first = first;
       desk = desk;
       journal = s.journal;
       count = places.workers;
       workers = all.workers;
-      opened = opened;
+      begins = begins;
       lawful = lawful;
       later = s.later;
       stands = s.stands;
-      made = made_by s.journal (exchanges_by all.workers) (all_exchanges s.shifts) all.exchanges s.made;
-      high = subst (IsHigh s.journal) (sym all.exchanges) s.high;
+      keeper = kept;
+      made = made_by first s.journal (exchanges_by all.workers) (all_exchanges s.shifts) all.exchanges s.made;
+      high = subst (IsHigh first s.journal) (sym all.exchanges) s.high;
       are = serves places connections all.links;
       before = all.before;
       after = all.after;
@@ -258,28 +270,28 @@ serve_told view stream places connections old new opening desk f state opened la
 
 -- each command
 
-does_tell : {Link Seat : Type 0} (view : Seat → Place Link) (stream : Link → StreamState) (what : Words) (old new : World Link Seat) (f : Option Fault) (state : Shown)
-    → Does view stream what old new f (Some state) → Headline view stream what old new f state
+does_tell : {Link Seat K : Type 0} (keeping : Keeping K) (view : Seat → Place Link) (stream : Link → StreamState) (what : Words) (old new : World Link Seat K) (f : Option Fault) (state : BookedState K)
+    → Does keeping view stream what old new f (Some state) → Headline keeping view stream what old new f state
 unfolding Does
-does_tell view stream asked.Check old new f state does = absurd (cc does.1)
-does_tell view stream (asked.Talk places) old new f state does = elim does.done as (λ _. Headline view stream (asked.Talk places) old new f state) [
-  | inl s ↦ talk_told view stream places old new does.opening does.desk f state does.opened does.lawful s
-  | inr had ↦ none_told view stream (asked.Talk places) old new does.opening does.desk 1 f state does.opened does.lawful had (talks places (inr (refl, had.memory), tt))
+does_tell keeping view stream asked.Check old new f state does = absurd (cc does.1)
+does_tell keeping view stream (asked.Talk places) old new f state does = elim does.1.done as (λ _. Headline keeping view stream (asked.Talk places) old new f state) [
+  | inl s ↦ talk_told keeping view stream places old new does.1.first does.1.desk f state does.1.begins does.1.lawful does.0 s
+  | inr had ↦ none_told keeping view stream (asked.Talk places) old new does.1.first does.1.desk 1 f state does.1.begins does.1.lawful does.0 had (talks places (inr (refl, had.memory), tt))
 ]
-does_tell view stream (asked.Serve places connections) old new f state does = elim does.done as (λ _. Headline view stream (asked.Serve places connections) old new f state) [
-  | inl s ↦ serve_told view stream places connections old new does.opening does.desk f state does.opened does.lawful s
-  | inr had ↦ none_told view stream (asked.Serve places connections) old new does.opening does.desk places.workers f state does.opened does.lawful had
-      (serves places connections (all_idle (HasLinks stream) (serving view places.workers does.desk old.place old.others) (idle_links stream)))
+does_tell keeping view stream (asked.Serve places connections) old new f state does = elim does.1.done as (λ _. Headline keeping view stream (asked.Serve places connections) old new f state) [
+  | inl s ↦ serve_told keeping view stream places connections old new does.1.first does.1.desk f state does.1.begins does.1.lawful does.0 s
+  | inr had ↦ none_told keeping view stream (asked.Serve places connections) old new does.1.first does.1.desk places.workers f state does.1.begins does.1.lawful does.0 had
+      (serves places connections (all_idle (HasLinks stream) (serving view places.workers does.1.desk old.place old.others) (idle_links stream)))
 ]
-does_tell view stream (asked.Setup places) old new f state does = absurd (cc does.1)
-does_tell view stream (asked.Rotate places max) old new f state does = absurd (cc does.1)
-does_tell view stream (asked.Password rounds) old new f state does = absurd (cc does.1)
-does_tell view stream asked.Usage old new f state does = absurd (cc does.2)
+does_tell keeping view stream (asked.Setup places) old new f state does = absurd (cc does.1)
+does_tell keeping view stream (asked.Rotate places max) old new f state does = absurd (cc does.1)
+does_tell keeping view stream (asked.Password rounds) old new f state does = absurd (cc does.1)
+does_tell keeping view stream asked.Usage old new f state does = absurd (cc does.2)
 
 -- wherever an identity was opened
-pub headline : {Link Seat : Type 0} (view : Seat → Place Link) (stream : Link → StreamState) (words : List (List ℕ)) (old new : World Link Seat) (f : Option Fault) (state : Option Shown)
-    → Runs view stream words old new f state → IfSome state (Headline view stream (words_of words) old new f)
+pub headline : {Link Seat K : Type 0} (keeping : Keeping K) (view : Seat → Place Link) (stream : Link → StreamState) (words : List (List ℕ)) (old new : World Link Seat K) (f : Option Fault) (state : Option (BookedState K))
+    → Runs keeping view stream words old new f state → IfSome state (Headline keeping view stream (words_of words) old new f)
 unfolding Runs
-headline view stream words old new f None runs = tt
-headline view stream words old new f (Some state) (inl does) = does_tell view stream (words_of words) old new f state does
-headline view stream words old new f (Some state) (inr none) = absurd (cc none.2)
+headline keeping view stream words old new f None runs = tt
+headline keeping view stream words old new f (Some state) (inl does) = does_tell keeping view stream (words_of words) old new f state does
+headline keeping view stream words old new f (Some state) (inr none) = absurd (cc none.2)

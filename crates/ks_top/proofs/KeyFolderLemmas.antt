@@ -78,6 +78,9 @@ setup_said random files before now (Err fault.Folder) drawn made says = absurd s
 setup_said random files before now (Err (fault.Keys reason)) drawn made says = absurd says
 setup_said random files before now (Err (fault.Opening reason)) drawn made says = absurd says
 setup_said random files before now (Err (fault.State reason)) drawn made says = absurd says
+setup_said random files before now (Err (fault.Keeper why)) drawn made says = absurd says
+setup_said random files before now (Err fault.OtherOpening) drawn made says = absurd says
+setup_said random files before now (Err (fault.BadEntry n)) drawn made says = absurd says
 setup_said random files before now (Err fault.Desk) drawn made says = absurd says
 
 pub setup_refused : (random : List ℕ) (files : List KeyFile) (before : List ℕ) (now : Outside) (fault : KeysFault) → HasDrawn 64 random now.random
@@ -126,6 +129,9 @@ rotation_said max random files before now indices (Err fault.Folder) drawn made 
 rotation_said max random files before now indices (Err (fault.Keys reason)) drawn made says = absurd says
 rotation_said max random files before now indices (Err (fault.Opening reason)) drawn made says = absurd says
 rotation_said max random files before now indices (Err (fault.State reason)) drawn made says = absurd says
+rotation_said max random files before now indices (Err (fault.Keeper why)) drawn made says = absurd says
+rotation_said max random files before now indices (Err fault.OtherOpening) drawn made says = absurd says
+rotation_said max random files before now indices (Err (fault.BadEntry n)) drawn made says = absurd says
 rotation_said max random files before now indices (Err fault.Desk) drawn made says = absurd says
 
 -- a line that was not written is no fault of the folder or of the desk

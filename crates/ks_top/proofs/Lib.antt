@@ -2,7 +2,10 @@ pub mod LineLemmas
 pub mod CheckLemmas
 pub mod CheckerLemmas
 pub mod KeyFolderLemmas
+pub mod CountLemmas
 pub mod OpeningLemmas
+pub mod StartLemmas
+pub mod BeginLemmas
 pub mod PasswordLemmas
 pub mod TalkLemmas
 pub mod RunLemmas
@@ -13,3 +16,5 @@ pub mod FollowLemmas
 pub mod AlikeLemmas
 pub mod DeterminedLemmas
 pub mod EndedLemmas
+pub mod KeptLemmas
+pub mod OpenedLemmas

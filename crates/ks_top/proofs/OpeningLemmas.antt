@@ -10,6 +10,7 @@ use Rattle.ks_base.specs.declared.key.Key.{Key}
 use Rattle.ks_base.specs.declared.limits.TheConstants.{OPENING_BYTES}
 use Rattle.ks_base.specs.declared.shapes.ShapeFault.{ShapeFault}
 use Rattle.ks_base.specs.declared.shapes.ShapeFault.TheVariants as shape
+use Rattle.ks_machine.specs.Openings.{PlainOpening}
 use Rattle.ks_outside.proofs.CallLemmas.{makes_none}
 use Rattle.ks_outside.specs.Desks.{DeskState}
 use Rattle.ks_outside.specs.Files.{DirState}
@@ -19,30 +20,16 @@ use Rattle.ks_policy.specs.Openings.{plain}
 use Rattle.ks_setup.specs.declared.opening.OpeningFault.{OpeningFault}
 use Rattle.ks_setup.specs.declared.opening.OpeningFault.TheVariants as refusal
 use Rattle.ks_setup.specs.declared.written.Written.{Written}
-use Rattle.ks_setup.specs.Openings.{AnswersOpening, Drew}
+use Rattle.ks_setup.specs.Openings.{AnswersOpening, Drew, Opens}
 use Rattle.ks_setup.specs.Written.{document_of, file_of, folder_wanted}
 use Rattle.ks_top.specs.declared.fault.Fault.{Fault}
 use Rattle.ks_top.specs.declared.fault.Fault.TheVariants as fault
 use Rattle.ks_top.specs.Opened.{AreHeld, IsOpening, IsText, ReadsFile, RefusesFolder, RefusesForm, StopsOpening}
-use Rattle.ks_top.specs.steps.Openings.{HasRead, IsRead, IsReadFault, IsWhole, RefusesKeys, StopsHeld, of_opening}
+use Rattle.ks_top.specs.steps.Openings.{HasRead, IsRead, IsWhole, RefusesKeys, StopsHeld, of_opening}
 
 -- a desk from which nothing was drawn
 pub drew_none : {Link : Type 0} (desk : DeskState Link) → Drew desk desk [] 0
 drew_none desk = record { told = λ bytes is. (bytes, refl, is); kept = refl; count = omega arith; salts = 0; whole = refl; calls = makes_none desk.calls }
-
--- why the file could not be read stops an opening that has drawn nothing
-pub read_stops : {Link : Type 0} (file : StreamState) (dir : DirState) (desk : DeskState Link) (f : Fault) → IsReadFault f → StopsOpening file dir desk desk f
-read_stops file dir desk fault.Read is = refl
-read_stops file dir desk fault.Memory is = ([], drew_none desk)
-read_stops file dir desk fault.Usage is = absurd is
-read_stops file dir desk fault.BadPassword is = absurd is
-read_stops file dir desk fault.Write is = absurd is
-read_stops file dir desk (fault.BadLine n) is = absurd is
-read_stops file dir desk fault.Folder is = absurd is
-read_stops file dir desk (fault.Keys reason) is = absurd is
-read_stops file dir desk fault.Desk is = absurd is
-read_stops file dir desk (fault.Opening reason) is = absurd is
-read_stops file dir desk (fault.State reason) is = absurd is
 
 -- reading the file
 
@@ -84,7 +71,7 @@ file_long text long = rw (document_long text long) refl
 formed_short : (text : List ℕ) (written : Written) → file_of text ≡ Ok written → (OPENING_BYTES < length text) → ⊥
 formed_short text written formed long = absurd (cc (sym formed ∙ file_long text long))
 
-longer : (told text rest : List ℕ) → told ≡ text ++ rest → OPENING_BYTES < length text → OPENING_BYTES < length told
+pub longer : (told text rest : List ℕ) → told ≡ text ++ rest → OPENING_BYTES < length text → OPENING_BYTES < length told
 longer told text rest is long =
     let count : length told ≡ length text + length rest = ap length is ∙ length-append text rest in
     omega (arith, count, long)
@@ -174,6 +161,9 @@ held_stops file dir desk text fault.Read read stops = absurd stops
 held_stops file dir desk text fault.Write read stops = absurd stops
 held_stops file dir desk text (fault.BadLine n) read stops = absurd stops
 held_stops file dir desk text (fault.State reason) read stops = absurd stops
+held_stops file dir desk text (fault.Keeper why) read stops = absurd stops
+held_stops file dir desk text fault.OtherOpening read stops = absurd stops
+held_stops file dir desk text (fault.BadEntry n) read stops = absurd stops
 held_stops file dir desk text fault.Desk read stops = absurd stops
 
 -- the file, read before, is refused
@@ -188,14 +178,20 @@ opening_stops file dir old new text held refusal.Random read are answers =
     record { text = text; held = held; is_text = whole_text file dir text held read are; are_held = are; refused = answers }
 opening_stops file dir old new text held refusal.Memory read are answers = answers
 
-pub opens : {Link : Type 0} (file : StreamState) (dir : DirState) (old new : DeskState Link) (text : List ℕ) (held : List (ℕ × Key)) (opening : Opening) → IsRead file text
-    → AreHeld (folder_wanted text) dir held → AnswersOpening text held old new (Ok opening) → IsOpening file dir old new (plain opening)
-opens file dir old new text held opening read are answers = record {
+-- a server opens with what was read, held and drawn
+pub is_opening : {Link : Type 0} (file : StreamState) (dir : DirState) (old new : DeskState Link) (text : List ℕ) (held : List (ℕ × Key)) (drawn : List ℕ) (opening : PlainOpening)
+    → IsRead file text → AreHeld (folder_wanted text) dir held → Opens text held drawn opening → Drew old new drawn 0 → IsOpening file dir old new opening
+is_opening file dir old new text held drawn opening read are opens drew = record {
   text = text;
   held = held;
-  drawn = answers.0;
+  drawn = drawn;
   is_text = whole_text file dir text held read are;
   are_held = are;
-  opens = answers.1;
-  drew = answers.2;
+  opens = opens;
+  drew = drew;
 }
+
+pub opens : {Link : Type 0} (file : StreamState) (dir : DirState) (old new : DeskState Link) (text : List ℕ) (held : List (ℕ × Key)) (opening : Opening) → IsRead file text
+    → AreHeld (folder_wanted text) dir held → AnswersOpening text held old new (Ok opening) → IsOpening file dir old new (plain opening)
+opens file dir old new text held opening read are answers =
+    is_opening file dir old new text held answers.0 (plain opening) read are answers.1 answers.2

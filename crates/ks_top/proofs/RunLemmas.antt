@@ -1,6 +1,8 @@
 -- What each command does, as what the program does by its words.
 use Rattle.std.proofs.Common.{◌≡◌, ℕ, inl, List, [], ◌∷◌, Option, Some, Result, Ok, Err, IfErr, IfSome, refl, sym, subst}
 use Rattle.ks_base.specs.Refusals.{fault_in}
+use Rattle.ks_keep.specs.Books.{BookedState}
+use Rattle.ks_keeper.specs.Keeper.{Keeping}
 use Rattle.ks_outside.specs.declared.desk_call.DeskCall.TheVariants as desk_call
 use Rattle.ks_outside.specs.Counts.{Counts}
 use Rattle.ks_outside.specs.Desks.{Makes}
@@ -9,7 +11,6 @@ use Rattle.ks_outside.specs.Streams.{OnlyReads, OnlyWrites, StreamState}
 use Rattle.ks_server.specs.Workers.{Place}
 use Rattle.ks_setup.specs.declared.words.Words.{Words}
 use Rattle.ks_setup.specs.Words.{words_of}
-use Rattle.ks_state.specs.Shown.{Shown}
 use Rattle.ks_top.specs.declared.fault.Fault.{Fault}
 use Rattle.ks_top.specs.declared.fault.Fault.TheVariants as fault
 use Rattle.ks_top.specs.Ending.{EndsCheck, IsStreamFault, result_of}
@@ -17,12 +18,12 @@ use Rattle.ks_top.specs.KeyFolders.{EndsRotation, EndsSetup, IsFolderFault, Only
 use Rattle.ks_top.specs.Passwords.{DrawsOnce, EndsPassword, IsPasswordFault, ReadsFront}
 use Rattle.ks_top.specs.Runs.{ChangesKeys, Checks, Does, MakesRecord, Rotates, Runs, SetsUp, outside}
 use Rattle.ks_top.specs.World.{World}
-use Rattle.ks_top.proofs.TalkLemmas.{counts_for, reads_for}
+use Rattle.ks_top.proofs.CountLemmas.{counts_for, reads_for}
 
-pub runs_by : {Link Seat : Type 0} (view : Seat → Place Link) (stream : Link → StreamState) (words : List (List ℕ)) (asked : Words) (old new : World Link Seat) (f : Option Fault) (state : Option Shown)
-    → asked ≡ words_of words → Does view stream asked old new f state → Runs view stream words old new f state
+pub runs_by : {Link Seat K : Type 0} (keeping : Keeping K) (view : Seat → Place Link) (stream : Link → StreamState) (words : List (List ℕ)) (asked : Words) (old new : World Link Seat K) (f : Option Fault) (state : Option (BookedState K))
+    → asked ≡ words_of words → Does keeping view stream asked old new f state → Runs keeping view stream words old new f state
 unfolding Runs
-runs_by view stream words asked old new f state is does = inl (subst (λ w. Does view stream w old new f state) is does)
+runs_by keeping view stream words asked old new f state is does = inl (subst (λ w. Does keeping view stream w old new f state) is does)
 
 -- a result and its fault
 
@@ -46,11 +47,11 @@ writes_for P Q old new from writes = record {
   names = writes.names;
 }
 
-abbrev Ends : {Link Seat : Type 0} → World Link Seat → World Link Seat → Result (Unit {0}) Fault → Type 0
+abbrev Ends : {Link Seat K : Type 0} → World Link Seat K → World Link Seat K → Result (Unit {0}) Fault → Type 0
 Ends old new r =
     (text before : List ℕ) → old.input.left ≡ Some text → old.output.written ≡ Some before → EndsCheck text before new.input.left new.output.written r
 
-pub checks : {Link Seat : Type 0} (old new : World Link Seat) (r : Result (Unit {0}) Fault) (f : Option Fault) → f ≡ fault_in r → Ends old new r → IfErr r IsStreamFault
+pub checks : {Link Seat K : Type 0} (old new : World Link Seat K) (r : Result (Unit {0}) Fault) (f : Option Fault) → f ≡ fault_in r → Ends old new r → IfErr r IsStreamFault
     → OnlyReads (r ≡ Err fault.Read) old.input new.input → OnlyWrites (r ≡ Err fault.Write) old.output new.output
     → new ≡ record old { input = new.input; output = new.output } → Checks old new f
 checks old new r f is told causes reads writes others = subst (Checks old new) (sym is) (record {
@@ -62,7 +63,7 @@ checks old new r f is told causes reads writes others = subst (Checks old new) (
 })
 
 -- what a command on keys says beside what it tells
-pub record Keeps {Link Seat : Type 0} (old new : World Link Seat) (r : Result (Unit {0}) Fault) : Type 0 where
+pub record Keeps {Link Seat K : Type 0} (old new : World Link Seat K) (r : Result (Unit {0}) Fault) : Type 0 where
   pub causes : IfErr r IsFolderFault
   pub folder : Counts (r ≡ Err fault.Folder) old.dir.faults new.dir.faults
   pub draws : Counts (r ≡ Err fault.Desk) old.desk.fill_faults new.desk.fill_faults
@@ -70,7 +71,7 @@ pub record Keeps {Link Seat : Type 0} (old new : World Link Seat) (r : Result (U
   pub desk : OnlyDraws old.desk new.desk
   pub others : new ≡ record old { output = new.output; dir = new.dir; desk = new.desk }
 
-changes_keys : {Link Seat : Type 0} (old new : World Link Seat) (r : Result (Unit {0}) Fault) → Keeps old new r → ChangesKeys old new (fault_in r)
+changes_keys : {Link Seat K : Type 0} (old new : World Link Seat K) (r : Result (Unit {0}) Fault) → Keeps old new r → ChangesKeys old new (fault_in r)
 changes_keys old new r keeps = record {
   causes = caused IsFolderFault r keeps.causes;
   folder = counts_for (r ≡ Err fault.Folder) (fault_in r ≡ Some fault.Folder) old.dir.faults new.dir.faults (err_of r fault.Folder) keeps.folder;
@@ -80,12 +81,12 @@ changes_keys old new r keeps = record {
   others = keeps.others;
 }
 
-abbrev TellsSetup : {Link Seat : Type 0} → World Link Seat → World Link Seat → Result (Unit {0}) Fault → Type 0
+abbrev TellsSetup : {Link Seat K : Type 0} → World Link Seat K → World Link Seat K → Result (Unit {0}) Fault → Type 0
 TellsSetup old new r =
     (random before : List ℕ) (files : List KeyFile) → old.desk.random ≡ Some random → old.dir.files ≡ Some files → old.output.written ≡ Some before
     → EndsSetup random files before (outside new) r
 
-pub sets_up : {Link Seat : Type 0} (old new : World Link Seat) (r : Result (Unit {0}) Fault) (f : Option Fault) → f ≡ fault_in r → TellsSetup old new r → Keeps old new r
+pub sets_up : {Link Seat K : Type 0} (old new : World Link Seat K) (r : Result (Unit {0}) Fault) (f : Option Fault) → f ≡ fault_in r → TellsSetup old new r → Keeps old new r
     → Makes (desk_call.Fill 64 ∷ []) old.desk.calls new.desk.calls → SetsUp old new f
 sets_up old new r f is told keeps fills = subst (SetsUp old new) (sym is) (record {
   told = λ random before files drawn stood written. subst (EndsSetup random files before (outside new)) (sym (same_result r)) (told random before files drawn stood written);
@@ -93,12 +94,12 @@ sets_up old new r f is told keeps fills = subst (SetsUp old new) (sym is) (recor
   fills = fills;
 })
 
-abbrev TellsRotation : {Link Seat : Type 0} → ℕ → World Link Seat → World Link Seat → Result (Unit {0}) Fault → Type 0
+abbrev TellsRotation : {Link Seat K : Type 0} → ℕ → World Link Seat K → World Link Seat K → Result (Unit {0}) Fault → Type 0
 TellsRotation max old new r =
     (random before : List ℕ) (files : List KeyFile) → old.desk.random ≡ Some random → old.dir.files ≡ Some files → old.output.written ≡ Some before
     → EndsRotation max random files before (outside new) r
 
-pub rotates : {Link Seat : Type 0} (max : ℕ) (old new : World Link Seat) (r : Result (Unit {0}) Fault) (f : Option Fault) → f ≡ fault_in r → TellsRotation max old new r → Keeps old new r
+pub rotates : {Link Seat K : Type 0} (max : ℕ) (old new : World Link Seat K) (r : Result (Unit {0}) Fault) (f : Option Fault) → f ≡ fault_in r → TellsRotation max old new r → Keeps old new r
     → Makes (desk_call.Fill 32 ∷ []) old.desk.calls new.desk.calls → Rotates max old new f
 rotates max old new r f is told keeps fills = subst (Rotates max old new) (sym is) (record {
   told = λ random before files drawn stood written. subst (EndsRotation max random files before (outside new)) (sym (same_result r)) (told random before files drawn stood written);
@@ -107,7 +108,7 @@ rotates max old new r f is told keeps fills = subst (Rotates max old new) (sym i
 })
 
 -- what `password` says of its result
-pub record SaysRecord {Link Seat : Type 0} (rounds : ℕ) (old new : World Link Seat) (r : Result (Unit {0}) Fault) : Type 0 where
+pub record SaysRecord {Link Seat K : Type 0} (rounds : ℕ) (old new : World Link Seat K) (r : Result (Unit {0}) Fault) : Type 0 where
   pub told : (text before : List ℕ) → old.input.left ≡ Some text → old.output.written ≡ Some before
       → EndsPassword rounds text before old.desk new.desk new.output.written r
   pub causes : IfErr r IsPasswordFault
@@ -118,7 +119,7 @@ pub record SaysRecord {Link Seat : Type 0} (rounds : ℕ) (old new : World Link 
   pub writes : OnlyWrites (r ≡ Err fault.Write) old.output new.output
   pub others : new ≡ record old { input = new.input; output = new.output; desk = new.desk }
 
-pub makes_record : {Link Seat : Type 0} (rounds : ℕ) (old new : World Link Seat) (r : Result (Unit {0}) Fault) (f : Option Fault) → f ≡ fault_in r → SaysRecord rounds old new r → MakesRecord rounds old new f
+pub makes_record : {Link Seat K : Type 0} (rounds : ℕ) (old new : World Link Seat K) (r : Result (Unit {0}) Fault) (f : Option Fault) → f ≡ fault_in r → SaysRecord rounds old new r → MakesRecord rounds old new f
 makes_record rounds old new r f is says = subst (MakesRecord rounds old new) (sym is) (record {
   told = λ text before left written. subst (EndsPassword rounds text before old.desk new.desk new.output.written) (sym (same_result r)) (says.told text before left written);
   causes = caused IsPasswordFault r says.causes;

@@ -50,6 +50,9 @@ EndsCheck input before left written (Err (fault.Keys reason)) = ⊥
 EndsCheck input before left written (Err fault.Desk) = ⊥
 EndsCheck input before left written (Err (fault.Opening reason)) = ⊥
 EndsCheck input before left written (Err (fault.State reason)) = ⊥
+EndsCheck input before left written (Err (fault.Keeper why)) = ⊥
+EndsCheck input before left written (Err fault.OtherOpening) = ⊥
+EndsCheck input before left written (Err (fault.BadEntry n)) = ⊥
 
 -- the faults of a command that only reads and writes
 abbrev pub IsStreamFault : Fault → Type 0
@@ -64,6 +67,9 @@ IsStreamFault (fault.Keys reason) = ⊥
 IsStreamFault fault.Desk = ⊥
 IsStreamFault (fault.Opening reason) = ⊥
 IsStreamFault (fault.State reason) = ⊥
+IsStreamFault (fault.Keeper why) = ⊥
+IsStreamFault fault.OtherOpening = ⊥
+IsStreamFault (fault.BadEntry n) = ⊥
 
 -- each fault has its status
 abbrev pub status_of : Option Fault → ℕ
@@ -85,6 +91,9 @@ status_of (Some fault.Desk) = 10
 status_of (Some (fault.Keys AlreadySet)) = 11
 status_of (Some (fault.Keys IndexEnd)) = 12
 status_of (Some (fault.Keys Memory)) = 5
+status_of (Some (fault.Keeper why)) = 13
+status_of (Some fault.OtherOpening) = 14
+status_of (Some (fault.BadEntry n)) = 15
 
 abbrev pub result_of : Option Fault → Result (Unit {0}) Fault
 result_of None = Ok tt

@@ -1,11 +1,12 @@
 -- What holds wherever the program opened an identity: whatever its workers do beside each other, all that their clients are told is told by
 -- one journal.
-use Rattle.std.specs.Prelude.{◌≡◌, ◌⊎◌, ℕ, List, [], ◌∷◌, ◌++◌, length, map, flat_map, Option, Some, None}
+use Rattle.std.specs.Prelude.{◌≡◌, ◌⊎◌, ℕ, ◌+◌, List, [], ◌∷◌, ◌++◌, length, map, flat_map, Option, Some}
 use Rattle.std.specs.List.{AllByRecursion}
-use Rattle.std.specs.declared.convert.Infallible.{Infallible}
-use Rattle.ks_machine.specs.Fronts.{Front, ◌⊑◌, first_front}
-use Rattle.ks_machine.specs.Opened.{open_fault}
-use Rattle.ks_machine.specs.Openings.{PlainOpening}
+use Rattle.ks_keep.specs.declared.keeping.KeeperFailed.{KeeperFailed}
+use Rattle.ks_keep.specs.Books.{BookedState, StandsBooked}
+use Rattle.ks_keeper.specs.Keeper.{Keeping}
+use Rattle.ks_machine.specs.Fronts.{Front, ◌⊑◌}
+use Rattle.ks_machine.specs.Lawful.{IsLawful}
 use Rattle.ks_outside.specs.Desks.{DeskState}
 use Rattle.ks_outside.specs.Streams.{Appends, StreamState}
 use Rattle.ks_server.specs.Exchanges.{Exchange, made}
@@ -17,11 +18,9 @@ use Rattle.ks_server.specs.Workers.{AreVisited, Place, Visit, accepted_of, excha
 use Rattle.ks_setup.specs.declared.words.Places.{Places}
 use Rattle.ks_setup.specs.declared.words.Words.{Words}
 use Rattle.ks_setup.specs.declared.words.Words.TheVariants as asked
-use Rattle.ks_state.specs.Shown.{Shown}
-use Rattle.ks_state.specs.Standing.{StandsWithAllKept}
 use Rattle.ks_top.specs.declared.fault.Fault.{Fault}
 use Rattle.ks_top.specs.declared.fault.Fault.TheVariants as fault
-use Rattle.ks_top.specs.Opened.{IsOpening}
+use Rattle.ks_top.specs.Identities.{Begins}
 use Rattle.ks_top.specs.Serve.{serving}
 use Rattle.ks_top.specs.World.{World, link_of}
 use Rattle.ks_turn.specs.Sums.{below, times}
@@ -30,7 +29,7 @@ use Rattle.ks_turn.specs.Sums.{below, times}
 pub record Worker (Link : Type 0) : Type 0 where
   pub before : Place Link
   pub after : Place Link
-  pub connections : List (Visit Infallible StreamState)
+  pub connections : List (Visit KeeperFailed StreamState)
 
 abbrev pub exchanges_by : {Link : Type 0} → List (Worker Link) → List Exchange
 exchanges_by workers = flat_map (λ w. exchanges_of w.connections) workers
@@ -54,33 +53,35 @@ pub record HasLinks {Link : Type 0} (stream : Link → StreamState) (w : Worker 
   pub returned : Appends went w.before.desk.returned w.after.desk.returned
 
 -- the one link of `talk` is over the input and the output; there was no other, and none where there was no memory to serve it
-abbrev pub HasEnds : {Link Seat : Type 0} → World Link Seat → World Link Seat → Option Fault → Worker Link → Type 0
+abbrev pub HasEnds : {Link Seat K : Type 0} → World Link Seat K → World Link Seat K → Option Fault → Worker Link → Type 0
 HasEnds old new f w =
     ((accepted_of w.connections ≡ link_of old ∷ []) × (returned_of w.connections ≡ link_of new ∷ []))
     ⊎ ((w.connections ≡ []) × (f ≡ Some fault.Memory))
 
 -- by its words the program serves with its first desk alone, or with so many, each with a worker of its own
-pub data AreWorkers {Link Seat : Type 0} (view : Seat → Place Link) (stream : Link → StreamState) (old new : World Link Seat) (f : Option Fault) (workers : List (Worker Link)) : ℕ → Words → Type 0 where
+pub data AreWorkers {Link Seat K : Type 0} (view : Seat → Place Link) (stream : Link → StreamState) (old new : World Link Seat K) (f : Option Fault) (workers : List (Worker Link)) : ℕ → Words → Type 0 where
   talks : (places : Places) → AllByRecursion (HasEnds old new f) workers → AreWorkers view stream old new f workers 1 (asked.Talk places)
   serves : (places : Places) (connections : ℕ) → AllByRecursion (HasLinks stream) workers → AreWorkers view stream old new f workers places.workers (asked.Serve places connections)
 
-pub record Headline {Link Seat : Type 0} (view : Seat → Place Link) (stream : Link → StreamState) (what : Words) (old new : World Link Seat) (f : Option Fault) (state : Shown) : Type 0 where
-  pub opening : PlainOpening
+pub record Headline {Link Seat K : Type 0} (keeping : Keeping K) (view : Seat → Place Link) (stream : Link → StreamState) (what : Words) (old new : World Link Seat K) (f : Option Fault) (state : BookedState K) : Type 0 where
+  pub first : Front
   pub desk : DeskState Link
   pub journal : Front
   pub count : ℕ
   pub workers : List (Worker Link)
-  -- the opening is that of the file, of the folder where the file takes its keys from there, and of the bytes that the first desk gave
-  pub opened : IsOpening old.file old.dir old.desk desk opening
-  pub lawful : open_fault opening ≡ None
-  -- there is one journal, which goes on from the opening, and for which the identity stands at the end
-  pub later : first_front opening ⊑ journal
-  pub stands : StandsWithAllKept state journal
-  -- each change of it is that of exactly one exchange, and its highest moment is 0 or some call's reading
-  pub made : (n : ℕ) → times n (made journal (exchanges_by workers)) ≡ below n (length journal.changes)
-  pub high : (journal.high ≡ 0) ⊎ IsReadingAmong journal.high (exchanges_by workers)
+  -- it began with the opening of its file before any change, or went on from all that its keeper held
+  pub begins : Begins keeping old new desk first
+  pub lawful : IsLawful first
+  -- there is one journal, which goes on from that, and for which the identity stands at the end: its keeper holds the opening and the first of
+  -- the changes, those at least that count as kept
+  pub later : first ⊑ journal
+  pub stands : StandsBooked keeping state journal
+  pub keeper : new.keeper ≡ state.keeper
+  -- each change behind the first front is that of exactly one exchange, and the highest moment is the first one's or some call's reading
+  pub made : (n : ℕ) → times n (made journal (exchanges_by workers)) + below n (length first.changes) ≡ below n (length journal.changes)
+  pub high : (journal.high ≡ first.high) ⊎ IsReadingAmong journal.high (exchanges_by workers)
   -- the desks, the first of them as the opening left it, had a worker each, who told its clients of it
   pub are : AreWorkers view stream old new f workers count what
   pub before : map (λ w. w.before) workers ≡ serving view count desk old.place old.others
   pub after : map (λ w. w.after) workers ≡ serving view count new.desk new.place new.others
-  pub each : AllByRecursion (TellsOf (first_front opening) journal) workers
+  pub each : AllByRecursion (TellsOf first journal) workers

@@ -78,6 +78,9 @@ EndsSetup random files before now (Err fault.Read) = ⊥
 EndsSetup random files before now (Err (fault.BadLine n)) = ⊥
 EndsSetup random files before now (Err (fault.Opening reason)) = ⊥
 EndsSetup random files before now (Err (fault.State reason)) = ⊥
+EndsSetup random files before now (Err (fault.Keeper why)) = ⊥
+EndsSetup random files before now (Err fault.OtherOpening) = ⊥
+EndsSetup random files before now (Err (fault.BadEntry n)) = ⊥
 
 -- how a rotation ends that is to leave at most `max` keys
 abbrev pub EndsRotation : ℕ → List ℕ → List KeyFile → List ℕ → Outside → Result (Unit {0}) Fault → Type 0
@@ -107,6 +110,9 @@ EndsRotation max random files before now (Err fault.Read) = ⊥
 EndsRotation max random files before now (Err (fault.BadLine n)) = ⊥
 EndsRotation max random files before now (Err (fault.Opening reason)) = ⊥
 EndsRotation max random files before now (Err (fault.State reason)) = ⊥
+EndsRotation max random files before now (Err (fault.Keeper why)) = ⊥
+EndsRotation max random files before now (Err fault.OtherOpening) = ⊥
+EndsRotation max random files before now (Err (fault.BadEntry n)) = ⊥
 
 -- the faults of both, told or not
 abbrev pub IsFolderFault : Fault → Type 0
@@ -127,3 +133,6 @@ IsFolderFault fault.Read = ⊥
 IsFolderFault (fault.BadLine n) = ⊥
 IsFolderFault (fault.Opening reason) = ⊥
 IsFolderFault (fault.State reason) = ⊥
+IsFolderFault (fault.Keeper why) = ⊥
+IsFolderFault fault.OtherOpening = ⊥
+IsFolderFault (fault.BadEntry n) = ⊥

@@ -1,9 +1,11 @@
 -- What holds of every run: its end where nothing outside failed, the faults of its desks, and what determines its changes and replies.
-use Rattle.std.specs.Prelude.{◌≡◌, ◌≢◌, ◌⊎◌, ℕ, false, List, [], ◌∷◌, map, Option, Some, None}
+use Rattle.std.specs.Prelude.{◌≡◌, ◌≢◌, ◌⊎◌, ℕ, ◌≤◌, false, List, [], ◌∷◌, length, map, take, Option, Some, None}
 use Rattle.std.specs.List.{AllZip}
-use Rattle.std.specs.declared.convert.Infallible.{Infallible}
 use Rattle.ks_base.specs.declared.faults.KeysFault.TheVariants as keys
 use Rattle.ks_base.specs.Tables.{Among}
+use Rattle.ks_keep.specs.declared.keeping.KeeperFailed.{KeeperFailed}
+use Rattle.ks_keep.specs.Books.{BookedState, HasHeader, Stand}
+use Rattle.ks_keeper.specs.Keeper.{Keeping}
 use Rattle.ks_machine.specs.declared.body_out.BodyOut.{BodyOut}
 use Rattle.ks_machine.specs.declared.call.Call.{Call}
 use Rattle.ks_machine.specs.declared.cause.Cause.{Cause}
@@ -24,10 +26,10 @@ use Rattle.ks_outside.specs.Streams.{StreamState}
 use Rattle.ks_server.specs.declared.closed.Closed.{Closed}
 use Rattle.ks_server.specs.declared.closed.Closed.TheVariants as closed
 use Rattle.ks_server.specs.Exchanges.{Exchange, calls, change_by, cut_at, front_after, receipts_of, reply_to}
+use Rattle.ks_server.specs.Sessions.{IsTold}
 use Rattle.ks_server.specs.Workers.{IsVisited, Place, Visit}
 use Rattle.ks_setup.specs.declared.opening.OpeningFault.TheVariants as refusal
 use Rattle.ks_setup.specs.declared.words.Words.{Words}
-use Rattle.ks_state.specs.Shown.{Shown}
 use Rattle.ks_tokens.specs.Laws.{AsksFor, HasEnded, HasValidCaller}
 use Rattle.ks_top.specs.declared.fault.Fault.{Fault}
 use Rattle.ks_top.specs.declared.fault.Fault.TheVariants as fault
@@ -40,16 +42,17 @@ abbrev pub StoodStill : ℕ → ℕ → Type 0
 StoodStill before after = Rose before after → ⊥
 
 -- all desks with their folders
-abbrev pub places_of : {Link Seat : Type 0} → (Seat → Place Link) → World Link Seat → List (Place Link)
+abbrev pub places_of : {Link Seat K : Type 0} → (Seat → Place Link) → World Link Seat K → List (Place Link)
 places_of view world = record { desk = world.desk; dir = world.place } ∷ map view world.others
 
 -- nothing outside failed: no count of faults rose
-pub record NothingFailed {Link Seat : Type 0} (view : Seat → Place Link) (old new : World Link Seat) : Type 0 where
+pub record NothingFailed {Link Seat K : Type 0} (keeping : Keeping K) (view : Seat → Place Link) (old new : World Link Seat K) : Type 0 where
   pub input : StoodStill old.input.read_faults new.input.read_faults
   pub file : StoodStill old.file.read_faults new.file.read_faults
   pub output : StoodStill old.output.write_faults new.output.write_faults
   pub folder : StoodStill old.dir.faults new.dir.faults
   pub fills : StoodStill old.desk.fill_faults new.desk.fill_faults
+  pub keeper : StoodStill (keeping.faults old.keeper) (keeping.faults new.keeper)
   -- of the accepts of each desk
   pub accepts : AllZip (λ (before after : Place Link). StoodStill before.desk.accept_faults after.desk.accept_faults) (places_of view old) (places_of view new)
 
@@ -76,20 +79,28 @@ IsRefusal fault.Write = ⊥
 IsRefusal fault.Memory = ⊥
 IsRefusal fault.Folder = ⊥
 IsRefusal fault.Desk = ⊥
+IsRefusal fault.OtherOpening = Unit {0}
+IsRefusal (fault.BadEntry n) = Unit {0}
+IsRefusal (fault.Keeper why) = ⊥
 
--- a command ended whole, or for want of memory, or by a refusal
+-- a connection ended since changes could not be kept. That this is counted says the call that keeps them, which alone makes such a fault
+abbrev pub IsUnkept : Fault → Type 0
+IsUnkept f = (why : KeeperFailed) × (f ≡ fault.Keeper (Some why))
+
+-- a command ended whole, or for want of memory, or by a refusal, or since changes could not be kept
 abbrev pub EndsUnfailed : Option Fault → Type 0
 EndsUnfailed None = Unit {0}
-EndsUnfailed (Some f) = (f ≡ fault.Memory) ⊎ IsRefusal f
+EndsUnfailed (Some f) = (f ≡ fault.Memory) ⊎ (IsRefusal f ⊎ IsUnkept f)
 
 -- where nothing outside failed, a command ends so
-abbrev pub CommandsComplete : (Link Seat : Type 0) → Type 0
-CommandsComplete Link Seat =
-    (view : Seat → Place Link) (stream : Link → StreamState) (words : List (List ℕ)) (old new : World Link Seat) (f : Option Fault) (state : Option Shown)
-    → Runs view stream words old new f state → NothingFailed view old new → EndsUnfailed f
+abbrev pub CommandsComplete : (Link Seat : Type 0) {K : Type 0} → Keeping K → Type 0
+CommandsComplete Link Seat {K} keeping =
+    (view : Seat → Place Link) (stream : Link → StreamState) (words : List (List ℕ)) (old new : World Link Seat K) (f : Option Fault) (state : Option (BookedState K))
+    → Runs keeping view stream words old new f state → NothingFailed keeping view old new → EndsUnfailed f
 
--- a connection ended with its input, with a request or bytes that end it, or for want of memory, or it rests between two requests
-abbrev pub IsUnfailed : Closed Infallible → Type 0
+-- a connection ended with its input, with a request or bytes that end it, for want of memory, or since changes could not be kept, or it rests
+-- between two requests
+abbrev pub IsUnfailed : Closed KeeperFailed → Type 0
 IsUnfailed closed.End = Unit {0}
 IsUnfailed closed.Asked = Unit {0}
 IsUnfailed closed.Last = Unit {0}
@@ -98,12 +109,12 @@ IsUnfailed closed.Memory = Unit {0}
 IsUnfailed closed.Rests = Unit {0}
 IsUnfailed closed.ReadFault = ⊥
 IsUnfailed closed.WriteFault = ⊥
-IsUnfailed (closed.KeeperFault never) = ⊥
+IsUnfailed (closed.KeeperFault why) = Unit {0}
 
 -- where no read and no write of its link failed, a connection of `talk` or of `serve` ended so; none of a talk rests (`Talked`)
 abbrev pub ConnectionsComplete : Type 0
 ConnectionsComplete =
-    (journal : Front) (number : ℕ) (visit : Visit Infallible StreamState) → IsVisited (λ link. link) journal number visit
+    (journal : Front) (number : ℕ) (visit : Visit KeeperFailed StreamState) → IsVisited (λ link. link) journal number visit
     → StoodStill visit.accepted.read_faults visit.returned.read_faults → StoodStill visit.accepted.write_faults visit.returned.write_faults → IsUnfailed visit.why
 
 -- an accept of some desk failed
@@ -113,19 +124,19 @@ SomeAcceptRose (old ∷ olds) [] = ⊥
 SomeAcceptRose (old ∷ olds) (new ∷ news) = Rose old.desk.accept_faults new.desk.accept_faults ⊎ SomeAcceptRose olds news
 
 -- a fault of the desks was counted: of the accepts where an identity was opened, else of the first desk's random bytes
-abbrev pub IsCounted : {Link Seat : Type 0} → (Seat → Place Link) → World Link Seat → World Link Seat → Option Shown → Type 0
+abbrev pub IsCounted : {Link Seat K : Type 0} → (Seat → Place Link) → World Link Seat K → World Link Seat K → Option (BookedState K) → Type 0
 IsCounted view old new (Some state) = SomeAcceptRose (places_of view old) (places_of view new)
 IsCounted view old new None = Rose old.desk.fill_faults new.desk.fill_faults
 
-abbrev pub DeskFaultsAreCounted : (Link Seat : Type 0) → Type 0
-DeskFaultsAreCounted Link Seat =
-    (view : Seat → Place Link) (stream : Link → StreamState) (words : List (List ℕ)) (old new : World Link Seat) (state : Option Shown)
-    → Runs view stream words old new (Some fault.Desk) state → IsCounted view old new state
+abbrev pub DeskFaultsAreCounted : (Link Seat : Type 0) {K : Type 0} → Keeping K → Type 0
+DeskFaultsAreCounted Link Seat {K} keeping =
+    (view : Seat → Place Link) (stream : Link → StreamState) (words : List (List ℕ)) (old new : World Link Seat K) (state : Option (BookedState K))
+    → Runs keeping view stream words old new (Some fault.Desk) state → IsCounted view old new state
 
 -- what determines a run
 
 -- two connections had the same bytes to read, and their exchanges have the same receipts; what was written on each before is told
-pub record SameBytes (v w : Visit Infallible StreamState) : Type 0 where
+pub record SameBytes (v w : Visit KeeperFailed StreamState) : Type 0 where
   pub bytes : List ℕ
   pub told : (v.accepted.left ≡ Some bytes) × (w.accepted.left ≡ Some bytes)
   pub written : (before : List ℕ) × (v.accepted.written ≡ Some before)
@@ -140,13 +151,13 @@ pub record TellsAlike {Link : Type 0} (v w : Worker Link) : Type 0 where
   pub files : List KeyFile
   pub held : (v.before.dir.files ≡ Some files) × (w.before.dir.files ≡ Some files)
 
--- two runs that were opened alike, and whose workers had the same bytes, receipts, readings and folders, have made the same changes: what was
+-- two runs that began alike, and whose workers had the same bytes, receipts, readings and folders, have made the same changes: what was
 -- outside, and the places that the receipts name, determine them
-abbrev pub ChangesAreDetermined : (Link Seat : Type 0) → Type 0
-ChangesAreDetermined Link Seat =
-    (view : Seat → Place Link) (stream : Link → StreamState) (what what_too : Words) (old new old_too new_too : World Link Seat) (f f_too : Option Fault) (state state_too : Shown)
-    → (one : Headline view stream what old new f state) (other : Headline view stream what_too old_too new_too f_too state_too)
-    → one.opening ≡ other.opening → AllZip TellsAlike one.workers other.workers → one.journal.changes ≡ other.journal.changes
+abbrev pub ChangesAreDetermined : (Link Seat : Type 0) {K : Type 0} → Keeping K → Type 0
+ChangesAreDetermined Link Seat {K} keeping =
+    (view : Seat → Place Link) (stream : Link → StreamState) (what what_too : Words) (old new old_too new_too : World Link Seat K) (f f_too : Option Fault) (state state_too : BookedState K)
+    → (one : Headline keeping view stream what old new f state) (other : Headline keeping view stream what_too old_too new_too f_too state_too)
+    → one.first ≡ other.first → AllZip TellsAlike one.workers other.workers → one.journal.changes ≡ other.journal.changes
 
 -- requests
 
@@ -177,10 +188,30 @@ pub record AsksLater (journal : Front) (x y : Exchange) (call : Call) (token : V
   pub about : AsksFor (cut_at journal y.receipt) call token
 
 -- such an exchange of a run is not answered Ok; where its caller's own token is valid, it is refused for its subject's (404)
-abbrev pub RefusedEverAfter : (Link Seat : Type 0) → Type 0
-RefusedEverAfter Link Seat =
-    (view : Seat → Place Link) (stream : Link → StreamState) (what : Words) (old new : World Link Seat) (f : Option Fault) (state : Shown)
-    → (run : Headline view stream what old new f state) (x y : Exchange) (call : Call) (token : Valid)
+abbrev pub RefusedEverAfter : (Link Seat : Type 0) {K : Type 0} → Keeping K → Type 0
+RefusedEverAfter Link Seat {K} keeping =
+    (view : Seat → Place Link) (stream : Link → StreamState) (what : Words) (old new : World Link Seat K) (f : Option Fault) (state : BookedState K)
+    → (run : Headline keeping view stream what old new f state) (x y : Exchange) (call : Call) (token : Valid)
     → EndsToken run.journal x token → Among (exchanges_by run.workers) y → AsksLater run.journal x y call token
     → ((told : BodyOut) → reply_to run.journal y ≢ reply.Ok told)
     × (HasValidCaller (cut_at run.journal y.receipt) call → (why : Why) × (reply_to run.journal y ≡ reply.Refused (cause.SubjectToken why)))
+
+-- what is kept
+
+-- each change that a response can show which was written stands with the keeper at the end of the run, and so does each before it
+abbrev pub ToldIsKept : (Link Seat : Type 0) {K : Type 0} → Keeping K → Type 0
+ToldIsKept Link Seat {K} keeping =
+    (view : Seat → Place Link) (stream : Link → StreamState) (what : Words) (old new : World Link Seat K) (f : Option Fault) (state : BookedState K)
+    → (run : Headline keeping view stream what old new f state) (x : Exchange) (call : Call)
+    → x.asked ≡ calls call → IsTold run.journal x → keeping.whole new.keeper
+    → Stand (keeping.kept new.keeper).entries 0 (take (length (front_after run.journal x).changes) run.journal.changes)
+
+-- a run that finds with its keeper what another left there, which nobody else wrote, goes on from its journal: it has the first of its
+-- changes, those at least that count as kept, and so each that a response could show; and the one header gives the opening of both
+abbrev pub RestartForgetsNothing : (Link Seat : Type 0) {K : Type 0} → Keeping K → Type 0
+RestartForgetsNothing Link Seat {K} keeping =
+    (view : Seat → Place Link) (stream : Link → StreamState) (what what_too : Words) (old new old_too new_too : World Link Seat K) (f f_too : Option Fault) (state state_too : BookedState K)
+    → (one : Headline keeping view stream what old new f state) (next : Headline keeping view stream what_too old_too new_too f_too state_too)
+    → keeping.whole new.keeper → keeping.whole new_too.keeper → keeping.kept old_too.keeper ≡ keeping.kept new.keeper
+    → (count : ℕ) × (one.journal.kept ≤ count) × (count ≤ length one.journal.changes) × (next.first.changes ≡ take count one.journal.changes)
+    × HasHeader (keeping.kept new.keeper) one.journal.opening × HasHeader (keeping.kept new.keeper) next.first.opening

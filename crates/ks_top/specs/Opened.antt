@@ -1,11 +1,16 @@
--- What a server opens with: the text of its opening file, the keys of the folder where the file takes them from there, and
--- the bytes that its desk gave. And why it does not open.
-use Rattle.std.specs.Prelude.{◌≡◌, ◌≢◌, ℕ, ◌+◌, ◌≤◌, Bool, true, false, List, [], ◌++◌, length, Option, Some, Result, Ok, Err}
+-- What a server begins with. Where its keeper holds nothing yet that is the opening of its file: the text, the keys of the folder where
+-- the file takes them from there, and the bytes that its desk gave. Else it is what the keeper holds: the opening that its header gives, and
+-- the changes behind it. And why it does not begin.
+use Rattle.std.specs.Prelude.{◌≡◌, ◌≢◌, ℕ, ◌+◌, ◌≤◌, Bool, true, false, List, [], ◌++◌, length, Option, Some, None, Result, Ok, Err}
 use Rattle.ks_base.specs.declared.faults.KeysFault.{KeysFault}
 use Rattle.ks_base.specs.declared.faults.KeysFault.TheVariants as keys
 use Rattle.ks_base.specs.declared.key.Key.{Key}
 use Rattle.ks_base.specs.declared.limits.TheConstants.{OPENING_BYTES}
 use Rattle.ks_base.specs.declared.shapes.ShapeFault.{ShapeFault}
+use Rattle.ks_entries.specs.declared.header.Header.{Header}
+use Rattle.ks_entries.specs.Headers.{IsHeader}
+use Rattle.ks_keep.specs.Restored.{IsBadEntry}
+use Rattle.ks_keeper.specs.Keeper.{Keeping, Kept}
 use Rattle.ks_keyfiles.specs.Folders.{AreFolderKeys, folder_of}
 use Rattle.ks_machine.specs.declared.settings.OpenFault.{OpenFault}
 use Rattle.ks_machine.specs.declared.settings.OpenFault.TheVariants as state
@@ -16,6 +21,7 @@ use Rattle.ks_outside.specs.Files.{DirState, KeyFile}
 use Rattle.ks_outside.specs.Streams.{StreamState}
 use Rattle.ks_setup.specs.declared.opening.OpeningFault.{OpeningFault}
 use Rattle.ks_setup.specs.declared.opening.OpeningFault.TheVariants as refusal
+use Rattle.ks_setup.specs.Headers.{AnswersHeader, GivesOpening}
 use Rattle.ks_setup.specs.Openings.{AnswersOpening, Drew, Opens}
 use Rattle.ks_setup.specs.Written.{file_of, folder_wanted}
 use Rattle.ks_top.specs.declared.checker.TheConstants.{PIECE}
@@ -106,3 +112,51 @@ StopsOpening file dir old new fault.Usage = ⊥
 StopsOpening file dir old new fault.BadPassword = ⊥
 StopsOpening file dir old new fault.Write = ⊥
 StopsOpening file dir old new (fault.BadLine n) = ⊥
+-- the header could not be kept
+StopsOpening file dir old new (fault.Keeper None) = (drawn : List ℕ) × Drew old new drawn 0
+StopsOpening file dir old new (fault.Keeper (Some why)) = ⊥
+StopsOpening file dir old new fault.OtherOpening = ⊥
+StopsOpening file dir old new (fault.BadEntry n) = ⊥
+
+-- what a keeper holds
+
+-- a keeper holds this header
+abbrev pub HoldsHeader : Kept → Header → Type 0
+HoldsHeader kept header = (bytes : List ℕ) × (kept.header ≡ Some bytes) × IsHeader bytes header
+
+-- a keeper gave this header, whose file is the one that was read
+pub record IsGiven {K : Type 0} (keeping : Keeping K) (file : StreamState) (old new : K) (header : Header) : Type 0 where
+  pub is_text : IsText header.opening file
+  pub told : keeping.whole new → HoldsHeader (keeping.kept old) header
+
+-- why a server does not begin with what its keeper holds
+abbrev pub StopsRestoring : {K : Type 0} → Keeping K → K → K → Header → Fault → Type 0
+StopsRestoring keeping old new header fault.Memory = Unit {0}
+StopsRestoring keeping old new header (fault.Opening (refusal.Shape reason)) = AnswersHeader header (Err (refusal.Shape reason))
+StopsRestoring keeping old new header (fault.Opening (refusal.Policy reason)) = AnswersHeader header (Err (refusal.Policy reason))
+StopsRestoring keeping old new header (fault.Opening (refusal.BadKey path)) = AnswersHeader header (Err (refusal.BadKey path))
+StopsRestoring keeping old new header (fault.Opening refusal.Random) = ⊥
+StopsRestoring keeping old new header (fault.Opening refusal.Memory) = ⊥
+StopsRestoring keeping old new header (fault.State reason) =
+    (reason ≢ state.Memory) × ((opening : PlainOpening) × GivesOpening header opening × (open_fault opening ≡ Some reason))
+-- its salts are not those of its file
+StopsRestoring keeping old new header fault.OtherOpening = AnswersHeader header (Err refusal.Random)
+StopsRestoring keeping old new header (fault.Keeper None) = Unit {0}
+StopsRestoring keeping old new header (fault.BadEntry n) =
+    (opening : PlainOpening) × GivesOpening header opening × (keeping.whole new → IsBadEntry (keeping.kept old).entries opening n)
+StopsRestoring keeping old new header (fault.Keeper (Some why)) = ⊥
+StopsRestoring keeping old new header fault.Usage = ⊥
+StopsRestoring keeping old new header fault.Read = ⊥
+StopsRestoring keeping old new header fault.Write = ⊥
+StopsRestoring keeping old new header (fault.BadLine n) = ⊥
+StopsRestoring keeping old new header fault.BadPassword = ⊥
+StopsRestoring keeping old new header fault.Folder = ⊥
+StopsRestoring keeping old new header (fault.Keys reason) = ⊥
+StopsRestoring keeping old new header fault.Desk = ⊥
+
+-- what a keeper gave as its header is none, or is that of another file than the one that was read, unless that is longer than an opening file
+-- may be
+pub record IsOther {K : Type 0} (keeping : Keeping K) (file : StreamState) (old new : K) : Type 0 where
+  pub bytes : List ℕ
+  pub told : keeping.whole new → (keeping.kept old).header ≡ Some bytes
+  pub other : (text : List ℕ) → file.left ≡ Some text → length text ≤ OPENING_BYTES → (header : Header) → IsHeader bytes header → header.opening ≢ text

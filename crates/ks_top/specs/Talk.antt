@@ -1,8 +1,9 @@
 -- What `talk` does behind its opening: it serves one connection, and ends with the identity.
-use Rattle.std.specs.Prelude.{◌≡◌, ◌≢◌, ◌⊎◌, ℕ, List, Option, Some, None, length}
-use Rattle.std.specs.declared.convert.Infallible.{Infallible}
-use Rattle.ks_machine.specs.Fronts.{Front, first_front}
-use Rattle.ks_machine.specs.Openings.{PlainOpening}
+use Rattle.std.specs.Prelude.{◌≡◌, ◌≢◌, ◌⊎◌, ℕ, ◌+◌, List, Option, Some, None, length}
+use Rattle.ks_keep.specs.declared.keeping.KeeperFailed.{KeeperFailed}
+use Rattle.ks_keep.specs.Books.{BookedState, StandsBooked}
+use Rattle.ks_keeper.specs.Keeper.{Keeping}
+use Rattle.ks_machine.specs.Fronts.{Front, ◌⊑◌}
 use Rattle.ks_outside.specs.Counts.{Counts}
 use Rattle.ks_outside.specs.Desks.{DeskState}
 use Rattle.ks_server.specs.declared.closed.Closed.{Closed}
@@ -12,8 +13,6 @@ use Rattle.ks_server.specs.Orders.{Goes, GoesAlone}
 use Rattle.ks_server.specs.Sessions.{EndsSession}
 use Rattle.ks_server.specs.Ties.{AreNumbered, KeepsLinks, Tied}
 use Rattle.ks_server.specs.Work.{IsReadingAmong}
-use Rattle.ks_state.specs.Standing.{StandsWithAllKept}
-use Rattle.ks_state.specs.Shown.{Shown}
 use Rattle.ks_top.specs.declared.fault.Fault.{Fault}
 use Rattle.ks_top.specs.declared.fault.Fault.TheVariants as fault
 use Rattle.ks_top.specs.Identities.{HadNoRoom, OpensThen}
@@ -21,7 +20,7 @@ use Rattle.ks_top.specs.World.{World}
 use Rattle.ks_turn.specs.Sums.{below, times}
 
 -- the fault that an end of a connection is; it is served to its end, and never rests
-abbrev pub ending : Closed Infallible → Option Fault → Type 0
+abbrev pub ending : Closed KeeperFailed → Option Fault → Type 0
 ending closed.End f = f ≡ None
 ending closed.Rests f = ⊥
 ending closed.Asked f = f ≡ None
@@ -30,19 +29,20 @@ ending (closed.BadHttp why) f = f ≡ None
 ending closed.ReadFault f = f ≡ Some fault.Read
 ending closed.WriteFault f = f ≡ Some fault.Write
 ending closed.Memory f = f ≡ Some fault.Memory
-ending (closed.KeeperFault never) f = ⊥
+ending (closed.KeeperFault why) f = f ≡ Some (fault.Keeper (Some why))
 
--- a talk of these exchanges over the identity of this opening, behind whose fills the desk was this, ended for this
-pub record Talked {Link Seat : Type 0} (old new : World Link Seat) (opening : PlainOpening) (opened : DeskState Link) (journal : Front) (xs : List Exchange) (why : Closed Infallible) : Type 0 where
-  -- the exchanges are numbered on the one connection, and go from the opening to the end of the journal
+-- a talk of these exchanges over the identity that began at this front, behind which the desk was this, ended for this
+pub record Talked {Link Seat K : Type 0} (old new : World Link Seat K) (first : Front) (opened : DeskState Link) (journal : Front) (xs : List Exchange) (why : Closed KeeperFailed) : Type 0 where
+  -- the exchanges are numbered on the one connection, and go from the first front to the end of the journal
   pub numbered : AreNumbered 0 0 xs
-  pub in_order : Goes journal (first_front opening) xs (bare journal)
+  pub in_order : Goes journal (bare first) xs (bare journal)
+  pub later : first ⊑ journal
   -- each names the next event, at the greatest reading so far
-  pub alone : GoesAlone journal (first_front opening) xs
-  -- each change of the journal is the change of exactly one of them
-  pub made : (n : ℕ) → times n (made journal xs) ≡ below n (length journal.changes)
-  -- its highest moment is 0 or some call's reading
-  pub high : (journal.high ≡ 0) ⊎ IsReadingAmong journal.high xs
+  pub alone : GoesAlone journal (bare first) xs
+  -- each change behind the first front is the change of exactly one of them
+  pub made : (n : ℕ) → times n (made journal xs) + below n (length first.changes) ≡ below n (length journal.changes)
+  -- its highest moment is the first one or some call's reading
+  pub high : (journal.high ≡ first.high) ⊎ IsReadingAmong journal.high xs
   -- they are what the desk and its folder gave and took
   pub tied : Tied opened new.desk old.place new.place xs
   pub links : KeepsLinks opened new.desk
@@ -56,20 +56,20 @@ pub record Talked {Link Seat : Type 0} (old new : World Link Seat) (opening : Pl
   pub writes : Counts (why ≡ closed.WriteFault) old.output.write_faults new.output.write_faults
 
 -- the connection was served, and the identity stands for the end of its journal
-pub record ServesOne {Link Seat : Type 0} (old new : World Link Seat) (opening : PlainOpening) (opened : DeskState Link) (f : Option Fault) (state : Shown) : Type 0 where
+pub record ServesOne {Link Seat K : Type 0} (keeping : Keeping K) (old new : World Link Seat K) (first : Front) (opened : DeskState Link) (f : Option Fault) (state : BookedState K) : Type 0 where
   pub journal : Front
   pub exchanges : List Exchange
-  pub why : Closed Infallible
-  pub stands : StandsWithAllKept state journal
-  pub talked : Talked old new opening opened journal exchanges why
+  pub why : Closed KeeperFailed
+  pub stands : StandsBooked keeping state journal
+  pub talked : Talked old new first opened journal exchanges why
   pub ends : ending why f
   -- the other desks are as they were
-  pub others : new ≡ record old { input = new.input; file = new.file; output = new.output; dir = new.dir; desk = new.desk; place = new.place }
+  pub others : new ≡ record old { input = new.input; file = new.file; output = new.output; dir = new.dir; desk = new.desk; place = new.place; keeper = new.keeper }
 
 -- it was served, unless there was no memory for that
-abbrev pub ServedOne : {Link Seat : Type 0} → World Link Seat → World Link Seat → Option Fault → PlainOpening → DeskState Link → Shown → Type 0
-ServedOne old new f opening opened state = ServesOne old new opening opened f state ⊎ HadNoRoom old new opening opened f state
+abbrev pub ServedOne : {Link Seat K : Type 0} → Keeping K → World Link Seat K → World Link Seat K → Option Fault → Front → DeskState Link → BookedState K → Type 0
+ServedOne keeping old new f first opened state = ServesOne keeping old new first opened f state ⊎ HadNoRoom keeping old new first opened f state
 
 -- what a talk does
-abbrev pub Talks : {Link Seat : Type 0} → World Link Seat → World Link Seat → Option Fault → Option Shown → Type 0
-Talks old new f state = OpensThen (ServedOne old new f) old new f state
+abbrev pub Talks : {Link Seat K : Type 0} → Keeping K → World Link Seat K → World Link Seat K → Option Fault → Option (BookedState K) → Type 0
+Talks keeping old new f state = OpensThen keeping (ServedOne keeping old new f) old new f state

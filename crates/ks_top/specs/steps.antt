@@ -1,3 +1,5 @@
+pub mod Beginnings
+pub mod Ends
 pub mod KeyCalls
 pub mod Openings
 pub mod PasswordReads

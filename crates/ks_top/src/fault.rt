@@ -1,9 +1,11 @@
 ghost use Rattle.std.specs.Prelude.{◌≡◌, Some};
 ghost use Rattle.ks_top.specs.Ending.{status_of};
 ghost use Rattle.ks_top.specs.steps.KeyCalls.{named};
-ghost use Rattle.ks_top.specs.steps.Openings.{of_opening, of_state};
+ghost use Rattle.ks_top.specs.steps.Openings.{of_header, of_keeper, of_opening, of_state, of_unread};
 
 use ks_base::KeysFault;
+use ks_keep::{KeeperFailed, NotRead};
+use ks_keeper::KeepFault;
 use ks_machine::OpenFault;
 use ks_setup::OpeningFault;
 
@@ -31,6 +33,12 @@ pub enum Fault {
     Keys(KeysFault),
     /// The first desk had no random bytes; or, once an identity was opened, a desk accepted no more connections.
     Desk,
+    /// The keeper failed: while a change was to be kept, where that is told, and else before an identity was opened.
+    Keeper(Option<KeeperFailed>),
+    /// The keeper holds the header of another opening file.
+    OtherOpening,
+    /// What the keeper holds at this number is no entry, or one that can't follow those before it.
+    BadEntry(u64),
 }
 
 impl Drop for Fault {
@@ -46,7 +54,10 @@ impl Drop for Fault {
             | Fault::State(_)
             | Fault::Folder
             | Fault::Keys(_)
-            | Fault::Desk => {}
+            | Fault::Desk
+            | Fault::Keeper(_)
+            | Fault::OtherOpening
+            | Fault::BadEntry(_) => {}
         }
     }
 }
@@ -66,6 +77,9 @@ impl Fault {
             Fault::Folder => 8,
             Fault::Keys(fault) => keys_status(fault),
             Fault::Desk => 10,
+            Fault::Keeper(_) => 13,
+            Fault::OtherOpening => 14,
+            Fault::BadEntry(_) => 15,
         }
     }
 
@@ -90,6 +104,39 @@ impl Fault {
             refusal => Fault::Opening(refusal),
         }
     }
+
+    /// A fault of the opening that a header gives, as one of the program.
+    pub(crate) fn of_header(fault: OpeningFault) -> Fault
+        ensures { result ≡ of_header fault }
+    {
+        match fault {
+            OpeningFault::Random => Fault::OtherOpening,
+            OpeningFault::Memory => Fault::Memory,
+            refusal => Fault::Opening(refusal),
+        }
+    }
+
+    /// A fault of the keeper before an identity was opened, as one of the program.
+    pub(crate) fn of_keeper(fault: KeepFault) -> Fault
+        ensures { result ≡ of_keeper fault }
+    {
+        match fault {
+            KeepFault::Failed => Fault::Keeper(None),
+            KeepFault::Memory => Fault::Memory,
+        }
+    }
+
+    /// Why the entries of a keeper were not read, as a fault of the program.
+    pub(crate) fn of_unread(why: NotRead) -> Fault
+        ensures { result ≡ of_unread why }
+    {
+        match why {
+            NotRead::Failed => Fault::Keeper(None),
+            NotRead::BadEntry(number) => Fault::BadEntry(number),
+            NotRead::Memory => Fault::Memory,
+        }
+    }
+
     /// A fault of what the file says, as one of the program.
     pub(crate) fn of_state(fault: OpenFault) -> Fault
         ensures { result ≡ of_state fault }

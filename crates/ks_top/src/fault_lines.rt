@@ -32,6 +32,16 @@ impl fmt::Display for Fault {
             Fault::Folder => write!(f, "{FAILED}"),
             Fault::Keys(fault) => write_keys(f, fault),
             Fault::Desk => { write!(f, "there were no random bytes, or no more connections") }
+            Fault::Keeper(Some(_)) => write!(f, "a change could not be kept"),
+            Fault::Keeper(None) => write!(f, "the kept journal could not be read or written"),
+            Fault::OtherOpening => write!(
+                f,
+                "the opening file is not the one with which the kept journal began"
+            ),
+            Fault::BadEntry(number) => write!(
+                f,
+                "entry {number} of the kept journal can't follow those before it"
+            ),
         }
     }
 }

@@ -2,6 +2,7 @@
 #![tactic(auto)]
 
 mod answer;
+mod begun;
 mod check;
 mod checker;
 mod fault;
@@ -20,6 +21,6 @@ mod talk;
 pub use fault::Fault;
 pub use laws::{
     changes_are_determined, commands_complete, connections_complete, desk_faults_are_counted,
-    refused_ever_after, requests_complete,
+    refused_ever_after, requests_complete, restart_forgets_nothing, told_is_kept,
 };
 pub use program::{Ended, run};

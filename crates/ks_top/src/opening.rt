@@ -1,10 +1,9 @@
-//! What a server opens with: its file, and the keys of the folder where the file takes them from there.
+//! What a server reads to open: its file, and the keys of the folder where the file takes them from there.
 ghost use Rattle.std.specs.Prelude.{◌≡◌, ◌≤◌, ℕ, List, Some, length, Err, IfOk, IfErr};
 ghost use Rattle.ks_outside.specs.Files.{OnlyLooks};
 ghost use Rattle.ks_outside.specs.Streams.{OnlyReads};
-ghost use Rattle.ks_policy.specs.Openings.{plain};
 ghost use Rattle.ks_setup.specs.Written.{folder_wanted};
-ghost use Rattle.ks_top.specs.Opened.{AreHeld, IsOpening, ReadsFile, StopsOpening};
+ghost use Rattle.ks_top.specs.Opened.{AreHeld, ReadsFile};
 ghost use Rattle.ks_top.specs.declared.checker.TheConstants.{PIECE};
 ghost use Rattle.ks_top.specs.steps.Openings.{IsRead, IsReadFault, StopsHeld};
 
@@ -13,35 +12,12 @@ use crate::fault::Fault;
 use ks_base::KeyList;
 use ks_base::limits::OPENING_BYTES;
 use ks_keyfiles::read_dir;
-use ks_outside::{Desk, KeyDir, Source};
-use ks_policy::Opening;
-use ks_setup::{read_opening, wants_folder};
+use ks_outside::{KeyDir, Source};
+use ks_setup::wants_folder;
 use std::alloc::{AllocError, Global};
 
-/// Reads the opening file to its end, and the keys of the folder where the file takes them from there; and draws the
-/// salts of the users' passwords.
-pub fn read<F: Source, D: KeyDir, P: Desk>(
-    alloc: Global,
-    file: &mut F,
-    dir: &mut D,
-    desk: &mut P,
-) -> Result<Opening, Fault>
-    ensures opens { IfOk result (λ opening. IsOpening (F.stream file.old) (D.dir dir.old) (P.desk desk.old) (P.desk desk.new) (plain opening)) }
-    ensures stops { IfErr result (StopsOpening (F.stream file.old) (D.dir dir.old) (P.desk desk.old) (P.desk desk.new)) }
-    ensures reach { (told : List ℕ) → (F.stream file.old).left ≡ Some told → ReadsFile told (F.stream file.new).left }
-    ensures reads { OnlyReads (result ≡ Err Fault.Read) (F.stream file.old) (F.stream file.new) }
-    ensures looks { OnlyLooks (result ≡ Err Fault.Folder) (D.dir dir.old) (D.dir dir.new) }
-{
-    let text = read_file(alloc, file)?;
-    let held = read_held(alloc, text.as_slice(), dir)?;
-    match read_opening(alloc, text.as_slice(), held.as_slice(), desk) {
-        Ok(opening) => Ok(opening),
-        Err(fault) => Err(Fault::of_opening(fault)),
-    }
-}
-
 /// The keys that the folder holds, where the file takes its keys from there.
-fn read_held<D: KeyDir>(alloc: Global, text: &[u8], dir: &mut D) -> Result<KeyList, Fault>
+pub fn read_held<D: KeyDir>(alloc: Global, text: &[u8], dir: &mut D) -> Result<KeyList, Fault>
     ensures held { IfOk result (AreHeld (folder_wanted text.now) (D.dir dir.old)) }
     ensures stops { IfErr result (StopsHeld text.now (D.dir dir.old)) }
     ensures looks { OnlyLooks (result ≡ Err Fault.Folder) (D.dir dir.old) (D.dir dir.new) }
@@ -58,7 +34,7 @@ fn read_held<D: KeyDir>(alloc: Global, text: &[u8], dir: &mut D) -> Result<KeyLi
 
 /// Reads a file to its end, or until it is longer than an opening file may be: of a longer one a piece more is read
 /// at most, which is enough to refuse it.
-fn read_file<F: Source>(alloc: Global, file: &mut F) -> Result<Vec<u8>, Fault>
+pub fn read_file<F: Source>(alloc: Global, file: &mut F) -> Result<Vec<u8>, Fault>
     ensures read { IfOk result (λ text. IsRead (F.stream file.old) text.items) }
     ensures causes { IfErr result IsReadFault }
     ensures reach { (told : List ℕ) → (F.stream file.old).left ≡ Some told → ReadsFile told (F.stream file.new).left }

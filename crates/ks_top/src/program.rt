@@ -1,36 +1,43 @@
 ghost use Rattle.std.specs.Prelude.{◌≡◌, ◌<◌, ◌∷◌, List, length, IfSome};
+ghost use Rattle.ks_keep.specs.Books.{seen_by};
+ghost use Rattle.ks_keeper.specs.Keeper.{IsTidy};
 ghost use Rattle.ks_setup.specs.Words.{words_of};
 ghost use Rattle.ks_top.specs.Ending.{status_of};
 ghost use Rattle.ks_top.specs.Headline.{Headline};
 ghost use Rattle.ks_top.specs.Runs.{Runs};
+ghost use Rattle.ks_top.specs.World.{HasKeeper};
+ghost use Rattle.ks_top.specs.steps.Ends.{keeper_at, state_at};
 
 use crate::check::check;
 use crate::fault::Fault;
 use crate::key_folder::{rotate, set_up};
 use crate::laws::{
     changes_are_determined, commands_complete, connections_complete, desk_faults_are_counted,
-    refused_ever_after, requests_complete,
+    refused_ever_after, requests_complete, restart_forgets_nothing, told_is_kept,
 };
 use crate::outcome::Outcome;
 use crate::password::make_record;
 use crate::serve::serve;
 use crate::talk::talk;
 use ks_base::Text;
+use ks_keep::Booked;
+use ks_keeper::Keeper;
 use ks_outside::{Desk, KeyDir, Sink, Source};
 use ks_setup::{Words, read_words};
-use ks_state::Identity;
 use ks_tokens::{ended_tokens_are_not_found, ended_tokens_stay_refused, tokens_validate_exactly};
+use std::marker::Brand;
 use std::sync::Wait;
 use std::thread::Threads;
 
 /// How the program ended: the status of its process, and the fault where that is not 0; the desks with their folders;
-/// and the identity as it then was, where one was opened.
+/// the identity as it then was, with its keeper, where one was opened, and else the keeper.
 #[derive(Drop)]
-pub struct Ended<P, D> {
+pub struct Ended<P, D, B: Keeper> {
     pub status: u8,
     pub fault: Option<Fault>,
     pub desks: Vec<(P, D)>,
-    pub state: Option<Identity>,
+    pub state: Option<Booked<B, Brand>>,
+    pub keeper: Option<B>,
 }
 
 /// Does what the words say, on an input, an opening file and an output, a folder of keys, and desks, each with a
@@ -40,15 +47,16 @@ pub struct Ended<P, D> {
 /// from the contract alone is said by the laws that the body calls.
 ///
 /// `check` reads a Fernet key and lines of a moment and a token, and answers which tokens are refused.
-/// `talk FILE FOLDER` opens an identity from the file, which may take its keys from the folder `dir`, and serves one
-/// connection of HTTP/1.1: it reads requests and writes a response to each. A call that loads keys reads the first
+/// `talk FILE FOLDER` opens an identity from the file, which may take its keys from the folder `dir`, or goes on from what
+/// the keeper holds, if that began with the same file; and serves one connection of HTTP/1.1: it reads requests and writes a
+/// response to each, once the keeper has each change that the response can show. A call that loads keys reads the first
 /// desk's folder. `setup FOLDER` makes the keys of an empty folder, and `rotate FOLDER` rotates them; both say which
 /// indices the folder then has.
 ///
 /// `password [--rounds N]` reads a password, the first line of the input, and writes what an opening file may hold in its
 /// place: the text of its record, derived with 16 random bytes of the first desk.
 ///
-/// `serve FILE FOLDER ADDRESS [--workers N] [--connections N]` opens an identity as `talk` does, and serves with the first
+/// `serve FILE FOLDER ADDRESS [--workers N] [--connections N]` begins as `talk` does, and serves with the first
 /// N desks beside each other, 4 where N is not said and never more than there are. Each accepts links and serves them one
 /// after the other, until no more come, an accept fails, or it had its number of them, if one other than 0 is said; its own
 /// folder is the one from which calls load keys. Input and output are left alone. The address is for who makes the desks.
@@ -58,7 +66,8 @@ pub struct Ended<P, D> {
 /// command's; 3 where the input or the opening file could not be read; 4 where the output could not be written; 5 for want
 /// of memory; 6 where a line of `check` is not in the grammar, or what `password` reads is no password; 7 where the opening file is refused; 8 where the folder
 /// failed; 9 where it has no keys, or bad or too many ones; 10 where there were no random bytes, or where an identity was
-/// opened and a desk's accept failed; 11 where `setup` found keys; 12 where `rotate` found the last index of all.
+/// opened and a desk's accept failed; 11 where `setup` found keys; 12 where `rotate` found the last index of all; 13 where the
+/// keeper failed; 14 where what it holds began with another file; 15 where an entry that it holds can't follow those before.
 pub fn run<
     R: AllocGlobal + Threads + Wait + Sync,
     S: Source,
@@ -66,6 +75,7 @@ pub fn run<
     K: Sink,
     D: KeyDir + Send + Drop,
     P: Desk + Send + Drop,
+    B: Keeper + Send + Drop,
 >(
     rt: &R,
     words: &[Text],
@@ -74,38 +84,46 @@ pub fn run<
     output: &mut K,
     dir: &mut D,
     desks: Vec<(P, D)>,
-) -> Ended<P, D>
+    keeper: B,
+) -> Ended<P, D, B>
 where
     P::Link: Send,
-    requires { 0 < length desks.items }
+    requires some { 0 < length desks.items }
+    requires tidy { B.whole keeper → IsTidy (B.kept keeper) }
     ensures status { result.status ≡ status_of result.fault }
-    ensures headline { (first : P × D) (others : List (P × D)) → desks.items ≡ first ∷ others → (after : P × D) × (rest : List (P × D)) × (result.desks.items ≡ after ∷ rest)
-        × IfSome result.state (Headline (λ (d : P × D). record { desk = P.desk d.0; dir = D.dir d.1 }) P.Link.stream (words_of words.now)
-        (record { input = S.stream input.old; file = F.stream file.old; output = K.stream output.old; dir = D.dir dir.old; desk = P.desk first.0; place = D.dir first.1; others = others })
-        (record { input = S.stream input.new; file = F.stream file.new; output = K.stream output.new; dir = D.dir dir.new; desk = P.desk after.0; place = D.dir after.1; others = rest })
+    ensures headline { (first : P × D) (others : List (P × D)) → desks.items ≡ first ∷ others → (after : P × D) × (rest : List (P × D)) × (kept : B) × (result.desks.items ≡ after ∷ rest) × HasKeeper result.state result.keeper kept
+        × IfSome result.state (Headline (seen_by B.kept B.whole B.faults) (λ (d : P × D). record { desk = P.desk d.0; dir = D.dir d.1 }) P.Link.stream (words_of words.now)
+        (record { input = S.stream input.old; file = F.stream file.old; output = K.stream output.old; dir = D.dir dir.old; desk = P.desk first.0; place = D.dir first.1; others = others; keeper = keeper })
+        (record { input = S.stream input.new; file = F.stream file.new; output = K.stream output.new; dir = D.dir dir.new; desk = P.desk after.0; place = D.dir after.1; others = rest; keeper = kept })
         result.fault) }
-    ensures runs { (first : P × D) (others : List (P × D)) → desks.items ≡ first ∷ others → (after : P × D) × (rest : List (P × D)) × (result.desks.items ≡ after ∷ rest)
-        × Runs (λ (d : P × D). record { desk = P.desk d.0; dir = D.dir d.1 }) P.Link.stream words.now
-        (record { input = S.stream input.old; file = F.stream file.old; output = K.stream output.old; dir = D.dir dir.old; desk = P.desk first.0; place = D.dir first.1; others = others })
-        (record { input = S.stream input.new; file = F.stream file.new; output = K.stream output.new; dir = D.dir dir.new; desk = P.desk after.0; place = D.dir after.1; others = rest })
+    ensures runs { (first : P × D) (others : List (P × D)) → desks.items ≡ first ∷ others → (after : P × D) × (rest : List (P × D)) × (kept : B) × (result.desks.items ≡ after ∷ rest) × HasKeeper result.state result.keeper kept
+        × Runs (seen_by B.kept B.whole B.faults) (λ (d : P × D). record { desk = P.desk d.0; dir = D.dir d.1 }) P.Link.stream words.now
+        (record { input = S.stream input.old; file = F.stream file.old; output = K.stream output.old; dir = D.dir dir.old; desk = P.desk first.0; place = D.dir first.1; others = others; keeper = keeper })
+        (record { input = S.stream input.new; file = F.stream file.new; output = K.stream output.new; dir = D.dir dir.new; desk = P.desk after.0; place = D.dir after.1; others = rest; keeper = kept })
         result.fault result.state }
 {
     // What holds of all that the contract says.
-    commands_complete::<P::Link, (P, D)>();
+    commands_complete::<P::Link, (P, D), B>();
     connections_complete();
-    desk_faults_are_counted::<P::Link, (P, D)>();
-    changes_are_determined::<P::Link, (P, D)>();
+    desk_faults_are_counted::<P::Link, (P, D), B>();
+    changes_are_determined::<P::Link, (P, D), B>();
     requests_complete();
     tokens_validate_exactly();
     ended_tokens_stay_refused();
     ended_tokens_are_not_found();
-    refused_ever_after::<P::Link, (P, D)>();
-    let (Outcome { fault, state }, desks) = run_command(rt, words, input, file, output, dir, desks);
+    refused_ever_after::<P::Link, (P, D), B>();
+    told_is_kept::<P::Link, (P, D), B>();
+    restart_forgets_nothing::<P::Link, (P, D), B>();
+    let (Outcome { fault, end }, desks) = run_command(
+        rt, words, input, file, output, dir, desks, keeper,
+    );
+    let (state, keeper) = end.into_parts();
     Ended {
         status: status(&fault),
         fault,
         desks,
         state,
+        keeper,
     }
 }
 
@@ -127,6 +145,7 @@ fn run_command<
     K: Sink,
     D: KeyDir + Send + Drop,
     P: Desk + Send + Drop,
+    B: Keeper + Send + Drop,
 >(
     rt: &R,
     words: &[Text],
@@ -135,42 +154,44 @@ fn run_command<
     output: &mut K,
     dir: &mut D,
     mut desks: Vec<(P, D)>,
-) -> (Outcome, Vec<(P, D)>)
+    keeper: B,
+) -> (Outcome<B>, Vec<(P, D)>)
 where
     P::Link: Send,
-    requires { 0 < length desks.items }
+    requires some { 0 < length desks.items }
+    requires tidy { B.whole keeper → IsTidy (B.kept keeper) }
     ensures { (first : P × D) (others : List (P × D)) → desks.items ≡ first ∷ others → (after : P × D) × (rest : List (P × D)) × (result.1.items ≡ after ∷ rest)
-        × Runs (λ (d : P × D). record { desk = P.desk d.0; dir = D.dir d.1 }) P.Link.stream words.now
-        (record { input = S.stream input.old; file = F.stream file.old; output = K.stream output.old; dir = D.dir dir.old; desk = P.desk first.0; place = D.dir first.1; others = others })
-        (record { input = S.stream input.new; file = F.stream file.new; output = K.stream output.new; dir = D.dir dir.new; desk = P.desk after.0; place = D.dir after.1; others = rest })
-        result.0.fault result.0.state }
+        × Runs (seen_by B.kept B.whole B.faults) (λ (d : P × D). record { desk = P.desk d.0; dir = D.dir d.1 }) P.Link.stream words.now
+        (record { input = S.stream input.old; file = F.stream file.old; output = K.stream output.old; dir = D.dir dir.old; desk = P.desk first.0; place = D.dir first.1; others = others; keeper = keeper })
+        (record { input = S.stream input.new; file = F.stream file.new; output = K.stream output.new; dir = D.dir dir.new; desk = P.desk after.0; place = D.dir after.1; others = rest; keeper = keeper_at result.0.end })
+        result.0.fault (state_at result.0.end) }
 {
     match read_words(rt.alloc(), words) {
-        Ok(Words::Check) => (Outcome::of(check(rt.alloc(), input, output)), desks),
+        Ok(Words::Check) => (Outcome::of(check(rt.alloc(), input, output), keeper), desks),
         Ok(Words::Talk(_places)) => {
             let (desk, place) = &mut desks[0];
-            let outcome = talk(rt, input, file, output, dir, desk, place);
+            let outcome = talk(rt, input, file, output, dir, desk, place, keeper);
             (outcome, desks)
         }
         Ok(Words::Serve(places, connections)) => {
-            serve(rt, file, dir, desks, places.workers, connections)
+            serve(rt, file, dir, desks, places.workers, connections, keeper)
         }
         Ok(Words::Setup(_places)) => {
             let (desk, _place) = &mut desks[0];
-            let outcome = Outcome::of(set_up(dir, desk, output));
+            let outcome = Outcome::of(set_up(dir, desk, output), keeper);
             (outcome, desks)
         }
         Ok(Words::Rotate(_places, max)) => {
             let (desk, _place) = &mut desks[0];
-            let outcome = Outcome::of(rotate(rt.alloc(), dir, desk, max, output));
+            let outcome = Outcome::of(rotate(rt.alloc(), dir, desk, max, output), keeper);
             (outcome, desks)
         }
         Ok(Words::Password(rounds)) => {
             let (desk, _place) = &mut desks[0];
-            let outcome = Outcome::of(make_record(rt.alloc(), rounds, input, desk, output));
+            let outcome = Outcome::of(make_record(rt.alloc(), rounds, input, desk, output), keeper);
             (outcome, desks)
         }
-        Ok(Words::Usage) => (Outcome::stopped(Fault::Usage), desks),
-        Err(_) => (Outcome::stopped(Fault::Memory), desks),
+        Ok(Words::Usage) => (Outcome::stopped(Fault::Usage, keeper), desks),
+        Err(_) => (Outcome::stopped(Fault::Memory, keeper), desks),
     }
 }

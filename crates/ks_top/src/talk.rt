@@ -1,27 +1,29 @@
-//! One connection, served by an identity that an opening file gives.
+//! One connection, served by an identity that was opened or restored.
 ghost use Rattle.std.specs.Prelude.{◌≡◌, ◌≢◌, ◌⊎◌, Some, List};
+ghost use Rattle.ks_keep.specs.Books.{IsBookOf, seen_by};
+ghost use Rattle.ks_keeper.specs.Keeper.{IsTidy};
 ghost use Rattle.ks_outside.specs.Desks.{DeskState};
 ghost use Rattle.ks_outside.specs.Files.{DirState};
 ghost use Rattle.ks_outside.specs.Streams.{StreamState};
-ghost use Rattle.ks_policy.specs.Openings.{plain};
-ghost use Rattle.ks_machine.specs.Fronts.{first_front};
 ghost use Rattle.ks_state.specs.Standing.{StandsWithAllKept};
 ghost use Rattle.ks_top.specs.Talk.{ServedOne, Talks, ending};
+ghost use Rattle.ks_top.specs.steps.Ends.{keeper_at, state_at};
 
 use crate::fault::Fault;
-use crate::opened::{Opened, open};
-use crate::outcome::Outcome;
+use crate::opened::{NotOpened, Opened, open};
+use crate::outcome::{End, Outcome};
+use ks_keep::{Booked, KeeperFailed, Since};
+use ks_keeper::Keeper;
 use ks_outside::{Desk, KeyDir, Open, Pair, Sink, Source};
 use ks_server::{Closed, Service, serve_connection};
-use ks_state::Identity;
 use ks_turn::{First, NoRoom, Turn};
-use std::convert::Infallible;
 use std::marker::Brand;
 use std::sync::Wait;
 
-/// Opens an identity from the file, and from the folder `dir` where the file takes its keys from there, and serves one
-/// connection over the input and the output. The folder `place` is the one from which calls load keys.
-pub fn talk<R: AllocGlobal + Wait, S: Source, F: Source, K: Sink, D: KeyDir, P: Desk>(
+/// Opens an identity from the file, and from the folder `dir` where the file takes its keys from there, or goes on from what
+/// the keeper holds; and serves one connection over the input and the output. The folder `place` is the one from which
+/// calls load keys.
+pub fn talk<R: AllocGlobal + Wait, S: Source, F: Source, K: Sink, D: KeyDir, P: Desk, B: Keeper>(
     rt: &R,
     input: &mut S,
     file: &mut F,
@@ -29,52 +31,67 @@ pub fn talk<R: AllocGlobal + Wait, S: Source, F: Source, K: Sink, D: KeyDir, P: 
     dir: &mut D,
     desk: &mut P,
     place: &mut D,
-) -> Outcome
-    ensures { (others : List (P × D)) → Talks
-        (record { input = S.stream input.old; file = F.stream file.old; output = K.stream output.old; dir = D.dir dir.old; desk = P.desk desk.old; place = D.dir place.old; others = others })
-        (record { input = S.stream input.new; file = F.stream file.new; output = K.stream output.new; dir = D.dir dir.new; desk = P.desk desk.new; place = D.dir place.new; others = others })
-        result.fault result.state }
+    keeper: B,
+) -> Outcome<B>
+    requires tidy { B.whole keeper → IsTidy (B.kept keeper) }
+    ensures { (others : List (P × D)) → Talks (seen_by B.kept B.whole B.faults)
+        (record { input = S.stream input.old; file = F.stream file.old; output = K.stream output.old; dir = D.dir dir.old; desk = P.desk desk.old; place = D.dir place.old; others = others; keeper = keeper })
+        (record { input = S.stream input.new; file = F.stream file.new; output = K.stream output.new; dir = D.dir dir.new; desk = P.desk desk.new; place = D.dir place.new; others = others; keeper = keeper_at result.end })
+        result.fault (state_at result.end) }
 {
-    match open(rt.alloc(), file, dir, desk) {
+    match open(rt.alloc(), file, dir, desk, keeper) {
         Ok(opened) => {
-            let (fault, state) = serve_one::<Brand, R, S, K, D, P>(
+            let (fault, state) = serve_one::<Brand, R, S, K, D, P, B>(
                 rt, opened, input, output, desk, place,
             );
             Outcome {
                 fault,
-                state: Some(state),
+                end: End::Open(state),
             }
         }
-        Err(fault) => Outcome::stopped(fault),
+        Err(NotOpened { fault, keeper }) => Outcome::stopped(fault, keeper),
     }
 }
 
 /// Serves one connection by an identity that was opened.
-fn serve_one<N: First, R: AllocGlobal + Wait, S: Source, K: Sink, D: KeyDir, P: Desk>(
+fn serve_one<
+    N: First + Since,
+    R: AllocGlobal + Wait,
+    S: Source,
+    K: Sink,
+    D: KeyDir,
+    P: Desk,
+    B: Keeper,
+>(
     rt: &R,
-    opened: Opened,
+    opened: Opened<B>,
     input: &mut S,
     output: &mut K,
     desk: &mut P,
     place: &mut D,
-) -> (Option<Fault>, Identity)
-    requires front { N.front ≡ first_front (plain opened.opening.value) }
+) -> (Option<Fault>, Booked<B, Brand>)
     requires stands { StandsWithAllKept opened.identity N.front }
-    requires url { opened.url ≡ opened.opening.value.settings.url }
-    ensures { (before : DeskState P.Link) (file file_after : StreamState) (dir dir_after : DirState) (others : List (P × D)) → ServedOne
-        (record { input = S.stream input.old; file = file; output = K.stream output.old; dir = dir; desk = before; place = D.dir place.old; others = others })
-        (record { input = S.stream input.new; file = file_after; output = K.stream output.new; dir = dir_after; desk = P.desk desk.new; place = D.dir place.new; others = others })
-        result.0 (plain opened.opening.value) (P.desk desk.old) result.1 }
+    requires book { B.whole opened.keeper → IsBookOf (B.kept opened.keeper) N.front }
+    requires since { B.whole opened.keeper → N.holds }
+    requires url { opened.url ≡ N.front.opening.settings.url }
+    ensures since { B.whole result.1.keeper → N.holds }
+    ensures served { (before : DeskState P.Link) (file file_after : StreamState) (dir dir_after : DirState) (others : List (P × D)) (keeper : B) → ServedOne (seen_by B.kept B.whole B.faults)
+        (record { input = S.stream input.old; file = file; output = K.stream output.old; dir = dir; desk = before; place = D.dir place.old; others = others; keeper = keeper })
+        (record { input = S.stream input.new; file = file_after; output = K.stream output.new; dir = dir_after; desk = P.desk desk.new; place = D.dir place.new; others = others; keeper = result.1.keeper })
+        result.0 N.front (P.desk desk.old) result.1 }
 {
     let Opened {
         identity,
+        keeper,
         routes,
         url,
         opening: _,
+        past: _,
     } = opened;
-    let (turn, pass) = match Turn::<Identity, N>::new(rt.alloc(), identity) {
+    let booked = Booked::<B, N>::new(rt.alloc(), identity, keeper);
+    let (turn, pass) = match Turn::<Booked<B, N>, N>::new(rt.alloc(), booked) {
         Ok(made) => made,
-        Err(NoRoom { state }) => return (Some(Fault::Memory), state),
+        Err(NoRoom { state }) => return (Some(Fault::Memory), state.unnamed()),
     };
     let mut link = Pair {
         source: input,
@@ -94,11 +111,11 @@ fn serve_one<N: First, R: AllocGlobal + Wait, S: Source, K: Sink, D: KeyDir, P: 
         &routes,
         &url,
     );
-    (ending(closed), turn.close(pass))
+    (ending(closed), turn.close(pass).unnamed())
 }
 
 /// The fault that an end of the connection is, if it is one.
-fn ending(closed: Closed<Infallible>) -> Option<Fault>
+fn ending(closed: Closed<KeeperFailed>) -> Option<Fault>
     requires { closed ≢ Closed.Rests }
     ensures { ending closed result }
 {
@@ -108,6 +125,6 @@ fn ending(closed: Closed<Infallible>) -> Option<Fault>
         Closed::ReadFault => Some(Fault::Read),
         Closed::WriteFault => Some(Fault::Write),
         Closed::Memory => Some(Fault::Memory),
-        Closed::KeeperFault(never) => match never {},
+        Closed::KeeperFault(why) => Some(Fault::Keeper(Some(why))),
     }
 }

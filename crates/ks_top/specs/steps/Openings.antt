@@ -1,8 +1,12 @@
 -- What the steps of opening say.
-use Rattle.std.specs.Prelude.{◌≡◌, ◌⊎◌, ℕ, ◌<◌, true, List, ◌++◌, length, Option, Some, Ok, Err}
+use Rattle.std.specs.Prelude.{◌≡◌, ◌⊎◌, ℕ, ◌<◌, true, List, ◌++◌, length, Option, Some, None, Ok, Err}
 use Rattle.ks_base.specs.declared.faults.KeysFault.{KeysFault}
 use Rattle.ks_base.specs.declared.faults.KeysFault.TheVariants as keys
 use Rattle.ks_base.specs.declared.limits.TheConstants.{OPENING_BYTES}
+use Rattle.ks_keep.specs.declared.fault.NotRead.{NotRead}
+use Rattle.ks_keep.specs.declared.fault.NotRead.TheVariants as unread
+use Rattle.ks_keeper.specs.declared.fault.KeepFault.{KeepFault}
+use Rattle.ks_keeper.specs.declared.fault.KeepFault.TheVariants as keep_fault
 use Rattle.ks_keyfiles.specs.Folders.{folder_of}
 use Rattle.ks_machine.specs.declared.settings.OpenFault.{OpenFault}
 use Rattle.ks_machine.specs.declared.settings.OpenFault.TheVariants as state
@@ -21,6 +25,24 @@ of_opening refusal.Memory = fault.Memory
 of_opening (refusal.Shape reason) = fault.Opening (refusal.Shape reason)
 of_opening (refusal.Policy reason) = fault.Opening (refusal.Policy reason)
 of_opening (refusal.BadKey path) = fault.Opening (refusal.BadKey path)
+
+-- the same of the opening that a header gives, whose salts may be those of another file
+abbrev pub of_header : OpeningFault → Fault
+of_header refusal.Random = fault.OtherOpening
+of_header refusal.Memory = fault.Memory
+of_header (refusal.Shape reason) = fault.Opening (refusal.Shape reason)
+of_header (refusal.Policy reason) = fault.Opening (refusal.Policy reason)
+of_header (refusal.BadKey path) = fault.Opening (refusal.BadKey path)
+
+-- a keeper failed before an identity was opened, or there was no memory
+abbrev pub of_keeper : KeepFault → Fault
+of_keeper keep_fault.Failed = fault.Keeper None
+of_keeper keep_fault.Memory = fault.Memory
+
+abbrev pub of_unread : NotRead → Fault
+of_unread unread.Failed = fault.Keeper None
+of_unread (unread.BadEntry number) = fault.BadEntry number
+of_unread unread.Memory = fault.Memory
 
 -- and so is want of memory where the rows are tested
 abbrev pub of_state : OpenFault → Fault
@@ -55,6 +77,9 @@ IsReadFault fault.Write = ⊥
 IsReadFault (fault.BadLine n) = ⊥
 IsReadFault (fault.Opening reason) = ⊥
 IsReadFault (fault.State reason) = ⊥
+IsReadFault (fault.Keeper why) = ⊥
+IsReadFault fault.OtherOpening = ⊥
+IsReadFault (fault.BadEntry n) = ⊥
 IsReadFault fault.Folder = ⊥
 IsReadFault (fault.Keys reason) = ⊥
 IsReadFault fault.Desk = ⊥
@@ -85,4 +110,7 @@ StopsHeld text dir fault.Read = ⊥
 StopsHeld text dir fault.Write = ⊥
 StopsHeld text dir (fault.BadLine n) = ⊥
 StopsHeld text dir (fault.State reason) = ⊥
+StopsHeld text dir (fault.Keeper why) = ⊥
+StopsHeld text dir fault.OtherOpening = ⊥
+StopsHeld text dir (fault.BadEntry n) = ⊥
 StopsHeld text dir fault.Desk = ⊥

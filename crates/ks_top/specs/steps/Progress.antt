@@ -138,3 +138,6 @@ ReadsAll input left (Err (fault.Keys reason)) checker written before = ⊥
 ReadsAll input left (Err fault.Desk) checker written before = ⊥
 ReadsAll input left (Err (fault.Opening reason)) checker written before = ⊥
 ReadsAll input left (Err (fault.State reason)) checker written before = ⊥
+ReadsAll input left (Err (fault.Keeper why)) checker written before = ⊥
+ReadsAll input left (Err fault.OtherOpening) checker written before = ⊥
+ReadsAll input left (Err (fault.BadEntry n)) checker written before = ⊥

@@ -1,30 +1,40 @@
-use Rattle.std.proofs.Common.{[], sym, subst}
-use Rattle.ks_policy.specs.Openings.{plain}
-use Rattle.ks_top.specs.Opened.{IsOpening}
-use Rattle.ks_top.proofs.OpeningLemmas.{drew_none}
-use Rattle.ks_top.proofs.TalkLemmas.{looks_for, reads_for, state_stops, unlisted, unread}
+use Rattle.std.proofs.Common.{[], refl, ap, subst}
+use Rattle.ks_keep.specs.Pasts.{entries_of}
+use Rattle.ks_top.specs.steps.Beginnings.{IsBegun}
+use Rattle.ks_top.proofs.BeginLemmas.{again_tidy, goes_on_at, held_header, opened_anew, stopped_early}
+use Rattle.ks_top.proofs.CountLemmas.{looks_for, reads_for}
 use Rattle.ks_top.proofs.opened.open.Goals as goal
 
-pub open-requires : goal.open-requires
-open-requires g c =
-    let o = c.in_ok-read.ensures.opens in
-    record { range = c.openings_are_in_range.ensures o.text o.held o.drawn (plain c.in_ok-read.read) o.opens }
+pub returns-in_default : goal.returns-in_default
+returns-in_default g c = record { opens = λ input output place others. stopped_early _ _ }
 
-pub returns-in-Err-clause-stops : goal.returns-in-Err-clause-stops
-returns-in-Err-clause-stops g c =
-    rw c.of_state.ensures (state_stops _ _ _ _ (plain c.in_ok-read.read) c.in-Err.why c.in_ok-read.ensures.opens c.in-Err.ensures.fault)
+pub go_on-requires-clause-stands : goal.go_on-requires-clause-stands
+go_on-requires-clause-stands g c =
+    (subst (IsBegun _ _ _) c.in-Ok-Again.field-0-is
+    (c.in-Ok-Again.ensures.begins (g.F.Stream.stream c.args.file.now) (g.F.Stream.stream c.args.file.now) (g.D.KeyDir.dir c.args.dir.now) [])).is_start
 
-pub returns-in-Err-clause-reads : goal.returns-in-Err-clause-reads
-returns-in-Err-clause-reads g c =
-    rw c.of_state.ensures (reads_for _ _ _ _ (λ e. absurd (unread c.in-Err.why (cc e))) c.in_ok-read.ensures.reads)
+pub go_on-requires-clause-tidy : goal.go_on-requires-clause-tidy
+go_on-requires-clause-tidy g c =
+    again_tidy _ _ _ _
+    (subst (IsBegun _ _ _) c.in-Ok-Again.field-0-is
+    (c.in-Ok-Again.ensures.begins (g.F.Stream.stream c.args.file.now) (g.F.Stream.stream c.args.file.now) (g.D.KeyDir.dir c.args.dir.now) []))
+    c.in-Ok-Again.ensures.since c.requires.tidy
 
-pub returns-in-Err-clause-looks : goal.returns-in-Err-clause-looks
-returns-in-Err-clause-looks g c =
-    rw c.of_state.ensures (looks_for _ _ _ _ (λ e. absurd (unlisted c.in-Err.why (cc e))) c.in_ok-read.ensures.looks)
+pub returns-in-Ok-Anew : goal.returns-in-Ok-Anew
+returns-in-Ok-Anew g c = record {
+  opens = λ input output place others.
+      opened_anew _ _ _ c.in-Ok-Anew.start c.begun_anew.result
+      (subst (IsBegun _ _ _) c.in-Ok-Anew.field-0-is (c.in-Ok-Anew.ensures.begins input output place others))
+      c.begun_anew.ensures.keeper c.begun_anew.ensures.identity c.begun_anew.ensures.url c.begun_anew.ensures.opening (ap entries_of c.begun_anew.ensures.past)
+      (reads_for _ _ _ _ (λ e. absurd e) c.in-Ok-Anew.ensures.reads) c.in-Ok-Anew.ensures.reach (looks_for _ _ _ _ (λ e. absurd e) c.in-Ok-Anew.ensures.looks)
+      c.in-Ok-Anew.ensures.faults.kept c.in-Ok-Anew.ensures.since;
+}
 
-pub returns-in_default-clause-stops : goal.returns-in_default-clause-stops
-returns-in_default-clause-stops g c = ([], drew_none (g.P.Desk.desk c.args.desk.now))
-
-pub returns-in-Ok-open-clause-opens : goal.returns-in-Ok-open-clause-opens
-returns-in-Ok-open-clause-opens g c =
-    subst (λ o. IsOpening (g.F.Stream.stream c.args.file.now) (g.D.KeyDir.dir c.args.dir.now) (g.P.Desk.desk c.args.desk.now) (g.P.Desk.desk c.read.new.desk) (plain o)) (sym c.of-opening.ensures) c.in_ok-read.ensures.opens
+pub returns-in-Ok-Again : goal.returns-in-Ok-Again
+returns-in-Ok-Again g c = record {
+  opens = λ input output place others.
+      let begun = subst (IsBegun _ _ _) c.in-Ok-Again.field-0-is (c.in-Ok-Again.ensures.begins input output place others) in
+      goes_on_at _ _ _ c.in-Ok-Again.start c.go_on.result begun (c.go_on.ensures (held_header _ _ _ _ begun))
+      (reads_for _ _ _ _ (λ e. absurd e) c.in-Ok-Again.ensures.reads) c.in-Ok-Again.ensures.reach (looks_for _ _ _ _ (λ e. absurd e) c.in-Ok-Again.ensures.looks)
+      c.in-Ok-Again.ensures.faults.kept c.in-Ok-Again.ensures.since refl;
+}

@@ -2,7 +2,7 @@ use Rattle.std.proofs.Common.{refl, arith}
 use Rattle.ks_top.specs.declared.fault.Fault.TheVariants as fault
 use Rattle.ks_top.specs.steps.PasswordReads.{IsRecordFault, StopsPassword}
 use Rattle.ks_top.proofs.PasswordLemmas.{drew_nothing_once, of_fault, record_is, unread_ends, unread_is}
-use Rattle.ks_top.proofs.TalkLemmas.{reads_for}
+use Rattle.ks_top.proofs.CountLemmas.{reads_for}
 use Rattle.ks_top.proofs.password.make_record.Goals as goal
 
 pub returns-in-Ok-clause-told : goal.returns-in-Ok-clause-told

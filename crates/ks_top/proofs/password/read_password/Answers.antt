@@ -1,7 +1,7 @@
 use Rattle.ks_top.specs.declared.fault.Fault.TheVariants as fault
 use Rattle.ks_top.specs.steps.PasswordReads.{LacksPassword}
 use Rattle.ks_top.proofs.PasswordLemmas.{given_by, of_fault, stops_by, stops_unread}
-use Rattle.ks_top.proofs.TalkLemmas.{reads_for}
+use Rattle.ks_top.proofs.CountLemmas.{reads_for}
 use Rattle.ks_top.proofs.password.read_password.Goals as goal
 
 pub returns-in-Ok-clause-given : goal.returns-in-Ok-clause-given

@@ -12,8 +12,8 @@ returns-in-Ok-Check g c first others e =
       first,
       others,
       e,
-      runs_by _ _ _ asked.Check _ _ _ _ is
-          (checks _ _ c.check.result _ c.of.ensures.fault c.check.ensures.told c.check.ensures.causes c.check.ensures.reads c.check.ensures.writes refl, c.of.ensures.state),
+      rw c.of.ensures.end (runs_by _ _ _ _ asked.Check _ _ _ _ is
+          (checks _ _ c.check.result _ c.of.ensures.fault c.check.ensures.told c.check.ensures.causes c.check.ensures.reads c.check.ensures.writes refl, refl)),
     )
 
 pub returns-in-Ok-Talk : goal.returns-in-Ok-Talk
@@ -25,7 +25,7 @@ returns-in-Ok-Talk g c first others e =
       (c.talk-outcome.new.desk, c.talk-outcome.new.place),
       others,
       rw e refl,
-      runs_by _ _ _ (asked.Talk c.in-Ok-Talk._places) _ _ _ _ is (c.talk-outcome.ensures others),
+      runs_by _ _ _ _ (asked.Talk c.in-Ok-Talk._places) _ _ _ _ is (c.talk-outcome.ensures others),
     )
 
 pub returns-in-Ok-Setup : goal.returns-in-Ok-Setup
@@ -37,7 +37,7 @@ returns-in-Ok-Setup g c first others e =
       (c.set_up.new.desk, c.index_mut-in-Ok-Setup.result.now.1),
       others,
       rw e refl,
-      runs_by _ _ _ (asked.Setup c.in-Ok-Setup._places) _ _ _ _ is (
+      rw c.of-outcome.ensures.end (runs_by _ _ _ _ (asked.Setup c.in-Ok-Setup._places) _ _ _ _ is (
         sets_up _ _ c.set_up.result _ c.of-outcome.ensures.fault c.set_up.ensures.told (record {
           causes = c.set_up.ensures.causes;
           folder = c.set_up.ensures.folder;
@@ -46,8 +46,8 @@ returns-in-Ok-Setup g c first others e =
           desk = c.set_up.ensures.kept;
           others = refl;
         }) c.set_up.ensures.fills,
-        c.of-outcome.ensures.state,
-      ),
+        refl,
+      )),
     )
 
 pub returns-in-Ok-Rotate : goal.returns-in-Ok-Rotate
@@ -59,7 +59,7 @@ returns-in-Ok-Rotate g c first others e =
       (c.rotate.new.desk, c.index_mut-in-Ok-Rotate.result.now.1),
       others,
       rw e refl,
-      runs_by _ _ _ (asked.Rotate c.in-Ok-Rotate._places c.in-Ok-Rotate.max) _ _ _ _ is (
+      rw c.of-outcome-in-Ok-Rotate.ensures.end (runs_by _ _ _ _ (asked.Rotate c.in-Ok-Rotate._places c.in-Ok-Rotate.max) _ _ _ _ is (
         rotates c.in-Ok-Rotate.max _ _ c.rotate.result _ c.of-outcome-in-Ok-Rotate.ensures.fault c.rotate.ensures.told (record {
           causes = c.rotate.ensures.causes;
           folder = c.rotate.ensures.folder;
@@ -68,8 +68,8 @@ returns-in-Ok-Rotate g c first others e =
           desk = c.rotate.ensures.kept;
           others = refl;
         }) c.rotate.ensures.fills,
-        c.of-outcome-in-Ok-Rotate.ensures.state,
-      ),
+        refl,
+      )),
     )
 
 pub returns-in-Ok-Serve : goal.returns-in-Ok-Serve
@@ -77,7 +77,7 @@ unfolding Does
 returns-in-Ok-Serve g c first others e =
     let is : asked.Serve c.in-Ok-Serve.places c.in-Ok-Serve.connections ≡ words_of c.args.words.now = (let w = c.in-Ok-Serve.ensures.words in let i = c.in-Ok-Serve.field-0-is in cc) in
     let s = c.serve.ensures (g.S.Stream.stream c.args.input.now) (g.K.Stream.stream c.args.output.now) first others e in
-    (s.0, s.1, s.2, runs_by _ _ _ (asked.Serve c.in-Ok-Serve.places c.in-Ok-Serve.connections) _ _ _ _ is s.3)
+    (s.0, s.1, s.2, runs_by _ _ _ _ (asked.Serve c.in-Ok-Serve.places c.in-Ok-Serve.connections) _ _ _ _ is s.3)
 
 pub returns-in-Ok-Password : goal.returns-in-Ok-Password
 unfolding Does
@@ -88,7 +88,7 @@ returns-in-Ok-Password g c first others e =
       (c.make_record.new.desk, c.index_mut-in-Ok-Password.result.now.1),
       others,
       rw e refl,
-      runs_by _ _ _ (asked.Password c.in-Ok-Password.rounds) _ _ _ _ is (
+      rw c.of-outcome-in-Ok-Password.ensures.end (runs_by _ _ _ _ (asked.Password c.in-Ok-Password.rounds) _ _ _ _ is (
         makes_record c.in-Ok-Password.rounds _ _ c.make_record.result _ c.of-outcome-in-Ok-Password.ensures.fault (record {
           told = c.make_record.ensures.told;
           causes = c.make_record.ensures.causes;
@@ -99,16 +99,16 @@ returns-in-Ok-Password g c first others e =
           writes = c.make_record.ensures.writes;
           others = refl;
         }),
-        c.of-outcome-in-Ok-Password.ensures.state,
-      ),
+        refl,
+      )),
     )
 
 pub returns-in-Ok-Usage : goal.returns-in-Ok-Usage
 unfolding Does
 returns-in-Ok-Usage g c first others e =
     let is : asked.Usage ≡ words_of c.args.words.now = (let w = c.in-Ok-Usage.ensures.words in let i = c.in-Ok-Usage.field-0-is in cc) in
-    (first, others, e, runs_by _ _ _ asked.Usage _ _ _ _ is (c.stopped.ensures.fault, refl, c.stopped.ensures.state))
+    (first, others, e, rw c.stopped.ensures.end (runs_by _ _ _ _ asked.Usage _ _ _ _ is (c.stopped.ensures.fault, refl, refl)))
 
 pub returns-in-Err : goal.returns-in-Err
 unfolding Runs
-returns-in-Err g c first others e = (first, others, e, inr (c.stopped-in-Err.ensures.fault, refl, c.stopped-in-Err.ensures.state))
+returns-in-Err g c first others e = (first, others, e, rw c.stopped-in-Err.ensures.end (inr (c.stopped-in-Err.ensures.fault, refl, refl)))

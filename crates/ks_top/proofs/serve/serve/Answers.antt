@@ -1,28 +1,26 @@
-use Rattle.std.proofs.Common.{◌≡◌, refl}
-use Rattle.ks_policy.specs.Openings.{plain}
-use Rattle.ks_top.proofs.TalkLemmas.{looks_for, reads_for, stopped_by}
+use Rattle.std.proofs.Common.{◌≡◌, [], refl}
+use Rattle.ks_top.proofs.OpenedLemmas.{opened_then}
 use Rattle.ks_top.proofs.serve.serve.Goals as goal
+
+pub serve_desks-fault-requires-clause-stands : goal.serve_desks-fault-requires-clause-stands
+serve_desks-fault-requires-clause-stands g c κs lives =
+    (c.in-Ok.ensures.opens (g.F.Stream.stream c.args.file.now) (g.F.Stream.stream c.args.file.now) (g.D.KeyDir.dir c.args.dir.now) []).stands
+
+pub serve_desks-fault-requires-clause-book : goal.serve_desks-fault-requires-clause-book
+serve_desks-fault-requires-clause-book g c κs lives =
+    (c.in-Ok.ensures.opens (g.F.Stream.stream c.args.file.now) (g.F.Stream.stream c.args.file.now) (g.D.KeyDir.dir c.args.dir.now) []).book
+
+pub serve_desks-fault-requires-clause-url : goal.serve_desks-fault-requires-clause-url
+serve_desks-fault-requires-clause-url g c κs lives =
+    (c.in-Ok.ensures.opens (g.F.Stream.stream c.args.file.now) (g.F.Stream.stream c.args.file.now) (g.D.KeyDir.dir c.args.dir.now) []).url
 
 pub returns-in-Ok : goal.returns-in-Ok
 returns-in-Ok g c input output first others e =
     let given : c.index_mut.result.now ≡ first = rw e at c.index_mut.ensures.value in
-    let s = c.serve_desks-fault.ensures input output (g.F.Stream.stream c.args.file.now) (g.F.Stream.stream c.open.new.file) (g.D.KeyDir.dir c.args.dir.now) (g.D.KeyDir.dir c.open.new.dir)
-    (g.P.Desk.desk c.index_mut.result.now.0) (c.open.new.desk, c.index_mut.result.now.1) others (rw e refl) in
-    rw (← given) (
-      s.0,
-      s.1,
-      s.2,
-      record {
-        opening = plain c.in-Ok.opened.opening.value;
-        desk = g.P.Desk.desk c.open.new.desk;
-        opened = c.in-Ok.ensures.opens;
-        lawful = c.in-Ok.ensures.lawful;
-        file = reads_for _ ⊥ _ _ (λ x. absurd x) c.in-Ok.ensures.reads;
-        reach = c.open.ensures.reach;
-        folder = looks_for _ ⊥ _ _ (λ x. absurd x) c.in-Ok.ensures.looks;
-        done = s.3;
-      },
-    )
+    let opened = c.in-Ok.ensures.opens input output (g.D.KeyDir.dir c.index_mut.result.now.1) others in
+    let s = c.serve_desks-fault.ensures.served input output (g.F.Stream.stream c.args.file.now) (g.F.Stream.stream c.open.new.file) (g.D.KeyDir.dir c.args.dir.now) (g.D.KeyDir.dir c.open.new.dir)
+    (g.P.Desk.desk c.index_mut.result.now.0) (c.open.new.desk, c.index_mut.result.now.1) others c.args.keeper (rw e refl) in
+    rw (← given) (s.0, s.1, s.2, (refl, opened_then _ _ _ _ _ _ opened c.serve_desks-fault.ensures.since refl refl s.3))
 
 pub returns-in-Err : goal.returns-in-Err
 returns-in-Err g c input output first others e =
@@ -31,5 +29,5 @@ returns-in-Err g c input output first others e =
       (c.open.new.desk, c.index_mut.result.now.1),
       others,
       rw e refl,
-      rw (c.stopped.ensures.fault, c.stopped.ensures.state) (stopped_by _ _ _ c.in-Err.fault c.in-Err.ensures.stops c.open.ensures.reach c.in-Err.ensures.reads c.in-Err.ensures.looks refl),
+      rw (c.stopped.ensures.fault, c.stopped.ensures.end) (c.in-Err.ensures.opens input output (g.D.KeyDir.dir c.index_mut.result.now.1) others),
     )
