@@ -160,6 +160,22 @@ def try_refusals(work):
         run(words, 2, "", USAGE)
 
 
+def try_closed_streams(work):
+    """Commands whose standard streams are closed: no key file gets the number of one, and is written in its place."""
+    for number, closed in enumerate((">&-", "2>&-", "<&- >&- 2>&-")):
+        folder = os.path.join(work, f"streams{number}")
+        os.mkdir(folder)
+        status = 0 if closed == "2>&-" else 4
+        for words, names in ((f"setup {folder}", "0 1"), (f"rotate {folder}", "0 1 2")):
+            words = ["sh", "-c", f'exec "$0" {words} {closed}', KS]
+            ended = subprocess.run(words, stdin=subprocess.DEVNULL, capture_output=True, check=False)
+            expect(f"the status of {words}", ended.returncode, status)
+            held = files(folder)
+            expect(f"the files of {words}", sorted(held), names.split())
+            for content in held.values():
+                key(content)
+
+
 def try_closed(work):
     """A folder that may be read and not changed, as another user where this is the one that may do all."""
     options = {}
@@ -258,6 +274,7 @@ def main():
             part(folder)
         try_refusals(work)
         try_stops(work)
+        try_closed_streams(work)
         try_closed(work)
     finally:
         shutil.rmtree(work)

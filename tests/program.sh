@@ -195,5 +195,20 @@ if [ -w /dev/full ]; then
     is 4 '' 'ks: standard output could not be written'
 fi
 
+# Standard streams that are closed. No file gets the number of one: what is said on the standard error stands in no log.
+status=0
+"$ks" check <&- >"$work/out" 2>"$work/err" || status=$?
+is 3 '' 'ks: standard input could not be read'
+: >"$work/out"
+status=0
+printf '%s\n1 a\n' "$key" | "$ks" check >&- 2>"$work/err" || status=$?
+is 4 '' 'ks: standard output could not be written'
+: >"$work/err"
+status=0
+fresh examples/o1.json
+"$ks" serve "$fresh" keys 192.0.2.1:5000 --log "$work/log" </dev/null >/dev/null 2>&- || status=$?
+cp "$work/log" "$work/out"
+is 10 '' ''
+
 echo "program: $runs runs, $wrong ended otherwise"
 [ "$wrong" = 0 ]

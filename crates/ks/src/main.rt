@@ -11,6 +11,7 @@ mod log_file;
 mod modes;
 mod named;
 mod opening_file;
+mod standard_streams;
 mod threads;
 
 use book::{book_of, path_of_book};
@@ -105,6 +106,10 @@ fn opened(rt: &HostRuntime, path: &str) -> Option<File> {
 }
 
 fn main(rt: HostRuntime) -> ExitCode {
+    if !standard_streams::hold() {
+        named::tell(&rt, &Fault::Write);
+        return ExitCode::from(Fault::Write.status());
+    }
     let words = match words(&rt) {
         Ok(words) => words,
         Err(fault) => {
