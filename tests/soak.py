@@ -7,7 +7,8 @@ token is what it may be.
 Each client is a user of its own, who logs in, validates, revokes tokens and changes the own password, and every fourth one also
 makes, changes and drops groups, while the keys rotate. Every second client closes or resets some connections behind a random byte
 of a request. Beside them are clients that send a head or a body byte by byte, and clients that ask on and on and never read. A client notes of each token that it got whether it has to be valid, has to be refused, or may be either, as where a
-revocation was cut off behind its last byte. Each answer has to agree with that, and at the end each token is validated once more.
+revocation was cut off behind its last byte. Each answer has to agree with that, and at the end each token is validated once more,
+and again behind each of three restarts, of which the first follows on a SIGKILL.
 It also prints how much memory was resident at first and at last, which may grow by the rows and the remembered changes alone.
 
 SECONDS are 600 where they are not said. The program is the second word, the environment's KS, or bin/ks of this repository. The exit
@@ -21,6 +22,7 @@ import multiprocessing
 import os
 import random
 import shutil
+import signal
 import socket
 import struct
 import sys
@@ -34,6 +36,7 @@ from served import Connection, Failure, Server, exchange, login, main_of, progra
 
 CLIENTS, PROCESSES, WORKERS = 500, 8, 4
 SLOW_HEADS, SLOW_BODIES, NEVER_READ = 60, 60, 10
+RESTARTS = 3
 ROUNDS = 200
 PROJECT, ADMIN, MEMBER = "a" * 32, "b" * 32, "c" * 32
 
@@ -373,9 +376,18 @@ def soaked(program, seconds, work):
         wrong = [why for part in told for why in part[0]]
         require(not wrong, "\n".join(wrong))
         did = sum((part[1] for part in told), collections.Counter())
-        found = validate_all(server.port, keeper.token, [token for part in told for token in part[2]])
+        tokens = [token for part in told for token in part[2]]
+        found = validate_all(server.port, keeper.token, tokens)
         last, groups = server.memory(), sum(part[3] for part in told)
         require(server.lines == [server.listening], f"the server said {server.lines}")
+        server.process.send_signal(signal.SIGKILL)
+        server.process.wait()
+    for _ in range(RESTARTS):
+        with Server(program, file, folder, WORKERS) as server:
+            keeper.server = server
+            keeper.log_in()
+            again = validate_all(server.port, keeper.token, tokens)
+            require(again == found, f"behind a restart: {dict(again)} for {dict(found)}")
     rows, changes = revoked.value + groups, min(REMEMBERED, revoked.value + did["group"] + keeper.rotations)
     explained = rows * ROW + changes * CHANGE + SPARE
     print(f"soak: {dict(did)}, {keeper.rotations} rotations; at the end {dict(found)}")
