@@ -10,14 +10,13 @@ import resource
 import shutil
 import subprocess
 import sys
-import tempfile
 import time
 
 sys.dont_write_bytecode = True
 TOP = os.path.dirname(os.path.dirname(os.path.abspath(__file__)))
 sys.path.insert(0, os.path.join(TOP, "tests"))
 from crowd import Clients, Harm, limited, percentile, questions
-from served import Connection, Failure, Server, require, run
+from served import Connection, Failure, Server, fresh, measure_in_folder, require, run
 
 O1 = os.path.join(TOP, "examples", "o1.json")
 WORKERS, PROCESSES = 4, 2
@@ -94,31 +93,28 @@ def by_wrk(server, work, asked, seconds):
     print("wrk, 4 connections:", " ".join(line.strip() for line in said.stdout.decode().splitlines() if "Requests/sec" in line or "Non-2xx" in line))
 
 
-def main():
+def measure(program, seconds, work):
     """All rows."""
-    program, seconds, work = sys.argv[1], int(sys.argv[2]), tempfile.mkdtemp()
     hard = resource.getrlimit(resource.RLIMIT_NOFILE)[1]
     resource.setrlimit(resource.RLIMIT_NOFILE, (min(hard, 20_000) if hard > 0 else 20_000, hard))
-    try:
-        folder = os.path.join(work, "keys")
-        os.mkdir(folder, 0o700)
-        run(program, "setup", folder)
-        with Server(program, O1, folder, WORKERS) as server:
-            token, asked = questions(server.port)
-            tell(f"{CROWD} kept clients", crowd(server.port, asked[:1], CROWD, seconds))
-            harm = Harm(server.port, token, SLOW_HEADS, SLOW_BODIES, NEVER_READ)
-            tell("the same beside slow and deaf clients", crowd(server.port, asked[:1], CROWD, seconds))
-            harm.end()
-            by_wrk(server, work, asked, seconds)
-        with Server(program, O1, folder, WORKERS) as server:
-            idle_crowd(server, questions(server.port)[1], seconds)
-        beyond_descriptors(program, folder)
-    except (Failure, OSError) as why:
-        print(f"crowd: {why}", file=sys.stderr)
-        return 1
-    finally:
-        shutil.rmtree(work, ignore_errors=True)
-    return 0
+    folder = os.path.join(work, "keys")
+    os.mkdir(folder, 0o700)
+    run(program, "setup", folder)
+    with Server(program, fresh(O1), folder, WORKERS) as server:
+        token, asked = questions(server.port)
+        tell(f"{CROWD} kept clients", crowd(server.port, asked[:1], CROWD, seconds))
+        harm = Harm(server.port, token, SLOW_HEADS, SLOW_BODIES, NEVER_READ)
+        tell("the same beside slow and deaf clients", crowd(server.port, asked[:1], CROWD, seconds))
+        harm.end()
+        by_wrk(server, work, asked, seconds)
+    with Server(program, fresh(O1), folder, WORKERS) as server:
+        idle_crowd(server, questions(server.port)[1], seconds)
+    beyond_descriptors(program, folder)
+
+
+def main():
+    program, seconds = sys.argv[1], int(sys.argv[2])
+    return measure_in_folder("crowd", lambda work: measure(program, seconds, work))
 
 
 if __name__ == "__main__":

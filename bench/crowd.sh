@@ -9,14 +9,6 @@
 #
 # It needs 10,000 descriptors (`ulimit -n`). The program is bin/ks of this repository; the environment's KS names another.
 set -e
-top=$(cd "$(dirname "$0")/.." && pwd)
-ks=${KS:-$top/bin/ks}
-
-if [ ! -x "$ks" ]; then
-    echo "crowd: there is no program $ks" >&2
-    exit 1
-fi
-# bin/ks may have to build the program first.
-"$ks" talk "$top/examples/o1.json" keys < /dev/null
+. "$(dirname "$0")/built.sh"
 
 exec python3 "$top/bench/crowd.py" "$ks" "${1:-30}"

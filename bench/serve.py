@@ -11,13 +11,12 @@ import re
 import shutil
 import subprocess
 import sys
-import tempfile
 import time
 
 sys.dont_write_bytecode = True
 TOP = os.path.dirname(os.path.dirname(os.path.abspath(__file__)))
 sys.path.insert(0, os.path.join(TOP, "tests"))
-from served import Connection, Failure, Server, exchange, login, project_scope, request, require, run
+from served import Connection, Failure, Server, exchange, login, measure_in_folder, project_scope, request, require, run
 
 O1 = os.path.join(TOP, "examples", "o1.json")
 WORKERS = (1, 4)
@@ -179,15 +178,7 @@ def measure(program, seconds, work):
 
 def main():
     program, seconds = sys.argv[1], int(sys.argv[2])
-    work = tempfile.mkdtemp()
-    try:
-        measure(program, seconds, work)
-    except (Failure, OSError, subprocess.SubprocessError) as why:
-        print(f"serve: {why}", file=sys.stderr)
-        return 1
-    finally:
-        shutil.rmtree(work, ignore_errors=True)
-    return 0
+    return measure_in_folder("serve", lambda work: measure(program, seconds, work))
 
 
 if __name__ == "__main__":

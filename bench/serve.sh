@@ -10,14 +10,6 @@
 #
 # The program is bin/ks of this repository; the environment's KS names another.
 set -e
-top=$(cd "$(dirname "$0")/.." && pwd)
-ks=${KS:-$top/bin/ks}
-
-if [ ! -x "$ks" ]; then
-    echo "serve: there is no program $ks" >&2
-    exit 1
-fi
-# bin/ks may have to build the program first.
-"$ks" talk "$top/examples/o1.json" keys < /dev/null
+. "$(dirname "$0")/built.sh"
 
 exec python3 "$top/bench/serve.py" "$ks" "${1:-10}"

@@ -84,7 +84,7 @@ def asked(run, requests, wanted):
 
 def opened(ks, path, token):
     """`KS talk` over this opening file, which has answered a validation of the token."""
-    run = subprocess.Popen([ks, "talk", path, "keys"], stdin=subprocess.PIPE, stdout=subprocess.PIPE)
+    run = subprocess.Popen([ks, "talk", talk.fresh(path), "keys"], stdin=subprocess.PIPE, stdout=subprocess.PIPE)
     run.stdin.write(talk.validation(token))
     run.stdin.flush()
     if statuses(run.stdout, 1) != {200: 1}:

@@ -9,5 +9,5 @@
 set -e
 top=$(cd "$(dirname "$0")/.." && pwd)
 # bin/ks may have to build the program first, and is a script that becomes it.
-[ -n "$KS" ] || "$top/bin/ks" talk "$top/examples/o1.json" keys < /dev/null
+[ -n "$KS" ] || "$top/bin/ks" check < "$top/examples/check.txt" > /dev/null
 exec python3 "$top/bench/tables.py" "${KS:-$top/crates/ks/out/ks}" "${1:-500}"

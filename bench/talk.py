@@ -16,7 +16,12 @@ import sys
 import threading
 import time
 
-O1 = os.path.join(os.path.dirname(os.path.dirname(os.path.abspath(__file__))), "examples", "o1.json")
+sys.dont_write_bytecode = True
+TOP = os.path.dirname(os.path.dirname(os.path.abspath(__file__)))
+sys.path.insert(0, os.path.join(TOP, "tests"))
+from served import fresh
+
+O1 = os.path.join(TOP, "examples", "o1.json")
 
 REQUEST = b"GET /v3 HTTP/1.1\r\n\r\n"
 
@@ -55,7 +60,6 @@ def validation(token):
 
 def sealed():
     """A token of the first user on the project, sealed with the first key of the examples by the second reading."""
-    sys.path.insert(0, os.path.join(os.path.dirname(os.path.dirname(os.path.abspath(__file__))), "tests"))
     from second_reading.ciphers import key_of, seal
 
     with open(O1, encoding="utf-8") as file:
@@ -67,7 +71,7 @@ def sealed():
 
 def validate(requests, path, ks):
     """Validations a second over one connection, behind a login."""
-    run = subprocess.Popen([ks, "talk", path, "keys"], stdin=subprocess.PIPE, stdout=subprocess.PIPE)
+    run = subprocess.Popen([ks, "talk", fresh(path), "keys"], stdin=subprocess.PIPE, stdout=subprocess.PIPE)
     unit = validation(sealed())
     began = time.monotonic()
     run.stdin.write(unit)
@@ -95,7 +99,7 @@ def report(how, requests, seconds):
 def pipelined(path, requests, ks):
     with open(path, "rb") as file:
         began = time.monotonic()
-        run = subprocess.run([ks, "talk", O1, "keys"], stdin=file, stdout=subprocess.PIPE)
+        run = subprocess.run([ks, "talk", fresh(O1), "keys"], stdin=file, stdout=subprocess.PIPE)
         seconds = time.monotonic() - began
     if run.returncode != 0 or run.stdout != RESPONSE * requests:
         fail("the responses to pipelined requests are not those that were expected")
@@ -103,7 +107,7 @@ def pipelined(path, requests, ks):
 
 
 def in_turn(requests, ks):
-    run = subprocess.Popen([ks, "talk", O1, "keys"], stdin=subprocess.PIPE, stdout=subprocess.PIPE, bufsize=0)
+    run = subprocess.Popen([ks, "talk", fresh(O1), "keys"], stdin=subprocess.PIPE, stdout=subprocess.PIPE, bufsize=0)
     began = time.monotonic()
     for _ in range(requests):
         run.stdin.write(REQUEST)

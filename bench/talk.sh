@@ -8,18 +8,10 @@
 #
 # The program is bin/ks of this repository; the environment's KS names another.
 set -e
-top=$(cd "$(dirname "$0")/.." && pwd)
-ks=${KS:-$top/bin/ks}
+. "$(dirname "$0")/built.sh"
 requests=${1:-100000}
 work=$(mktemp -d)
 trap 'rm -rf "$work"' EXIT
-
-if [ ! -x "$ks" ]; then
-    echo "talk: there is no program $ks" >&2
-    exit 1
-fi
-# bin/ks may have to build the program first.
-"$ks" talk "$top/examples/o1.json" keys < /dev/null
 
 # The program itself, since bin/ks is a script that becomes it.
 program=${KS:-$top/crates/ks/out/ks}
@@ -39,10 +31,17 @@ if ! command -v valgrind > /dev/null; then
     exit 0
 fi
 
+# A copy of an opening file of which nothing is kept yet.
+fresh() {
+    place=$(mktemp -d -p "$work")
+    cp "$1" "$place"
+    echo "$place/${1##*/}"
+}
+
 # What N requests take, beside none.
 instructions() {
     python3 "$top/bench/talk.py" make "$1" > "$work/input"
-    valgrind --tool=callgrind --callgrind-out-file="$work/counts.$1" "$program" talk "$top/examples/o1.json" keys \
+    valgrind --tool=callgrind --callgrind-out-file="$work/counts.$1" "$program" talk "$(fresh "$top/examples/o1.json")" keys \
         < "$work/input" > /dev/null 2> "$work/log"
     sed -n 's/^.*Collected : //p' "$work/log"
 }
@@ -51,7 +50,7 @@ instructions() {
 validation() {
     for times in 100 1100; do
         python3 "$top/bench/talk.py" sealed "$times" "$work/input"
-        valgrind --tool=callgrind --callgrind-out-file="$work/validations" "$program" talk "$work/opening.$1.json" keys \
+        valgrind --tool=callgrind --callgrind-out-file="$work/validations" "$program" talk "$(fresh "$work/opening.$1.json")" keys \
             < "$work/input" > /dev/null 2> "$work/log"
         sed -n 's/^.*Collected : //p' "$work/log" > "$work/taken.$times"
     done
