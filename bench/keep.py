@@ -54,13 +54,20 @@ def changes(port, project):
     return [request("PATCH", f"/v3/projects/{project}", body, token) for body in bodies]
 
 
+def loaded(work, port, clients, requests, depth, seconds):
+    """Responses a second, the median and the 99th percentile in milliseconds, by wrk where there is one."""
+    if shutil.which("wrk"):
+        return serve.by_wrk(work, port, clients, requests, seconds)
+    return serve.by_python(port, clients, requests, depth, seconds)
+
+
 def made(program, work, folder, seconds):
     """Prints how many changes a second are made, and how large the book then is."""
     file, project = serve.opening(work)
     for clients in (1, 4):
         begun = fresh(file)
         with Server(program, begun, folder, 4) as server:
-            rate, half, most = serve.by_python(server.port, clients, changes(server.port, project), 1, seconds)
+            rate, half, most = loaded(work, server.port, clients, changes(server.port, project), 1, seconds)
             print(f"changes, {clients} at once: {rate:,.0f} a second, p50 {half:.3f} ms, p99 {most:.3f} ms; "
                   f"the book has {size(begun + '.book'):.1f} MiB and its log {size(begun + '.book-wal'):.1f}", flush=True)
 
@@ -72,10 +79,7 @@ def validations(what, program, work, folder, seconds):
         rows = {row[0]: row for row in serve.loads(server.port, project)}
         for name in (f"validations of {serve.TOKENS:,} tokens", "validations with a change in a hundred"):
             _, requests, depth = rows[name]
-            if shutil.which("wrk"):
-                rate, half, most = serve.by_wrk(work, server.port, 4, requests, seconds)
-            else:
-                rate, half, most = serve.by_python(server.port, 4, requests, depth, seconds)
+            rate, half, most = loaded(work, server.port, 4, requests, depth, seconds)
             print(f"{name}{what}: {rate:,.0f} a second, p50 {half:.3f} ms, p99 {most:.3f} ms", flush=True)
 
 
