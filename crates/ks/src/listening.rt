@@ -4,7 +4,7 @@ ghost use Rattle.std.specs.Prelude.{◌<◌, IfOk, length};
 use ks_base::Memory;
 use ks_outside::Folder;
 use ks_pool::{Log, Pool, RealDesk};
-use ks_setup::{Places, Words};
+use ks_words::{Places, Words};
 use mio::net::TcpListener;
 use std::io;
 use std::io::ErrorKind;

@@ -12,7 +12,7 @@ use Rattle.ks_machine.specs.Attempts.{everything}
 use Rattle.ks_machine.specs.Fronts.{Front, after, answer, change_of, replay, then as goes_on}
 use Rattle.ks_machine.specs.Moment.{moment_of}
 use Rattle.ks_machine.specs.Steps.{step}
-use Rattle.ks_plan.specs.declared.halt.Needs.{Needs}
+use Rattle.ks_checks.specs.declared.halt.Needs.{Needs}
 use Rattle.ks_state.specs.declared.decision.Decision.TheVariants as decision
 use Rattle.ks_state.specs.Decides.{DecidedBy, IsAsked, Replied, with_kept}
 use Rattle.ks_state.specs.Shown.{Shown}

@@ -14,7 +14,7 @@ use Rattle.ks_machine.specs.Openings.{NamedRule}
 use Rattle.ks_machine.specs.States.{State}
 use Rattle.ks_plan.specs.Demands.{by_demands}
 use Rattle.ks_plan.specs.Planned.{by_parties}
-use Rattle.ks_plan.specs.Plans.{HasBytes}
+use Rattle.ks_checks.specs.Plans.{HasBytes}
 
 pub demands_are : (known : Known) (S : State) (rules : List NamedRule) (rows : Rows) (moment : ℕ) (call : Call) →
     by_demands known S rules rows moment call (requirements call.command) ≡ by_parties known S rules rows moment call

@@ -15,8 +15,8 @@ use Rattle.ks_machine.specs.declared.settings.Settings.{Settings}
 use Rattle.ks_machine.specs.Keys.{keys_read, load_keys, rotate_keys, told_keys}
 use Rattle.ks_machine.specs.Outcomes.{key}
 use Rattle.ks_machine.specs.States.{State}
-use Rattle.ks_plan.specs.Plans.{outcome_of}
-use Rattle.ks_plan.specs.declared.plan.Plan.{Plan}
+use Rattle.ks_checks.specs.Plans.{outcome_of}
+use Rattle.ks_checks.specs.declared.plan.Plan.{Plan}
 use Rattle.ks_ring.specs.declared.held_key.HeldKey.{HeldKey}
 use Rattle.ks_ring.specs.Rings.{RingState, active, held_as, highest, is_staged, left_of, load_of, lowest_number, new_of, no_ring, numbered, promoted, promoted_to, rising, rotate_of}
 use Rattle.ks_plan.specs.KeysTold.{first_index, indices_of, indices_rotated, keys_told}

@@ -1,9 +1,4 @@
-pub mod Checked
 pub mod Demands
 pub mod KeysTold
-pub mod Logins
 pub mod Parties
 pub mod Planned
-pub mod Plans
-pub mod Tokens
-pub mod Views

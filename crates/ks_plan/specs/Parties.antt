@@ -2,8 +2,8 @@
 use Rattle.std.specs.Prelude.{List, option_map, IfSome}
 use Rattle.ks_base.specs.declared.users.UserRow.{UserRow}
 use Rattle.ks_plan.specs.Planned as planned
-use Rattle.ks_plan.specs.Plans.{valid_of}
-use Rattle.ks_plan.specs.Tokens.{IsUsable}
+use Rattle.ks_checks.specs.Plans.{valid_of}
+use Rattle.ks_checks.specs.Tokens.{IsUsable}
 use Rattle.ks_plan.specs.declared.allowed.Parties.{Parties}
 
 abbrev pub parties_of : Parties → planned.Parties

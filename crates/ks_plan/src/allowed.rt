@@ -5,20 +5,20 @@ ghost use Rattle.ks_auth.specs.Answers.{Tells, rows_told};
 ghost use Rattle.ks_auth.specs.Facts.{told};
 ghost use Rattle.ks_machine.specs.States.{State};
 ghost use Rattle.ks_plan.specs.Planned.{admitted, allows_by, is_late, subject_asked};
-ghost use Rattle.ks_plan.specs.Plans.{Gives, Passes, valid_of};
+ghost use Rattle.ks_checks.specs.Plans.{Gives, Passes, valid_of};
 ghost use Rattle.ks_plan.specs.Parties.{AreUsable, parties_of};
-ghost use Rattle.ks_plan.specs.Views.{requirements_of};
-ghost use Rattle.ks_plan.specs.Tokens.{IsUsable};
+ghost use Rattle.ks_targets.specs.Views.{requirements_of};
+ghost use Rattle.ks_checks.specs.Tokens.{IsUsable};
 
-use crate::credentials::credentials;
-use crate::requirements::Requirements;
-use crate::targets::target_of;
-use crate::tokens::{caller_of, subject_of};
-use crate::{Caller, Halt};
 use ks_auth::{Facts, Tables};
 use ks_base::Text;
+use ks_checks::tokens::{caller_of, subject_of};
+use ks_checks::{Caller, Halt};
 use ks_machine::{Call, Cause, Command};
 use ks_policy::Rules;
+use ks_targets::Requirements;
+use ks_targets::credentials::credentials;
+use ks_targets::targets::target_of;
 use std::alloc::Global;
 
 /// The caller and the token that a call is about, each where the command asks for one.

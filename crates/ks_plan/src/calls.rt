@@ -15,37 +15,37 @@ ghost use Rattle.ks_machine.specs.Steps.{has_drawn, lacking_of, revoked_subject}
 ghost use Rattle.ks_plan.specs.Parties.{AreUsable, parties_of};
 ghost use Rattle.ks_plan.specs.Planned.{bytes_drawn, on_subject, own_checks, planned, subject_shown, told_of};
 ghost use Rattle.ks_plan.specs.Demands.{by_demands};
-ghost use Rattle.ks_plan.specs.Plans.{Gives, HasBytes, Passes, Plans, valid_of};
-ghost use Rattle.ks_plan.specs.Views.{requirements_of};
+ghost use Rattle.ks_checks.specs.Plans.{Gives, HasBytes, Passes, Plans, valid_of};
+ghost use Rattle.ks_targets.specs.Views.{requirements_of};
 
 use crate::allowed::{Parties, admitted};
-use crate::assignments::assignments;
-use crate::catalog_creations::create_catalog;
-use crate::catalog_kinds::catalog_kind;
-use crate::catalog_shown::show_catalog;
-use crate::catalog_updates::update_catalog;
-use crate::checks::need;
-use crate::creations::create;
-use crate::draws::made_id;
 use crate::events::events;
-use crate::grants::{grant, grants_of, is_granted, ungrant};
 use crate::keys::{is_failed, load_keys, rotate_keys};
-use crate::listings::list;
-use crate::login::{change_password, login};
-use crate::members::{
-    groups_of, implication, implied, imply, is_implied, is_in, join, leave, members_of, unimply,
-};
-use crate::requirements::{Requirements, required};
-use crate::single::{delete, get};
-use crate::tokens::{caller_of, missing};
-use crate::told::told_token;
-use crate::trusts::{create_trust, delete_trust, get_trust, list_trusts, roles_of_trust};
-use crate::updates::update;
-use crate::{Caller, Halt, Plan};
 use ks_auth::{Facts, Tables};
 use ks_base::{Drawn, Text};
+use ks_checks::checks::need;
+use ks_checks::draws::made_id;
+use ks_checks::tokens::{caller_of, missing};
+use ks_checks::told::told_token;
+use ks_checks::{Caller, Halt, Plan};
+use ks_delegations::trusts::{create_trust, delete_trust, get_trust, list_trusts, roles_of_trust};
+use ks_logins::login::{change_password, login};
 use ks_machine::{BodyOut, Call, Cause, Change, Command};
 use ks_policy::Rules;
+use ks_relations::assignments::assignments;
+use ks_relations::grants::{grant, grants_of, is_granted, ungrant};
+use ks_relations::members::{
+    groups_of, implication, implied, imply, is_implied, is_in, join, leave, members_of, unimply,
+};
+use ks_rows::catalog_creations::create_catalog;
+use ks_rows::catalog_shown::show_catalog;
+use ks_rows::catalog_updates::update_catalog;
+use ks_rows::creations::create;
+use ks_rows::listings::list;
+use ks_rows::single::{delete, get};
+use ks_rows::updates::update;
+use ks_targets::catalog_kinds::catalog_kind;
+use ks_targets::{Requirements, required};
 use std::alloc::Global;
 
 /// What the call is answered and which change it makes, by the tables of the moment and the facts that are known, in

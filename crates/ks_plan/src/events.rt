@@ -4,12 +4,12 @@ ghost use Rattle.ks_auth.specs.Answers.{Tells};
 ghost use Rattle.ks_base.specs.Revocation.{is_live};
 ghost use Rattle.ks_machine.specs.Listings.{events};
 ghost use Rattle.ks_machine.specs.States.{State};
-ghost use Rattle.ks_plan.specs.Plans.{outcome_of};
+ghost use Rattle.ks_checks.specs.Plans.{outcome_of};
 
-use crate::Plan;
 use ks_auth::Tables;
 use ks_base::limits::EVENT_GRACE;
 use ks_base::{EventList, EventRow, Memory, Text};
+use ks_checks::Plan;
 use ks_machine::BodyOut;
 use std::alloc::Global;
 

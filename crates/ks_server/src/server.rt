@@ -19,7 +19,7 @@ use ks_base::{Drawn, Receipt, Text};
 use ks_http::Request;
 use ks_machine::{Cause, Command, Reply};
 use ks_outside::{Desk, Gate, KeyDir, Sink};
-use ks_plan::required;
+use ks_targets::required;
 use ks_routes::{Routed, Routes};
 use ks_service::Answer;
 use ks_state::Decides;

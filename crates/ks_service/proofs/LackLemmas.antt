@@ -20,8 +20,8 @@ use Rattle.ks_machine.specs.Attempts.{Keys, Stored, Fresh, Lack}
 use Rattle.ks_machine.specs.Fronts.{Front, replay}
 use Rattle.ks_machine.specs.Outcomes.{salt}
 use Rattle.ks_machine.specs.States.{State}
-use Rattle.ks_plan.specs.declared.halt.Needs.{Needs}
-use Rattle.ks_plan.specs.Plans.{Names}
+use Rattle.ks_checks.specs.declared.halt.Needs.{Needs}
+use Rattle.ks_checks.specs.Plans.{Names}
 use Rattle.ks_ring.specs.declared.held_key.HeldKey.{HeldKey}
 use Rattle.ks_service.specs.declared.rounds.TheConstants.{DECISIONS}
 use Rattle.ks_service.specs.Work.{AreKept, IsDerived, IsDone, IsOpened, secrets_in}

@@ -11,7 +11,7 @@ use Rattle.ks_machine.specs.declared.call.Call.{Call}
 use Rattle.ks_machine.specs.declared.command.Command.{Command}
 use Rattle.ks_machine.specs.declared.command.Command.TheVariants as command
 use Rattle.ks_machine.specs.Ranges.{AreRounds}
-use Rattle.ks_plan.specs.declared.halt.Needs.{Needs}
+use Rattle.ks_checks.specs.declared.halt.Needs.{Needs}
 use Rattle.ks_ring.specs.declared.held_key.HeldKey.{HeldKey}
 
 -- what a command has that only ciphers can test: the text of the token with which it logs in, the password that it shows, and the

@@ -16,12 +16,12 @@ use Rattle.ks_shape.specs.Bodies.{whole_document}
 use Rattle.ks_shape.specs.Fields.{if_given, judged, needed, needed_value, optional, optional_value}
 use Rattle.ks_shape.specs.Places.{Place, entry_at, names, path_at}
 use Rattle.ks_shape.specs.Types.{any_text, count_of, list_of, whole}
-use Rattle.ks_setup.specs.declared.written.KeysFrom.{KeysFrom}
-use Rattle.ks_setup.specs.declared.written.KeysFrom.TheVariants.{Folder, File}
-use Rattle.ks_setup.specs.declared.written.Written.{Written}
-use Rattle.ks_setup.specs.Entries.{Entry, entries, entries_from, listed}
+use Rattle.ks_written.specs.declared.written.KeysFrom.{KeysFrom}
+use Rattle.ks_written.specs.declared.written.KeysFrom.TheVariants.{Folder, File}
+use Rattle.ks_written.specs.declared.written.Written.{Written}
+use Rattle.ks_written.specs.Entries.{Entry, entries, entries_from, listed}
 use Rattle.ks_setup.specs.Steps.{AreFew}
-use Rattle.ks_setup.specs.Written.{default_settings, document_of, domain_in, endpoint_in, file_of, folder_named, folder_text, grant_in, group_in, implication_in, key_in, key_texts, keys_from, keys_of, listed_or_named, member_in, project_in, region_in, role_in, service_in, settings_at, settings_in, settings_of, url_text, user_in, written_in}
+use Rattle.ks_written.specs.Written.{default_settings, document_of, domain_in, endpoint_in, file_of, folder_named, folder_text, grant_in, group_in, implication_in, key_in, key_texts, keys_from, keys_of, listed_or_named, member_in, project_in, region_in, role_in, service_in, settings_at, settings_in, settings_of, url_text, user_in, written_in}
 
 -- what was read in two parts was read in each
 parts : {A B F : Type 0} (r : Result A F) (f : A → Result B F) (b : B) → (r >>= f) ≡ Ok b → (a : A) × (r ≡ Ok a) × (f a ≡ Ok b)

@@ -5,9 +5,9 @@ use Rattle.std.specs.List.{concat}
 use Rattle.std.proofs.lemmas.List.Recursion.{is_count_by}
 use Rattle.ks_base.specs.declared.users.UserRow.{UserRow}
 use Rattle.ks_base.proofs.ListLemmas.{take_front, drop_front}
-use Rattle.ks_setup.specs.declared.written.WrittenPassword.{WrittenPassword}
-use Rattle.ks_setup.specs.declared.written.WrittenPassword.TheVariants.{Plain, Record}
-use Rattle.ks_setup.specs.declared.written.WrittenUser.{WrittenUser}
+use Rattle.ks_written.specs.declared.written.WrittenPassword.{WrittenPassword}
+use Rattle.ks_written.specs.declared.written.WrittenPassword.TheVariants.{Plain, Record}
+use Rattle.ks_written.specs.declared.written.WrittenUser.{WrittenUser}
 use Rattle.ks_setup.specs.Openings.{is_plain, password_row, passwords, user_row, users_from}
 use Rattle.ks_setup.specs.Steps.{Leaves}
 

@@ -20,10 +20,10 @@ use Rattle.ks_setup.specs.declared.derive.DrawFault.TheVariants as draw
 use Rattle.ks_setup.specs.declared.opening.Checked.{Checked}
 use Rattle.ks_setup.specs.declared.opening.OpeningFault.{OpeningFault}
 use Rattle.ks_setup.specs.declared.opening.OpeningFault.TheVariants.{Shape, Policy, BadKey, Random, Memory}
-use Rattle.ks_setup.specs.declared.written.Written.{Written}
+use Rattle.ks_written.specs.declared.written.Written.{Written}
 use Rattle.ks_setup.specs.Openings.{AnswersOpening, Opens, passwords}
 use Rattle.ks_setup.specs.Steps.{Checks, ChecksDocument, DrawsSalts, of_draw, of_shape, opened_with}
-use Rattle.ks_setup.specs.Written.{document_of, file_of, written_in}
+use Rattle.ks_written.specs.Written.{document_of, file_of, written_in}
 
 -- the document
 

@@ -20,17 +20,17 @@ use Rattle.ks_shape.specs.Types.{any_text, description_text, endpoint_url, id_te
 use Rattle.ks_shape.proofs.CatalogLemmas.{service_text_in, url_in}
 use Rattle.ks_shape.proofs.PropertyLemmas.{If, needed_in, optional_in, skip, step}
 use Rattle.ks_shape.proofs.RangeLemmas.{name_in, description_in, whole_in}
-use Rattle.ks_setup.specs.declared.written.Written.{Written}
-use Rattle.ks_setup.specs.declared.written.WrittenPassword.{WrittenPassword}
-use Rattle.ks_setup.specs.declared.written.WrittenPassword.TheVariants as password
-use Rattle.ks_setup.specs.declared.written.WrittenUser.{WrittenUser}
-use Rattle.ks_setup.specs.Entries.{Entry, entries, entries_from, if_listed, listed}
+use Rattle.ks_written.specs.declared.written.Written.{Written}
+use Rattle.ks_written.specs.declared.written.WrittenPassword.{WrittenPassword}
+use Rattle.ks_written.specs.declared.written.WrittenPassword.TheVariants as password
+use Rattle.ks_written.specs.declared.written.WrittenUser.{WrittenUser}
+use Rattle.ks_written.specs.Entries.{Entry, entries, entries_from, if_listed, listed}
 use Rattle.ks_setup.specs.Openings.{password_row, users_from}
 use Rattle.ks_setup.specs.Ranges.{OpensInRange}
-use Rattle.ks_setup.specs.Records.{counted_in, cut, record_in, rounds_in, salted_in, scheme, written_as, bytes_in}
-use Rattle.ks_setup.specs.Words.{number_between}
-use Rattle.ks_setup.proofs.NumberLemmas.{number_within}
-use Rattle.ks_setup.specs.Written.{absent, default_domain, default_settings, document_of, domain_in, endpoint_in, file_of, grant_in, group_in, implication_in, is_folder, keys_of, member_in, password_in, password_record, plain_or_record, project_in, region_in, role_in, service_in, settings_at, settings_in, settings_of, url_text, user_in, written_in}
+use Rattle.ks_written.specs.Records.{counted_in, cut, record_in, rounds_in, salted_in, scheme, written_as, bytes_in}
+use Rattle.ks_words.specs.Words.{number_between}
+use Rattle.ks_words.proofs.NumberLemmas.{number_within}
+use Rattle.ks_written.specs.Written.{absent, default_domain, default_settings, document_of, domain_in, endpoint_in, file_of, grant_in, group_in, implication_in, is_folder, keys_of, member_in, password_in, password_record, plain_or_record, project_in, region_in, role_in, service_in, settings_at, settings_in, settings_of, url_text, user_in, written_in}
 
 -- fields
 

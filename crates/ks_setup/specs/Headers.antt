@@ -10,9 +10,9 @@ use Rattle.ks_policy.specs.declared.opening.Opening.{Opening}
 use Rattle.ks_policy.specs.Openings.{plain}
 use Rattle.ks_setup.specs.declared.opening.OpeningFault.{OpeningFault}
 use Rattle.ks_setup.specs.declared.opening.OpeningFault.TheVariants.{Shape, Policy, BadKey, Random, Memory}
-use Rattle.ks_setup.specs.declared.written.Written.{Written}
+use Rattle.ks_written.specs.declared.written.Written.{Written}
 use Rattle.ks_setup.specs.Openings.{AnswersOpening, Drew, HasBadKey, HasPolicy, IsFormed, IsRing, LoadsPolicy, Opens, passwords}
-use Rattle.ks_setup.specs.Written.{file_of}
+use Rattle.ks_written.specs.Written.{file_of}
 
 -- a header gives this opening: that of its file, where the folder holds its keys and the drawn bytes are its salts, one behind the other
 abbrev pub GivesOpening : Header → PlainOpening → Type 0

@@ -1,12 +1,4 @@
-pub mod Words
-pub mod Entries
-pub mod Records
-pub mod Written
 pub mod Openings
-pub mod Spots
-pub mod Meetings
-pub mod RowLines
-pub mod FormLines
-pub mod Ranges
 pub mod Steps
 pub mod Headers
+pub mod Ranges

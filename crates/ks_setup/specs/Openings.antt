@@ -20,13 +20,13 @@ use Rattle.ks_policy.specs.Openings.{plain}
 use Rattle.ks_shape.specs.Fields.{unless_null}
 use Rattle.ks_setup.specs.declared.opening.OpeningFault.{OpeningFault}
 use Rattle.ks_setup.specs.declared.opening.OpeningFault.TheVariants.{Shape, Policy, BadKey, Random, Memory}
-use Rattle.ks_setup.specs.declared.written.KeysFrom.{KeysFrom}
-use Rattle.ks_setup.specs.declared.written.KeysFrom.TheVariants.{Folder, File}
-use Rattle.ks_setup.specs.declared.written.Written.{Written}
-use Rattle.ks_setup.specs.declared.written.WrittenPassword.{WrittenPassword}
-use Rattle.ks_setup.specs.declared.written.WrittenPassword.TheVariants.{Plain, Record}
-use Rattle.ks_setup.specs.declared.written.WrittenUser.{WrittenUser}
-use Rattle.ks_setup.specs.Written.{document_of, file_of, folder_wanted}
+use Rattle.ks_written.specs.declared.written.KeysFrom.{KeysFrom}
+use Rattle.ks_written.specs.declared.written.KeysFrom.TheVariants.{Folder, File}
+use Rattle.ks_written.specs.declared.written.Written.{Written}
+use Rattle.ks_written.specs.declared.written.WrittenPassword.{WrittenPassword}
+use Rattle.ks_written.specs.declared.written.WrittenPassword.TheVariants.{Plain, Record}
+use Rattle.ks_written.specs.declared.written.WrittenUser.{WrittenUser}
+use Rattle.ks_written.specs.Written.{document_of, file_of, folder_wanted}
 
 -- the policy
 

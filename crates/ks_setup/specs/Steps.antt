@@ -23,14 +23,14 @@ use Rattle.ks_setup.specs.declared.keys.RingFault.TheVariants as keys
 use Rattle.ks_setup.specs.declared.opening.Checked.{Checked}
 use Rattle.ks_setup.specs.declared.opening.OpeningFault.{OpeningFault}
 use Rattle.ks_setup.specs.declared.opening.OpeningFault.TheVariants.{Shape, Policy, BadKey, Random, Memory}
-use Rattle.ks_setup.specs.declared.written.KeysFrom.{KeysFrom}
-use Rattle.ks_setup.specs.declared.written.KeysFrom.TheVariants.{Folder, File}
-use Rattle.ks_setup.specs.declared.written.Written.{Written}
-use Rattle.ks_setup.specs.declared.written.WrittenPassword.{WrittenPassword}
-use Rattle.ks_setup.specs.declared.written.WrittenPassword.TheVariants.{Plain, Record}
-use Rattle.ks_setup.specs.declared.written.WrittenUser.{WrittenUser}
+use Rattle.ks_written.specs.declared.written.KeysFrom.{KeysFrom}
+use Rattle.ks_written.specs.declared.written.KeysFrom.TheVariants.{Folder, File}
+use Rattle.ks_written.specs.declared.written.Written.{Written}
+use Rattle.ks_written.specs.declared.written.WrittenPassword.{WrittenPassword}
+use Rattle.ks_written.specs.declared.written.WrittenPassword.TheVariants.{Plain, Record}
+use Rattle.ks_written.specs.declared.written.WrittenUser.{WrittenUser}
 use Rattle.ks_setup.specs.Openings.{AnswersOpening, AreKeys, Drew, HasBadKey, HasPolicy, IsBadKey, IsFirstBad, IsFormed, IsRing, LoadsPolicy, Opens, bad_key_path, policy_in, users_from}
-use Rattle.ks_setup.specs.Written.{file_of, written_in}
+use Rattle.ks_written.specs.Written.{file_of, written_in}
 
 -- the faults of the steps, as those of the opening
 

@@ -5,10 +5,10 @@ ghost use Rattle.ks_setup.specs.Openings.{derived_row, is_plain, password_row, p
 ghost use Rattle.ks_setup.specs.Steps.{Draws, DrawsSalts, Leaves};
 ghost use Rattle.ks_setup.specs.declared.derive.DrawFault.TheVariants.{Random, Memory};
 
-use crate::written::{WrittenPassword, WrittenUser};
 use ks_base::{ListOf, Memory, PasswordRow, Text, UserList, UserRow};
 use ks_machine::Derived;
 use ks_outside::{Desk, Failed};
+use ks_written::{WrittenPassword, WrittenUser};
 use std::alloc::{AllocError, AllocFailed, Global};
 use std::slice::Iter;
 

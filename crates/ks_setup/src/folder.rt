@@ -1,13 +1,13 @@
 ghost use Rattle.ks_shape.specs.Readings.{Reads};
 ghost use Rattle.ks_setup.specs.Openings.{AnswersFolder};
-ghost use Rattle.ks_setup.specs.Written.{folder_wanted};
+ghost use Rattle.ks_written.specs.Written.{folder_wanted};
 
-use crate::file::{is_folder, read_file, read_written};
 use crate::opening::OpeningFault;
 use ks_base::ShapeRefusal;
+use ks_written::{is_folder, read_file, read_written};
 use std::alloc::Global;
 
-#[tactic(auto, unfolding(crate::specs::Written::folder_wanted, crate::specs::Written::file_of))]
+#[tactic(auto, unfolding(ks_written::specs::Written::folder_wanted, ks_written::specs::Written::file_of))]
 fn read_folder_wanted(alloc: Global, text: &[u8]) -> Result<bool, ShapeRefusal>
     ensures { Reads result (folder_wanted text.now) }
 {

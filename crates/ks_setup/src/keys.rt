@@ -4,10 +4,10 @@ ghost use Rattle.ks_setup.specs.Openings.{bad_key_path};
 ghost use Rattle.ks_setup.specs.Steps.{AreFew, ReadsKeys, ReadsRing};
 ghost use Rattle.ks_setup.specs.declared.keys.RingFault.TheVariants.{Memory};
 
-use crate::written::KeysFrom;
 use itoa::Buffer;
 use ks_base::{Key, KeyList, ListOf, Memory, Text};
 use ks_fernet::{KeyText, read_key};
+use ks_written::KeysFrom;
 use std::alloc::{AllocError, AllocFailed, Global};
 
 /// Why keys are not read.

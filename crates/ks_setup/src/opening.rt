@@ -7,13 +7,12 @@ ghost use Rattle.ks_setup.specs.Steps.{Checks, ChecksDocument, OpensFirst, of_dr
 ghost use Rattle.ks_setup.specs.declared.opening.OpeningFault.TheVariants.{Memory};
 
 use crate::derive::{DrawFault, derive_users, draw_salts, passwords};
-use crate::file::{read_file, read_written};
 use crate::keys::{RingFault, read_ring};
 use crate::policy::load_policy;
-use crate::written::Written;
 use ks_base::{Key, KeyList, ListOf, Memory, ShapeFault, ShapeRefusal, Text};
 use ks_outside::Desk;
 use ks_policy::{Opening, PolicyFault, Rules};
+use ks_written::{Written, read_file, read_written};
 use serde_json::Value;
 use std::alloc::Global;
 

@@ -8,10 +8,10 @@ use Rattle.ks_machine.specs.Fronts.{Front, replay}
 use Rattle.ks_machine.specs.Moment.{moment_of}
 use Rattle.ks_machine.specs.Openings.{NamedRule}
 use Rattle.ks_machine.specs.States.{State, raised}
-use Rattle.ks_plan.specs.declared.halt.Halt.{Halt}
-use Rattle.ks_plan.specs.declared.plan.Plan.{Plan}
+use Rattle.ks_checks.specs.declared.halt.Halt.{Halt}
+use Rattle.ks_checks.specs.declared.plan.Plan.{Plan}
 use Rattle.ks_plan.specs.Planned.{RoomComesLast, planned}
-use Rattle.ks_plan.specs.Plans.{Plans}
+use Rattle.ks_checks.specs.Plans.{Plans}
 use Rattle.ks_state.specs.Deciding.{IsPlanned}
 use Rattle.ks_state.specs.Planning.{moment_at, state_at}
 use Rattle.ks_state.specs.Shown.{Shown}

@@ -14,10 +14,10 @@ use Rattle.ks_machine.specs.Fronts.{Front, replay}
 use Rattle.ks_machine.specs.Moment.{moment_of}
 use Rattle.ks_machine.specs.Outcomes.{Outcome}
 use Rattle.ks_machine.specs.Steps.{Needs, step}
-use Rattle.ks_plan.specs.declared.halt.Halt.TheVariants as halt
-use Rattle.ks_plan.specs.declared.halt.Needs.{Needs as Lacking}
-use Rattle.ks_plan.specs.declared.plan.Plan.{Plan}
-use Rattle.ks_plan.specs.Plans.{Names, outcome_of}
+use Rattle.ks_checks.specs.declared.halt.Halt.TheVariants as halt
+use Rattle.ks_checks.specs.declared.halt.Needs.{Needs as Lacking}
+use Rattle.ks_checks.specs.declared.plan.Plan.{Plan}
+use Rattle.ks_checks.specs.Plans.{Names, outcome_of}
 use Rattle.ks_machine.specs.Room.{event_limit}
 use Rattle.ks_state.specs.Deciding.{IsPlanned}
 use Rattle.ks_state.specs.Planning.{GoOn, IsPlan, moment_at}

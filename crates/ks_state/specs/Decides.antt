@@ -12,8 +12,8 @@ use Rattle.ks_machine.specs.Fronts.{Front, after, answer, replay, then}
 use Rattle.ks_machine.specs.Moment.{moment_of}
 use Rattle.ks_machine.specs.Steps.{Needs as Lacking, step}
 use Rattle.ks_machine.specs.Told.{IsTellable}
-use Rattle.ks_plan.specs.declared.halt.Needs.{Needs}
-use Rattle.ks_plan.specs.Plans.{Names}
+use Rattle.ks_checks.specs.declared.halt.Needs.{Needs}
+use Rattle.ks_checks.specs.Plans.{Names}
 use Rattle.ks_state.specs.declared.decision.Decision.{Decision}
 use Rattle.ks_state.specs.declared.decision.Decision.TheVariants as decision
 

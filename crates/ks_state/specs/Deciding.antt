@@ -7,9 +7,9 @@ use Rattle.ks_machine.specs.Attempts.{Attempt, Known, Lack}
 use Rattle.ks_machine.specs.Fronts.{Front, replay}
 use Rattle.ks_machine.specs.Outcomes.{Outcome}
 use Rattle.ks_machine.specs.Steps.{Needs, step}
-use Rattle.ks_plan.specs.declared.halt.Halt.{Halt}
-use Rattle.ks_plan.specs.declared.plan.Plan.{Plan}
-use Rattle.ks_plan.specs.Plans.{Names, Plans}
+use Rattle.ks_checks.specs.declared.halt.Halt.{Halt}
+use Rattle.ks_checks.specs.declared.plan.Plan.{Plan}
+use Rattle.ks_checks.specs.Plans.{Names, Plans}
 use Rattle.ks_state.specs.declared.decision.Decision.{Decision}
 use Rattle.ks_state.specs.declared.decision.Decision.TheVariants as decision
 use Rattle.ks_state.specs.Planning.{IsPlan}

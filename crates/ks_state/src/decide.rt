@@ -8,9 +8,10 @@ ghost use Rattle.ks_state.specs.Standing.{Stands};
 
 use crate::{Decision, Identity};
 use ks_auth::Facts;
+use ks_checks::{Halt, Plan};
 use ks_laws::lawful_fronts_go_on;
 use ks_machine::{Call, moment};
-use ks_plan::{Halt, Plan, plan_call, room_comes_last};
+use ks_plan::{plan_call, room_comes_last};
 
 impl Identity {
     /// Decides a call: what the machine answers, or which facts of ciphers that takes.

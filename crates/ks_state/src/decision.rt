@@ -1,5 +1,5 @@
+use ks_checks::Needs;
 use ks_machine::Reply;
-use ks_plan::Needs;
 
 /// What became of a call.
 #[derive(Drop)]

@@ -29,6 +29,6 @@ mod uses;
 pub use decides::{Decides, Kept};
 pub use decision::Decision;
 pub use identity::Identity;
-pub use ks_plan::Needs;
+pub use ks_checks::Needs;
 pub use redo::RedoFault;
 pub use restoring::{RestoreFault, restore};

@@ -15,8 +15,8 @@ use crate::unmade::Unmade;
 use crate::{Decision, Identity};
 use ks_auth::{Facts, Tables};
 use ks_base::Kind;
+use ks_checks::{Halt, Plan};
 use ks_machine::{BodyOut, Call, Cause, Change, Reply, few_facts_suffice};
-use ks_plan::{Halt, Plan};
 
 impl Identity {
     /// What becomes of a call of which this was planned.

@@ -25,7 +25,7 @@ use Rattle.ks_setup.specs.declared.opening.OpeningFault.{OpeningFault}
 use Rattle.ks_setup.specs.declared.opening.OpeningFault.TheVariants as refusal
 use Rattle.ks_setup.specs.Headers.{AnswersHeader}
 use Rattle.ks_setup.specs.Openings.{IsFormed}
-use Rattle.ks_setup.specs.Written.{file_of}
+use Rattle.ks_written.specs.Written.{file_of}
 use Rattle.ks_state.specs.Restoring.{last_moment_in, restored_front}
 use Rattle.ks_state.specs.Standing.{StandsWithAllKept}
 use Rattle.ks_top.specs.declared.begun.Start.{Start}

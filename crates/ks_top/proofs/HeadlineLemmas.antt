@@ -19,10 +19,10 @@ use Rattle.ks_server.specs.Orders.{InOrder}
 use Rattle.ks_server.specs.Ties.{Tied}
 use Rattle.ks_server.specs.Work.{IsReadingAmong}
 use Rattle.ks_server.specs.Workers.{AreServed, AreVisited, IsServed, Place, Shift, Visit, accepted_of, all_exchanges, exchanges_of, returned_of}
-use Rattle.ks_setup.specs.declared.words.Places.{Places}
-use Rattle.ks_setup.specs.declared.words.Words.{Words}
-use Rattle.ks_setup.specs.declared.words.Words.TheVariants as asked
-use Rattle.ks_setup.specs.Words.{words_of}
+use Rattle.ks_words.specs.declared.words.Places.{Places}
+use Rattle.ks_words.specs.declared.words.Words.{Words}
+use Rattle.ks_words.specs.declared.words.Words.TheVariants as asked
+use Rattle.ks_words.specs.Words.{words_of}
 use Rattle.ks_top.specs.declared.fault.Fault.{Fault}
 use Rattle.ks_top.specs.Headline.{AreWorkers, HasLinks, Headline, TellsOf, Worker, exchanges_by, serves, talks}
 use Rattle.ks_top.specs.Identities.{Begins, HadNoRoom}

@@ -16,9 +16,9 @@ use Rattle.ks_server.specs.declared.closed.Closed.{Closed}
 use Rattle.ks_server.specs.declared.closed.Closed.TheVariants as closed
 use Rattle.ks_server.specs.Workers.{AreServed, Place, Shift, first_keeper, some_failed}
 use Rattle.ks_setup.specs.declared.opening.OpeningFault.TheVariants as refusal
-use Rattle.ks_setup.specs.declared.words.Words.{Words}
-use Rattle.ks_setup.specs.declared.words.Words.TheVariants as asked
-use Rattle.ks_setup.specs.Words.{words_of}
+use Rattle.ks_words.specs.declared.words.Words.{Words}
+use Rattle.ks_words.specs.declared.words.Words.TheVariants as asked
+use Rattle.ks_words.specs.Words.{words_of}
 use Rattle.ks_top.specs.declared.fault.Fault.{Fault}
 use Rattle.ks_top.specs.declared.fault.Fault.TheVariants as fault
 use Rattle.ks_top.specs.Identities.{Begins, Opened, Stopped, Stops, anew, early, given, other, unformed, unread}

@@ -19,9 +19,9 @@ use Rattle.ks_policy.specs.declared.opening.Opening.{Opening}
 use Rattle.ks_policy.specs.Openings.{plain}
 use Rattle.ks_setup.specs.declared.opening.OpeningFault.{OpeningFault}
 use Rattle.ks_setup.specs.declared.opening.OpeningFault.TheVariants as refusal
-use Rattle.ks_setup.specs.declared.written.Written.{Written}
+use Rattle.ks_written.specs.declared.written.Written.{Written}
 use Rattle.ks_setup.specs.Openings.{AnswersOpening, Drew, Opens}
-use Rattle.ks_setup.specs.Written.{document_of, file_of, folder_wanted}
+use Rattle.ks_written.specs.Written.{document_of, file_of, folder_wanted}
 use Rattle.ks_top.specs.declared.fault.Fault.{Fault}
 use Rattle.ks_top.specs.declared.fault.Fault.TheVariants as fault
 use Rattle.ks_top.specs.Opened.{AreHeld, IsOpening, IsText, ReadsFile, RefusesFolder, RefusesForm, StopsOpening}

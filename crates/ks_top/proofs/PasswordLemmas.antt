@@ -13,7 +13,7 @@ use Rattle.ks_base.specs.declared.users.PasswordRow.{PasswordRow}
 use Rattle.ks_outside.specs.Desks.{DeskState}
 use Rattle.ks_outside.specs.Streams.{StreamState, Takes}
 use Rattle.ks_setup.specs.Openings.{Drew, derived_row}
-use Rattle.ks_setup.specs.Records.{record_text}
+use Rattle.ks_written.specs.Records.{record_text}
 use Rattle.ks_top.specs.declared.fault.Fault.{Fault}
 use Rattle.ks_top.specs.declared.fault.Fault.TheVariants as fault
 use Rattle.ks_top.specs.Lines.{IsInLine}

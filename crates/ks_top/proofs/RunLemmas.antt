@@ -9,8 +9,8 @@ use Rattle.ks_outside.specs.Desks.{Makes}
 use Rattle.ks_outside.specs.Files.{KeyFile}
 use Rattle.ks_outside.specs.Streams.{OnlyReads, OnlyWrites, StreamState}
 use Rattle.ks_server.specs.Workers.{Place}
-use Rattle.ks_setup.specs.declared.words.Words.{Words}
-use Rattle.ks_setup.specs.Words.{words_of}
+use Rattle.ks_words.specs.declared.words.Words.{Words}
+use Rattle.ks_words.specs.Words.{words_of}
 use Rattle.ks_top.specs.declared.fault.Fault.{Fault}
 use Rattle.ks_top.specs.declared.fault.Fault.TheVariants as fault
 use Rattle.ks_top.specs.Ending.{EndsCheck, IsStreamFault, result_of}

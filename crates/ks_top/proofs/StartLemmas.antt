@@ -17,7 +17,7 @@ use Rattle.ks_policy.specs.declared.opening.Opening.{Opening}
 use Rattle.ks_policy.specs.Openings.{plain}
 use Rattle.ks_setup.specs.Headers.{GivesOpening, IsHeaderOf}
 use Rattle.ks_setup.specs.Openings.{AnswersOpening, Drew, Opens}
-use Rattle.ks_setup.specs.Written.{folder_wanted}
+use Rattle.ks_written.specs.Written.{folder_wanted}
 use Rattle.ks_top.specs.declared.begun.Start.{Start}
 use Rattle.ks_top.specs.declared.fault.Fault.{Fault}
 use Rattle.ks_top.specs.declared.fault.Fault.TheVariants as fault

@@ -15,9 +15,9 @@ use Rattle.ks_server.specs.Orders.{InOrder}
 use Rattle.ks_server.specs.Ties.{Tied}
 use Rattle.ks_server.specs.Work.{IsReadingAmong}
 use Rattle.ks_server.specs.Workers.{AreVisited, Place, Visit, accepted_of, exchanges_of, returned_of}
-use Rattle.ks_setup.specs.declared.words.Places.{Places}
-use Rattle.ks_setup.specs.declared.words.Words.{Words}
-use Rattle.ks_setup.specs.declared.words.Words.TheVariants as asked
+use Rattle.ks_words.specs.declared.words.Places.{Places}
+use Rattle.ks_words.specs.declared.words.Words.{Words}
+use Rattle.ks_words.specs.declared.words.Words.TheVariants as asked
 use Rattle.ks_top.specs.declared.fault.Fault.{Fault}
 use Rattle.ks_top.specs.declared.fault.Fault.TheVariants as fault
 use Rattle.ks_top.specs.Identities.{Begins}

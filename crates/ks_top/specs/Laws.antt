@@ -29,7 +29,7 @@ use Rattle.ks_server.specs.Exchanges.{Exchange, calls, change_by, cut_at, front_
 use Rattle.ks_server.specs.Sessions.{IsTold}
 use Rattle.ks_server.specs.Workers.{IsVisited, Place, Visit}
 use Rattle.ks_setup.specs.declared.opening.OpeningFault.TheVariants as refusal
-use Rattle.ks_setup.specs.declared.words.Words.{Words}
+use Rattle.ks_words.specs.declared.words.Words.{Words}
 use Rattle.ks_tokens.specs.Laws.{AsksFor, HasEnded, HasValidCaller}
 use Rattle.ks_top.specs.declared.fault.Fault.{Fault}
 use Rattle.ks_top.specs.declared.fault.Fault.TheVariants as fault

@@ -23,7 +23,7 @@ use Rattle.ks_setup.specs.declared.opening.OpeningFault.{OpeningFault}
 use Rattle.ks_setup.specs.declared.opening.OpeningFault.TheVariants as refusal
 use Rattle.ks_setup.specs.Headers.{AnswersHeader, GivesOpening}
 use Rattle.ks_setup.specs.Openings.{AnswersOpening, Drew, Opens}
-use Rattle.ks_setup.specs.Written.{file_of, folder_wanted}
+use Rattle.ks_written.specs.Written.{file_of, folder_wanted}
 use Rattle.ks_top.specs.declared.checker.TheConstants.{PIECE}
 use Rattle.ks_top.specs.declared.fault.Fault.{Fault}
 use Rattle.ks_top.specs.declared.fault.Fault.TheVariants as fault

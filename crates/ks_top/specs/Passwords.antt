@@ -5,7 +5,7 @@ use Rattle.std.specs.Str.{is_utf8}
 use Rattle.ks_base.specs.declared.limits.TheConstants.{PASSWORD_BYTES}
 use Rattle.ks_outside.specs.Desks.{DeskState}
 use Rattle.ks_setup.specs.Openings.{Drew, derived_row}
-use Rattle.ks_setup.specs.Records.{record_text}
+use Rattle.ks_written.specs.Records.{record_text}
 use Rattle.ks_top.specs.declared.fault.Fault.{Fault}
 use Rattle.ks_top.specs.declared.fault.Fault.TheVariants as fault
 use Rattle.ks_top.specs.KeyFolders.{HasBegun}

@@ -2,7 +2,7 @@
 ghost use Rattle.std.specs.Prelude.{◌≡◌, ◌≤◌, ℕ, List, Some, length, Err, IfOk, IfErr};
 ghost use Rattle.ks_outside.specs.Files.{OnlyLooks};
 ghost use Rattle.ks_outside.specs.Streams.{OnlyReads};
-ghost use Rattle.ks_setup.specs.Written.{folder_wanted};
+ghost use Rattle.ks_written.specs.Written.{folder_wanted};
 ghost use Rattle.ks_top.specs.Opened.{AreHeld, ReadsFile};
 ghost use Rattle.ks_top.specs.declared.checker.TheConstants.{PIECE};
 ghost use Rattle.ks_top.specs.steps.Openings.{IsRead, IsReadFault, StopsHeld};

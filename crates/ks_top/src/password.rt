@@ -4,7 +4,7 @@ ghost use Rattle.std.specs.List.{list_any};
 ghost use Rattle.ks_base.specs.declared.limits.TheConstants.{ROUNDS};
 ghost use Rattle.ks_outside.specs.Counts.{Counts};
 ghost use Rattle.ks_outside.specs.Streams.{OnlyReads, OnlyWrites};
-ghost use Rattle.ks_setup.specs.Records.{record_text};
+ghost use Rattle.ks_written.specs.Records.{record_text};
 ghost use Rattle.ks_top.specs.Passwords.{DrawsOnce, EndsPassword, IsPasswordFault, ReadsFront, first_line_of, password_of};
 ghost use Rattle.ks_top.specs.steps.KeyCalls.{IsSayingFault, Says};
 ghost use Rattle.ks_top.specs.steps.Openings.{IsReadFault};
@@ -16,7 +16,8 @@ use crate::lines::first_line;
 use ks_base::limits::PASSWORD_BYTES;
 use ks_base::{Memory, PasswordRow, Text};
 use ks_outside::{Desk, Sink, Source};
-use ks_setup::{derive_password, record_text};
+use ks_setup::derive_password;
+use ks_written::record_text;
 use std::alloc::Global;
 
 /// Reads a password from the input, and writes what is kept of it, derived by so many rounds with 16 random bytes of the

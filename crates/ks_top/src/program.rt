@@ -1,7 +1,7 @@
 ghost use Rattle.std.specs.Prelude.{◌≡◌, ◌<◌, ◌∷◌, List, length, IfSome};
 ghost use Rattle.ks_keep.specs.Books.{seen_by};
 ghost use Rattle.ks_keeper.specs.Keeper.{IsTidy};
-ghost use Rattle.ks_setup.specs.Words.{words_of};
+ghost use Rattle.ks_words.specs.Words.{words_of};
 ghost use Rattle.ks_top.specs.Ending.{status_of};
 ghost use Rattle.ks_top.specs.Headline.{Headline};
 ghost use Rattle.ks_top.specs.Runs.{Runs};
@@ -23,8 +23,8 @@ use ks_base::Text;
 use ks_keep::Booked;
 use ks_keeper::Keeper;
 use ks_outside::{Desk, KeyDir, Sink, Source};
-use ks_setup::{Words, read_words};
 use ks_tokens::{ended_tokens_are_not_found, ended_tokens_stay_refused, tokens_validate_exactly};
+use ks_words::{Words, read_words};
 use std::marker::Brand;
 use std::sync::Wait;
 use std::thread::Threads;

@@ -21,7 +21,7 @@ use Rattle.ks_policy.specs.Openings.{plain}
 use Rattle.ks_setup.specs.declared.opening.OpeningFault.{OpeningFault}
 use Rattle.ks_setup.specs.Headers.{AnswersHeader, GivesOpening}
 use Rattle.ks_setup.specs.Openings.{Drew, Opens}
-use Rattle.ks_setup.specs.Written.{folder_wanted}
+use Rattle.ks_written.specs.Written.{folder_wanted}
 use Rattle.ks_state.specs.Restoring.{restored_front}
 use Rattle.ks_state.specs.Standing.{StandsWithAllKept}
 use Rattle.ks_top.specs.declared.begun.Begun.{Begun}

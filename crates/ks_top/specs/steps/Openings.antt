@@ -14,7 +14,7 @@ use Rattle.ks_outside.specs.Files.{DirState, KeyFile}
 use Rattle.ks_outside.specs.Streams.{StreamState}
 use Rattle.ks_setup.specs.declared.opening.OpeningFault.{OpeningFault}
 use Rattle.ks_setup.specs.declared.opening.OpeningFault.TheVariants as refusal
-use Rattle.ks_setup.specs.Written.{folder_wanted}
+use Rattle.ks_written.specs.Written.{folder_wanted}
 use Rattle.ks_top.specs.declared.fault.Fault.{Fault}
 use Rattle.ks_top.specs.declared.fault.Fault.TheVariants as fault
 

@@ -1,6 +1,6 @@
 use Rattle.std.proofs.Common.{subst}
 use Rattle.ks_machine.specs.Actions.{Requirements}
-use Rattle.ks_plan.specs.Plans.{HasBytes}
+use Rattle.ks_checks.specs.Plans.{HasBytes}
 use Rattle.ks_plan.proofs.calls.by_demands.Goals as goal
 
 pub own_checks-requires-clause-bytes : goal.own_checks-requires-clause-bytes

@@ -5,7 +5,7 @@ use Rattle.ks_machine.specs.Attempts.{Attempt}
 use Rattle.ks_machine.specs.declared.cause.Cause.{Cause}
 use Rattle.ks_machine.specs.Outcomes.{Outcome}
 use Rattle.ks_plan.specs.Demands.{by_demands}
-use Rattle.ks_plan.specs.Plans.{Plans}
+use Rattle.ks_checks.specs.Plans.{Plans}
 use Rattle.ks_plan.proofs.DemandLemmas.{demands_are}
 use Rattle.ks_plan.proofs.OrderLemmas.{told_by_parties}
 use Rattle.ks_plan.proofs.calls.plan_call.Goals as goal

@@ -1,6 +1,6 @@
 use Rattle.std.proofs.Common.{◌≡◌, inr, refl}
-use Rattle.ks_setup.specs.declared.words.Words.TheVariants as asked
-use Rattle.ks_setup.specs.Words.{words_of}
+use Rattle.ks_words.specs.declared.words.Words.TheVariants as asked
+use Rattle.ks_words.specs.Words.{words_of}
 use Rattle.ks_top.proofs.RunLemmas.{checks, makes_record, rotates, runs_by, sets_up}
 use Rattle.ks_top.specs.Runs.{Does, Runs}
 use Rattle.ks_top.proofs.program.run_command.Goals as goal

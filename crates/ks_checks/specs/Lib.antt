@@ -1,0 +1,3 @@
+pub mod Checked
+pub mod Plans
+pub mod Tokens

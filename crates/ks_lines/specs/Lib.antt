@@ -1,0 +1,4 @@
+pub mod FormLines
+pub mod Meetings
+pub mod RowLines
+pub mod Spots

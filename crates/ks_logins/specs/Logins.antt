@@ -1,0 +1,65 @@
+-- What a login has shown, and where its token is for, as the machine's definitions see them.
+use Rattle.std.specs.Prelude.{ℕ, ◌≤◌, List, Option, Some, None}
+use Rattle.ks_base.specs.declared.limits.TheConstants.{LAST_SECOND}
+use Rattle.ks_base.specs.declared.trusts.TrustRow.{TrustRow}
+use Rattle.ks_base.specs.Rows.{Id, has_id}
+use Rattle.ks_base.specs.declared.faults.TrustFault.TheVariants as fault
+use Rattle.ks_machine.specs.Attempts.{Attempt, need}
+use Rattle.ks_machine.specs.declared.cause.Cause.{Cause}
+use Rattle.ks_machine.specs.declared.cause.Cause.TheVariants as cause
+use Rattle.ks_machine.specs.Login as machine
+use Rattle.ks_logins.specs.declared.login.Bearer.{Bearer}
+use Rattle.ks_logins.specs.declared.scopes.Place.{Place}
+use Rattle.ks_logins.specs.declared.scopes.Place.TheVariants as place
+use Rattle.ks_logins.specs.declared.scopes.TokenScope.{TokenScope}
+
+abbrev pub shown_of : Bearer → machine.Shown
+shown_of shown = record { user = shown.user; methods = shown.methods; expires = shown.expires; chain = shown.chain }
+
+-- some methods, and an expiry that has a text
+abbrev pub IsShown : Bearer → Type 0
+IsShown shown = (1 ≤ shown.methods) × (shown.methods ≤ 15) × (shown.expires ≤ LAST_SECOND)
+
+-- the fields of a place
+
+abbrev pub kind_at : Place → ℕ
+kind_at place.Unscoped = 0
+kind_at (place.Domain id) = 1
+kind_at (place.Project id) = 2
+kind_at (place.Trust trust id) = 3
+kind_at place.System = 4
+
+abbrev pub domain_at : Place → Option Id
+domain_at place.Unscoped = None
+domain_at (place.Domain id) = Some id
+domain_at (place.Project id) = None
+domain_at (place.Trust trust id) = None
+domain_at place.System = None
+
+abbrev pub project_at : Place → Option Id
+project_at place.Unscoped = None
+project_at (place.Domain id) = None
+project_at (place.Project id) = Some id
+project_at (place.Trust trust id) = Some id
+project_at place.System = None
+
+abbrev pub trust_at : Place → Option TrustRow
+trust_at place.Unscoped = None
+trust_at (place.Domain id) = None
+trust_at (place.Project id) = None
+trust_at (place.Trust trust id) = Some trust.now
+trust_at place.System = None
+
+abbrev pub scoped_of : TokenScope → machine.Scoped
+scoped_of scope = record {
+  user = scope.user;
+  kind = kind_at scope.place;
+  domain = domain_at scope.place;
+  project = project_at scope.place;
+  trust = trust_at scope.place;
+  roles = scope.roles;
+}
+
+-- a role is one of those that are held
+abbrev pub role_held : List Id → Id → Attempt Cause (Unit {0})
+role_held held role = need (has_id held role) (cause.Trust (fault.RoleLost role))

@@ -1,0 +1,5 @@
+//! Logins: what a body shows, for whom and where, and the token that it is given.
+#![tactic(auto)]
+
+pub mod login;
+mod scopes;

@@ -1,0 +1,3 @@
+pub mod MemberLists
+pub mod NoIds
+pub mod Passed

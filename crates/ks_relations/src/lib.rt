@@ -1,0 +1,7 @@
+//! Commands about memberships, implications and grants, and the listing of assignments.
+#![tactic(auto)]
+
+pub mod assignments;
+mod effective;
+pub mod grants;
+pub mod members;

@@ -1,5 +1,0 @@
-use Rattle.ks_setup.proofs.TalkLemmas.{check_words_are, check_words_give}
-use Rattle.ks_setup.proofs.laws.check_is_one_word.Goals as goal
-
-pub returns : goal.returns
-returns c words = (check_words_are words, check_words_give words)

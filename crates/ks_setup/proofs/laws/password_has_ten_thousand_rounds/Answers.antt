@@ -1,5 +1,0 @@
-use Rattle.ks_setup.proofs.PasswordLemmas.{password_word_gives}
-use Rattle.ks_setup.proofs.laws.password_has_ten_thousand_rounds.Goals as goal
-
-pub returns : goal.returns
-returns c = password_word_gives

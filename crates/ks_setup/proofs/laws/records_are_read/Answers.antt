@@ -1,5 +1,0 @@
-use Rattle.ks_setup.proofs.RecordLemmas.{records_are_read as read}
-use Rattle.ks_setup.proofs.laws.records_are_read.Goals as goal
-
-pub returns : goal.returns
-returns c = read

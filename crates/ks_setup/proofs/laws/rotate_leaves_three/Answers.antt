@@ -1,5 +1,0 @@
-use Rattle.ks_setup.proofs.FolderLemmas.{rotate_words_give}
-use Rattle.ks_setup.proofs.laws.rotate_leaves_three.Goals as goal
-
-pub returns : goal.returns
-returns c folder p = rotate_words_give folder p

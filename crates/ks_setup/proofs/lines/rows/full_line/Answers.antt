@@ -1,4 +1,0 @@
-use Rattle.ks_setup.proofs.lines.rows.full_line.Goals as goal
-
-pub returns : goal.returns
-returns c = rw (c.list_name-list.ensures, c.format.ensures.text, c.limit.ensures) at c.joined.ensures

@@ -1,5 +1,0 @@
-use Rattle.ks_setup.proofs.FrontLemmas.{stripped}
-use Rattle.ks_setup.proofs.reader.behind.Goals as goal
-
-pub returns : goal.returns
-returns c = stripped c.args.front.now c.args.text.now c.strip_prefix.result c.strip_prefix.ensures.cases

@@ -1,0 +1,13 @@
+pub mod FolderLemmas
+pub mod FolderWordLemmas
+pub mod FrontLemmas
+pub mod LentLemmas
+pub mod NameLemmas
+pub mod NumberLemmas
+pub mod PasswordLemmas
+pub mod ReadLemmas
+pub mod ServeLemmas
+pub mod ServeWordLemmas
+pub mod TalkLemmas
+pub mod WalkLemmas
+pub mod WordLemmas
