@@ -2,7 +2,7 @@
 use Rattle.std.specs.Prelude.{ℕ}
 use Rattle.ks_base.specs.declared.kinds.Kind.{Kind}
 use Rattle.ks_base.specs.declared.kinds.Kind.TheVariants as kind
-use Rattle.ks_base.specs.declared.limits.TheConstants.{DOMAINS, PROJECTS, USERS, GROUPS, MEMBERS, ROLES, IMPLICATIONS, GRANTS, TRUSTS, EVENTS, REGIONS, SERVICES, ENDPOINTS}
+use Rattle.ks_base.specs.declared.limits.TheConstants.{DOMAINS, PROJECTS, USERS, GROUPS, MEMBERS, ROLES, IMPLICATIONS, GRANTS, TRUSTS, EVENTS, REGIONS, SERVICES, ENDPOINTS, APP_CREDS, SECRETS}
 
 abbrev pub limit : Kind → ℕ
 limit kind.Domain = DOMAINS
@@ -18,3 +18,5 @@ limit kind.Event = EVENTS
 limit kind.Region = REGIONS
 limit kind.Service = SERVICES
 limit kind.Endpoint = ENDPOINTS
+limit kind.AppCred = APP_CREDS
+limit kind.Secret = SECRETS

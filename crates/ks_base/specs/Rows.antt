@@ -3,6 +3,9 @@
 use Rattle.std.specs.Prelude.{ℕ, Bool, List, Option}
 use Rattle.std.specs.List.{list_any}
 use Rattle.std.specs.Str.{bytes_eq}
+use Rattle.ks_base.specs.declared.app_creds.AppCredRow.{AppCredRow}
+use Rattle.ks_base.specs.declared.factors.MfaRow.{MfaRow}
+use Rattle.ks_base.specs.declared.factors.SecretRow.{SecretRow}
 use Rattle.ks_base.specs.declared.rows.DomainRow.{DomainRow}
 use Rattle.ks_base.specs.declared.rows.ProjectRow.{ProjectRow}
 use Rattle.ks_base.specs.declared.users.UserRow.{UserRow}
@@ -44,6 +47,10 @@ pub record Rows : Type 0 where
   pub regions : List RegionRow
   pub services : List ServiceRow
   pub endpoints : List EndpointRow
+  pub app_creds : List AppCredRow
+  pub secrets : List SecretRow
+  -- the methods that users have to log in by
+  pub factor_rules : List MfaRow
 
 -- the rows of an id
 abbrev pub domain_of : Id → List DomainRow → Option DomainRow

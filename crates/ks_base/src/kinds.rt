@@ -17,6 +17,10 @@ pub enum Kind {
     Region,
     Service,
     Endpoint,
+    /// An application credential.
+    AppCred,
+    /// A secret of one-time passwords.
+    Secret,
 }
 
 impl TryCopy for Kind {

@@ -2,9 +2,11 @@
 //! growth may find no memory.
 #![tactic(auto)]
 
+mod app_creds;
 mod bytes;
 mod catalog;
 mod events;
+mod factors;
 mod faults;
 mod grants;
 mod id;
@@ -32,11 +34,13 @@ mod text;
 mod trusts;
 mod users;
 
+pub use app_creds::AppCredRow;
 pub use bytes::Bytes;
 pub use catalog::{
     CatalogFault, CatalogIn, CatalogKind, CatalogRow, EndpointRow, Interface, RegionRow, ServiceRow,
 };
 pub use events::{EventRow, Holder, Revoke};
+pub use factors::{MfaRow, SecretRow};
 pub use faults::{KeysFault, LoadFault, RowFault, TreeFault, TrustFault};
 pub use grants::{Actor, GrantRow, GrantSite, ImplyRow, Target};
 pub use id::{Id, IdFault};
@@ -52,9 +56,9 @@ pub use laws::{
 pub use links::{Far, Links, Side};
 pub use list::{ListOf, TryCopy};
 pub use lists::{
-    DomainList, EndpointList, EventList, FieldList, GrantList, GroupList, IdList, ImplyList,
-    IndexList, KeyList, MemberList, MethodList, ProjectList, RegionList, RoleList, ServiceList,
-    TextList, TrustList, UserList,
+    AppCredList, DomainList, EndpointList, EventList, FieldList, GrantList, GroupList, IdList,
+    ImplyList, IndexList, KeyList, MemberList, MethodList, ProjectList, RegionList, RoleList,
+    ServiceList, TextList, TrustList, UserList,
 };
 pub use memory::Memory;
 pub use method::Method;

@@ -39,8 +39,6 @@ pub const DEFAULT_KEYS: u32 = 3;
 pub const LAST_KEY_INDEX: u32 = 999_999_999;
 /// Bytes of a file of a key.
 pub const KEY_FILE_BYTES: usize = 64;
-/// Entries of the journal that an identity keeps.
-pub const ENTRIES: usize = 65_536;
 
 /// How far below its domain a project may lie.
 pub const LEVELS: usize = 5;
@@ -48,6 +46,18 @@ pub const LEVELS: usize = 5;
 pub const REDELEGATIONS: u32 = 3;
 /// Roles of one trust.
 pub const TRUST_ROLES: usize = 64;
+/// Application credentials that may stand.
+pub const APP_CREDS: usize = 65_536;
+/// Secrets of one-time codes that may stand.
+pub const SECRETS: usize = 65_536;
+/// The fewest bytes of a secret of one-time codes.
+pub const TOTP_SECRET_LEAST: usize = 10;
+/// The most bytes of a secret of one-time codes.
+pub const TOTP_SECRET_MOST: usize = 64;
+/// One-time codes: those of six digits.
+pub const CODES: u32 = 1_000_000;
+/// Rules of the methods that one user has to log in by.
+pub const MFA_RULES: usize = 16;
 /// Uses that a trust may be given.
 pub const USES: u64 = 9_007_199_254_740_992;
 

@@ -1,6 +1,7 @@
 use crate::{
-    DomainRow, EndpointRow, EventRow, GrantRow, GroupRow, Id, ImplyRow, Key, ListOf, MemberRow,
-    Memory, Method, ProjectRow, RegionRow, RoleRow, ServiceRow, Text, TrustRow, TryCopy, UserRow,
+    AppCredRow, DomainRow, EndpointRow, EventRow, GrantRow, GroupRow, Id, ImplyRow, Key, ListOf,
+    MemberRow, Memory, Method, ProjectRow, RegionRow, RoleRow, ServiceRow, Text, TrustRow, TryCopy,
+    UserRow,
 };
 
 /// Ids, each in its place.
@@ -54,6 +55,9 @@ pub type ServiceList = ListOf<ServiceRow>;
 
 /// Endpoints, each in its place.
 pub type EndpointList = ListOf<EndpointRow>;
+
+/// Application credentials, each in its place.
+pub type AppCredList = ListOf<AppCredRow>;
 
 impl TryCopy for u32 {
     fn copy(&self) -> Result<u32, Memory> {

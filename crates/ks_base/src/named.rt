@@ -14,7 +14,7 @@ pub trait Named: Row {
     fn name(&self) -> &Text
         ensures { result.now ≡ naming self.now };
 
-    /// The bytes of its domain's id; none, where the row lies in no domain.
+    /// The bytes of the id of the domain or of the user whose it is; none, where it is nobody's.
     fn home(&self) -> &[u8]
         ensures { result.now ≡ within self.now };
 }

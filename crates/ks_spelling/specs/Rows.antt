@@ -1,10 +1,13 @@
 -- The spellings of the rows of a state: their fields in order.
 use Rattle.std.specs.Prelude.{List, [], ◌∷◌, refl}
+use Rattle.ks_base.specs.declared.app_creds.AppCredRow.{AppCredRow}
 use Rattle.ks_base.specs.declared.catalog.EndpointRow.{EndpointRow}
 use Rattle.ks_base.specs.declared.catalog.Interface.{Interface}
 use Rattle.ks_base.specs.declared.catalog.Interface.TheVariants as interfaces
 use Rattle.ks_base.specs.declared.catalog.RegionRow.{RegionRow}
 use Rattle.ks_base.specs.declared.catalog.ServiceRow.{ServiceRow}
+use Rattle.ks_base.specs.declared.factors.MfaRow.{MfaRow}
+use Rattle.ks_base.specs.declared.factors.SecretRow.{SecretRow}
 use Rattle.ks_base.specs.declared.rows.DomainRow.{DomainRow}
 use Rattle.ks_base.specs.declared.rows.ProjectRow.{ProjectRow}
 use Rattle.ks_base.specs.declared.rows.GroupRow.{GroupRow}
@@ -24,7 +27,7 @@ use Rattle.ks_spelling.specs.Codes.{Code}
 use Rattle.ks_spelling.specs.Leaves.{fixed, number32, number64}
 use Rattle.ks_spelling.specs.Wholes.{nothing, both, made, listed}
 use Rattle.ks_spelling.specs.Variants.{Variant, Part, variant, part, there, InPlace, IsThere, one_of, truth, optional}
-use Rattle.ks_spelling.specs.Values.{id_code, text_code}
+use Rattle.ks_spelling.specs.Values.{bytes_code, id_code, text_code}
 
 unfoldable pub domain_code : Code DomainRow
 domain_code = made (both id_code (both text_code (both text_code truth))) (record {
@@ -206,6 +209,42 @@ unfoldable pub endpoint_code : Code EndpointRow
 endpoint_code = made (both id_code (both id_code (both (optional id_code) (both interface_code (both text_code truth))))) (record {
   make = λ p. record { id = p.0; service = p.1.0; region = p.1.1.0; interface = p.1.1.1.0; url = p.1.1.1.1.0; enabled = p.1.1.1.1.1 };
   of = λ row. (row.id, (row.service, (row.region, (row.interface, (row.url, row.enabled)))));
+  of_made = λ p. refl;
+  made_of = λ row. refl;
+})
+
+unfoldable pub app_cred_code : Code AppCredRow
+app_cred_code =
+    made (both id_code (both id_code (both id_code (both text_code (both text_code (both (listed number32 id_code) (both password_code (both (optional number64) truth))))))))
+    (record {
+      make = λ p. record {
+        id = p.0;
+        user = p.1.0;
+        project = p.1.1.0;
+        name = p.1.1.1.0;
+        description = p.1.1.1.1.0;
+        roles = p.1.1.1.1.1.0;
+        secret = p.1.1.1.1.1.1.0;
+        expires = p.1.1.1.1.1.1.1.0;
+        unrestricted = p.1.1.1.1.1.1.1.1;
+      };
+      of = λ row. (row.id, (row.user, (row.project, (row.name, (row.description, (row.roles, (row.secret, (row.expires, row.unrestricted))))))));
+      of_made = λ p. refl;
+      made_of = λ row. refl;
+    })
+
+unfoldable pub secret_code : Code SecretRow
+secret_code = made (both id_code (both id_code bytes_code)) (record {
+  make = λ p. record { id = p.0; user = p.1.0; secret = p.1.1 };
+  of = λ row. (row.id, (row.user, row.secret));
+  of_made = λ p. refl;
+  made_of = λ row. refl;
+})
+
+unfoldable pub mfa_code : Code MfaRow
+mfa_code = made (both id_code (both truth bytes_code)) (record {
+  make = λ p. record { user = p.0; enabled = p.1.0; rules = p.1.1 };
+  of = λ row. (row.user, (row.enabled, row.rules));
   of_made = λ p. refl;
   made_of = λ row. refl;
 })

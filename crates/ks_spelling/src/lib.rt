@@ -6,6 +6,7 @@
 #![tactic(auto)]
 
 mod catalog;
+mod credentials;
 mod cursor;
 mod grants;
 mod leaves;
@@ -21,4 +22,4 @@ pub use cursor::Cursor;
 pub use spelled::Spelled;
 pub use unread::Unread;
 pub use value::{read_value, spellings_differ, written};
-pub use variants::{write_at, write_place};
+pub use variants::{write_at, write_place, write_two_at};

@@ -1,7 +1,7 @@
 //! The variants of enums, each behind the byte of its place.
 ghost use Rattle.std.specs.Prelude.{OnOk};
 ghost use Rattle.ks_spelling.specs.Codes.{WritesAt};
-ghost use Rattle.ks_spelling.specs.Wholes.{nothing};
+ghost use Rattle.ks_spelling.specs.Wholes.{both, nothing};
 
 use crate::Spelled;
 use ks_base::Memory;
@@ -20,4 +20,18 @@ pub fn write_at<T: Spelled>(place: u8, held: &T, into: &mut Vec<u8>) -> Result<(
 {
     into.push(place)?;
     held.write_to(into)
+}
+
+/// The same of a variant that holds two values.
+pub fn write_two_at<A: Spelled, B: Spelled>(
+    place: u8,
+    first: &A,
+    second: &B,
+    into: &mut Vec<u8>,
+) -> Result<(), Memory>
+    ensures { OnOk result (WritesAt place (both A.code B.code) (first.now, second.now) into.old.items into.new.items) }
+{
+    into.push(place)?;
+    first.write_to(into)?;
+    second.write_to(into)
 }
