@@ -1,0 +1,5 @@
+use Rattle.std.proofs.Common.{◌≡◌, ℕ, ◌<◌, bit_xor, get_or, length}
+use Rattle.ks_totp.proofs.hmac.padded.Given as goal
+
+abbrev pub invariant-loop-i : goal.invariant-loop-i
+invariant-loop-i l = (length l.bytes ≡ 64) × ((k : ℕ) → k < l.i → get_or l.bytes k 0 ≡ bit_xor (get_or l.block k 0) l.pad)
