@@ -1,0 +1,4 @@
+pub mod MappedLemmas
+pub mod BothLemmas
+pub mod RunLemmas
+pub mod FaultLemmas
