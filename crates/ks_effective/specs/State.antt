@@ -6,7 +6,7 @@ use Rattle.ks_base.specs.Trees.{TreeState}
 use Rattle.ks_base.specs.People.{PeopleState}
 use Rattle.ks_base.specs.RoleLists.{RolesState}
 
--- without trusts and the catalog, on which effective roles do not depend
+-- without trusts, the catalog, application credentials and factors, on which effective roles do not depend
 abbrev pub rows_of : TreeState → PeopleState → RolesState → List GrantRow → Rows
 rows_of tree people roles grants = record {
   domains = tree.domains;
@@ -21,4 +21,7 @@ rows_of tree people roles grants = record {
   regions = [];
   services = [];
   endpoints = [];
+  app_creds = [];
+  secrets = [];
+  factor_rules = [];
 }

@@ -8,7 +8,7 @@ use Rattle.ks_spelling.specs.Leaves.{fixed, number32, number64}
 use Rattle.ks_spelling.specs.Wholes.{both, made, listed}
 use Rattle.ks_spelling.specs.Variants.{Variant, Part, variant, part, there, InPlace, IsThere, one_of}
 use Rattle.ks_spelling.specs.Values.{id_code}
-use Rattle.ks_spelling.specs.Rows.{domain_code, project_code, user_code, group_code, role_code, trust_code, member_code, imply_code, grant_code, key_code, region_code, service_code, endpoint_code}
+use Rattle.ks_spelling.specs.Rows.{app_cred_code, mfa_code, secret_code, domain_code, project_code, user_code, group_code, role_code, trust_code, member_code, imply_code, grant_code, key_code, region_code, service_code, endpoint_code}
 
 -- the place of each variant, and what it holds
 abbrev pub change_parts : Change → Part Change
@@ -40,6 +40,11 @@ change_parts (changes.PutEndpoint x) = part 24 endpoint_code changes.PutEndpoint
 change_parts (changes.DropRegion x) = part 25 id_code changes.DropRegion x
 change_parts (changes.DropService x) = part 26 id_code changes.DropService x
 change_parts (changes.DropEndpoint x) = part 27 id_code changes.DropEndpoint x
+change_parts (changes.PutAppCred x) = part 28 app_cred_code changes.PutAppCred x
+change_parts (changes.DropAppCred x) = part 29 id_code changes.DropAppCred x
+change_parts (changes.PutSecret x) = part 30 secret_code changes.PutSecret x
+change_parts (changes.DropSecret x) = part 31 id_code changes.DropSecret x
+change_parts (changes.PutUserWith x y) = part 32 (both user_code mfa_code) (λ p. changes.PutUserWith p.0 p.1) (x, y)
 
 abbrev pub change_table : List (Variant Change)
 change_table =
@@ -71,11 +76,16 @@ change_table =
     ∷ variant id_code changes.DropRegion
     ∷ variant id_code changes.DropService
     ∷ variant id_code changes.DropEndpoint
+    ∷ variant app_cred_code changes.PutAppCred
+    ∷ variant id_code changes.DropAppCred
+    ∷ variant secret_code changes.PutSecret
+    ∷ variant id_code changes.DropSecret
+    ∷ variant (both user_code mfa_code) (λ p. changes.PutUserWith p.0 p.1)
     ∷ []
 
 pub change_in_place : InPlace change_parts change_table 0
 change_in_place =
-    (λ x. refl, (λ x. refl, (λ x. refl, (λ x. refl, (λ x. refl, (λ x. refl, (λ x. refl, (λ x. refl, (λ x. refl, (λ x. refl, (λ x. refl, (λ x. refl, (λ x. refl, (λ x. refl, (λ x. refl, (λ x. refl, (λ x. refl, (λ x. refl, (λ x. refl, (λ x. refl, (λ x. refl, (λ x. refl, (λ x. refl, (λ x. refl, (λ x. refl, (λ x. refl, (λ x. refl, (λ x. refl, tt))))))))))))))))))))))))))))
+    (λ x. refl, (λ x. refl, (λ x. refl, (λ x. refl, (λ x. refl, (λ x. refl, (λ x. refl, (λ x. refl, (λ x. refl, (λ x. refl, (λ x. refl, (λ x. refl, (λ x. refl, (λ x. refl, (λ x. refl, (λ x. refl, (λ x. refl, (λ x. refl, (λ x. refl, (λ x. refl, (λ x. refl, (λ x. refl, (λ x. refl, (λ x. refl, (λ x. refl, (λ x. refl, (λ x. refl, (λ x. refl, (λ x. refl, (λ x. refl, (λ x. refl, (λ x. refl, (λ x. refl, tt)))))))))))))))))))))))))))))))))
 
 pub change_there : (x : Change) → IsThere change_table x (change_parts x)
 change_there (changes.PutDomain x) rest fits = there 0 domain_code changes.PutDomain x rest fits
@@ -106,6 +116,11 @@ change_there (changes.PutEndpoint x) rest fits = there 24 endpoint_code changes.
 change_there (changes.DropRegion x) rest fits = there 25 id_code changes.DropRegion x rest fits
 change_there (changes.DropService x) rest fits = there 26 id_code changes.DropService x rest fits
 change_there (changes.DropEndpoint x) rest fits = there 27 id_code changes.DropEndpoint x rest fits
+change_there (changes.PutAppCred x) rest fits = there 28 app_cred_code changes.PutAppCred x rest fits
+change_there (changes.DropAppCred x) rest fits = there 29 id_code changes.DropAppCred x rest fits
+change_there (changes.PutSecret x) rest fits = there 30 secret_code changes.PutSecret x rest fits
+change_there (changes.DropSecret x) rest fits = there 31 id_code changes.DropSecret x rest fits
+change_there (changes.PutUserWith x y) rest fits = there 32 (both user_code mfa_code) (λ p. changes.PutUserWith p.0 p.1) (x, y) rest fits
 
 unfoldable pub change_code : Code Change
 change_code = one_of change_parts change_table change_in_place change_there

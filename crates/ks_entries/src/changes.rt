@@ -5,11 +5,12 @@ ghost use Rattle.ks_machine.specs.declared.change.Entry.{Entry};
 ghost use Rattle.ks_entries.specs.Changes.{change_code, entry_code, IsEntry};
 
 use ks_base::{
-    Bytes, DomainRow, EndpointRow, GrantRow, GroupRow, Id, ImplyRow, Key, KeyList, MemberRow,
-    Memory, ProjectRow, RegionRow, RoleRow, ServiceRow, TrustRow, UserRow,
+    AppCredRow, Bytes, DomainRow, EndpointRow, GrantRow, GroupRow, Id, ImplyRow, Key, KeyList,
+    MemberRow, Memory, MfaRow, ProjectRow, RegionRow, RoleRow, SecretRow, ServiceRow, TrustRow,
+    UserRow,
 };
 use ks_machine::{Change, Entry};
-use ks_spelling::{Cursor, Spelled, Unread, write_at};
+use ks_spelling::{Cursor, Spelled, Unread, write_at, write_two_at};
 use std::alloc::Global;
 
 #[tactic(auto, unfolding(crate::specs::Changes::change_code))]
@@ -45,6 +46,11 @@ fn write_change(change: &Change, into: &mut Vec<u8>) -> Result<(), Memory>
         Change::DropRegion(held) => write_at(25, held, into),
         Change::DropService(held) => write_at(26, held, into),
         Change::DropEndpoint(held) => write_at(27, held, into),
+        Change::PutAppCred(held) => write_at(28, held, into),
+        Change::DropAppCred(held) => write_at(29, held, into),
+        Change::PutSecret(held) => write_at(30, held, into),
+        Change::DropSecret(held) => write_at(31, held, into),
+        Change::PutUserWith(user, rules) => write_two_at(32, user, rules, into),
     }
 }
 
@@ -81,6 +87,14 @@ fn read_change(alloc: Global, from: &mut Cursor<'_>) -> Result<Change, Unread>
         25 => Ok(Change::DropRegion(Id::read_from(alloc, from)?)),
         26 => Ok(Change::DropService(Id::read_from(alloc, from)?)),
         27 => Ok(Change::DropEndpoint(Id::read_from(alloc, from)?)),
+        28 => Ok(Change::PutAppCred(AppCredRow::read_from(alloc, from)?)),
+        29 => Ok(Change::DropAppCred(Id::read_from(alloc, from)?)),
+        30 => Ok(Change::PutSecret(SecretRow::read_from(alloc, from)?)),
+        31 => Ok(Change::DropSecret(Id::read_from(alloc, from)?)),
+        32 => {
+            let user = UserRow::read_from(alloc, from)?;
+            Ok(Change::PutUserWith(user, MfaRow::read_from(alloc, from)?))
+        }
         _ => Err(Unread::NoSpelling),
     }
 }

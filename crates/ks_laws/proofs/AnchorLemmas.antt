@@ -3,8 +3,13 @@ use Rattle.std.proofs.Common.{◌≡◌, ℕ, Bool, true, false, ◌&&◌, ◌||
 use Rattle.std.specs.Prelude.{not, if◌then◌else◌}
 use Rattle.std.specs.List.{filter, list_any}
 use Rattle.std.specs.declared.cmp.Ordering.{Ordering}
+use Rattle.std.specs.Ordering.{is_eq}
+use Rattle.std.proofs.lemmas.Cmp.{nat_list_cmp_total, tied_itself}
 use Rattle.std.proofs.lemmas.Bool.{and_parts, not-true, both_ways, and_from, or_parts}
+use Rattle.ks_base.specs.declared.app_creds.AppCredRow.{AppCredRow}
 use Rattle.ks_base.specs.declared.events.Revoke.TheVariants as revoke
+use Rattle.ks_base.specs.declared.factors.MfaRow.{MfaRow}
+use Rattle.ks_base.specs.declared.factors.SecretRow.{SecretRow}
 use Rattle.ks_base.specs.declared.faults.RowFault.TheVariants as fault
 use Rattle.ks_base.specs.declared.grants.Actor.{Actor}
 use Rattle.ks_base.specs.declared.grants.Actor.TheVariants as actor
@@ -20,9 +25,11 @@ use Rattle.ks_base.specs.declared.rows.RoleRow.{RoleRow}
 use Rattle.ks_base.specs.declared.trusts.TrustRow.{TrustRow}
 use Rattle.ks_base.specs.declared.users.MemberRow.{MemberRow}
 use Rattle.ks_base.specs.declared.users.UserRow.{UserRow}
+use Rattle.ks_base.specs.AppCreds.{is_of_user as is_cred_of_user, is_on_project, lists_role}
+use Rattle.ks_base.specs.Factors.{is_secret_of, with_rules}
 use Rattle.ks_base.specs.Grants.{is_at_target, is_of_actor, is_of_role, same_actor, same_target}
 use Rattle.ks_base.specs.Orders.{grant_cmp, imply_cmp, member_cmp}
-use Rattle.ks_base.specs.People.{is_group_in, is_of_group, is_of_user, is_user_in}
+use Rattle.ks_base.specs.People.{is_group_in, is_of_group, is_of_user, is_user_in, with_user}
 use Rattle.ks_base.specs.PeopleFaults.{group_absent, join_group_fault, members_full, user_absent}
 use Rattle.ks_base.specs.RoleFaults.{admin_implied, implications_full, imply_fault, role_absent}
 use Rattle.ks_base.specs.RoleLists.{names_role}
@@ -30,19 +37,20 @@ use Rattle.ks_base.specs.Rows.{Id, Rows, same, domain_of, group_of, project_of, 
 use Rattle.ks_base.specs.Tables.{Among, drop_row, find_row, has_key, id_cmp, put_row}
 use Rattle.ks_base.specs.Trees.{lies_in}
 use Rattle.ks_base.specs.Trusts.{goes, has_role, lineage, names_trust, use_trust, used}
-use Rattle.ks_base.proofs.RowLemmas.{among_drop, among_filter, among_put, id_found}
+use Rattle.ks_base.proofs.RowLemmas.{among_drop, among_filter, among_put, find_put, id_found}
+use Rattle.ks_base.proofs.TruthLemmas.{not_both}
 use Rattle.ks_base.proofs.OptionLemmas.{some_is}
 use Rattle.ks_base.proofs.AmongLemmas.{among_mapped, any_to}
 use Rattle.ks_base.proofs.ListLemmas.{find_kept}
-use Rattle.ks_laws.specs.Orderly.{AreAnchored, Each, IsCatalogAnchored, IsGrantAnchored, IsImplicationAnchored, IsMemberAnchored, IsTrustAnchored}
+use Rattle.ks_laws.specs.Orderly.{AreAnchored, AreCredentialsAnchored, Each, IsCatalogAnchored, IsCredAnchored, IsGrantAnchored, IsImplicationAnchored, IsMemberAnchored, IsTrustAnchored, UserStands}
 use Rattle.ks_laws.proofs.CatalogLemmas.{anchored_endpoint_dropped, anchored_endpoint_put, anchored_region_dropped, anchored_region_put, anchored_service_dropped, anchored_service_put}
-use Rattle.ks_laws.proofs.ListLemmas.{after_drop, each_of_all, found_is_among, is_same, is_there, none_apply, other_stands, stands_put, unless_fault}
+use Rattle.ks_laws.proofs.ListLemmas.{after_drop, each_drop, each_of_all, each_put, found_is_among, is_same, is_there, none_apply, other_stands, same_is, stands_put, unless_fault}
 use Rattle.ks_machine.specs.declared.change.Change.{Change}
 use Rattle.ks_machine.specs.declared.change.Change.TheVariants as change
-use Rattle.ks_machine.specs.Changes.{domain_dropped, group_dropped, is_actor_gone, is_domain_group, is_domain_project, is_domain_user, is_grant_left, is_id_of, is_left, is_of_domain, is_target_gone, project_dropped, role_dropped, rows_after, touches, user_dropped}
-use Rattle.ks_machine.specs.Lawful.{ActorStands, Fits, IsStanding, IsTrustMade, TargetStands}
+use Rattle.ks_machine.specs.Changes.{domain_dropped, group_dropped, is_actor_gone, is_cred_left, is_domain_group, is_domain_project, is_domain_user, is_grant_left, is_id_of, is_left, is_of_domain, is_target_gone, project_dropped, role_dropped, rows_after, touches, user_dropped}
+use Rattle.ks_machine.specs.Lawful.{ActorStands, Fits, IsAppCredMade, IsStanding, IsTrustMade, TargetStands}
 use Rattle.ks_machine.specs.States.{State}
-use Rattle.ks_machine.specs.Tables.{catalogs, people, roles}
+use Rattle.ks_machine.specs.Tables.{catalogs, factors, people, put_factors, put_people, roles}
 
 -- tests
 
@@ -116,10 +124,40 @@ record TrustStays (old : Rows) (gone : Gone) (trust : TrustRow) : Type 0 where
   project : gone.projects trust.project ≡ false
   roles : Each (λ role. gone.roles role ≡ false) trust.roles
 
+record CredStays (old : Rows) (gone : Gone) (cred : AppCredRow) : Type 0 where
+  stood : IsCredAnchored old cred
+  user : gone.users cred.user ≡ false
+  project : gone.projects cred.project ≡ false
+  roles : Each (λ role. gone.roles role ≡ false) cred.roles
+
+record UserStays (old : Rows) (gone : Gone) (user : Id) : Type 0 where
+  stood : UserStands old user
+  out : gone.users user ≡ false
+
+record CredentialsStay (old : Rows) (gone : Gone) (creds : List AppCredRow) (secrets : List SecretRow) (rules : List MfaRow) : Type 0 where
+  app_creds : Each (CredStays old gone) creds
+  secrets_users : Each (λ (row : SecretRow). UserStays old gone row.user) secrets
+  rules_users : Each (λ (row : MfaRow). UserStays old gone row.user) rules
+
+credentials_on : (old new : Rows) (gone : Gone) (creds : List AppCredRow) (secrets : List SecretRow) (rules : List MfaRow) → Spares old new gone →
+    CredentialsStay old gone creds secrets rules → AreCredentialsAnchored new creds secrets rules
+credentials_on old new gone creds secrets rules spares stay = record {
+  app_creds = λ cred among.
+      let stays = stay.app_creds cred among in record {
+        user = spares.users cred.user stays.user stays.stood.user;
+        project = spares.projects cred.project stays.project stays.stood.project;
+        roles = λ role here. spares.roles role (stays.roles role here) (stays.stood.roles role here);
+      };
+  secrets_users = λ row among. let stays = stay.secrets_users row among in spares.users row.user stays.out stays.stood;
+  rules_users = λ row among. let stays = stay.rules_users row among in spares.users row.user stays.out stays.stood;
+}
+
 anchored_on : (old new : Rows) (gone : Gone) → Spares old new gone → Each (MemberStays old gone) new.members → Each (ImplicationStays old gone) new.implications →
-    Each (GrantStays old gone) new.grants → Each (TrustStays old gone) new.trusts → IsCatalogAnchored (catalogs new) → AreAnchored new
-anchored_on old new gone spares members implications grants trusts catalog = record {
+    Each (GrantStays old gone) new.grants → Each (TrustStays old gone) new.trusts → IsCatalogAnchored (catalogs new) →
+    CredentialsStay old gone new.app_creds new.secrets new.factor_rules → AreAnchored new
+anchored_on old new gone spares members implications grants trusts catalog credentials = record {
   catalog = catalog;
+  credentials = credentials_on old new gone new.app_creds new.secrets new.factor_rules spares credentials;
   members = λ row among.
       let stays = members row among in record {
         group = spares.groups row.group stays.group stays.stood.group;
@@ -167,9 +205,10 @@ record Keeps (old new : Rows) : Type 0 where
   roles : (id : Id) → IsStanding (role_of id old.roles) → IsStanding (role_of id new.roles)
 
 anchored_with : (old new : Rows) → Keeps old new → Each (IsMemberAnchored old) new.members → Each (IsImplicationAnchored old) new.implications →
-    Each (IsGrantAnchored old) new.grants → Each (IsTrustAnchored old) new.trusts → IsCatalogAnchored (catalogs new) → AreAnchored new
+    Each (IsGrantAnchored old) new.grants → Each (IsTrustAnchored old) new.trusts → IsCatalogAnchored (catalogs new) →
+    AreCredentialsAnchored old new.app_creds new.secrets new.factor_rules → AreAnchored new
 unfolding nothing
-anchored_with old new keeps members implications grants trusts catalog =
+anchored_with old new keeps members implications grants trusts catalog credentials =
     anchored_on old new nothing (record {
       domains = λ id out. keeps.domains id;
       projects = λ id out. keeps.projects id;
@@ -182,6 +221,11 @@ anchored_with old new keeps members implications grants trusts catalog =
     (λ row among. record { stood = grants row among; at = no_target_out row.target; who = no_actor_out row.actor; role = refl })
     (λ trust among. record { stood = trusts trust among; trustor = refl; trustee = refl; project = refl; roles = λ role here. refl })
     catalog
+    (record {
+      app_creds = λ cred among. record { stood = credentials.app_creds cred among; user = refl; project = refl; roles = λ role here. refl };
+      secrets_users = λ row among. record { stood = credentials.secrets_users row among; out = refl };
+      rules_users = λ row among. record { stood = credentials.rules_users row among; out = refl };
+    })
 
 -- a row that is put in a list of its own order
 each_put_by : {X : Type 0} (cmp : X → X → Ordering) (P : X → Type 0) (row : X) (rows : List X) → P row → Each P rows → Each P (put_row cmp (λ r. r) row rows)
@@ -227,6 +271,14 @@ named gone id = same id gone
 
 nowhere : Id → Bool
 nowhere id = false
+
+-- a row that is left when another's is dropped
+other_key : (a id : Id) → not (is_eq (id_cmp a id)) ≡ true → same a id ≡ false
+other_key a id apart = by (same a id) refl
+  where
+    by : (b : Bool) → same a id ≡ b → same a id ≡ false
+    by true is = absurd (not_both (is_eq (id_cmp a id)) apart (ap is_eq (ap (λ (k : Id). id_cmp k id) (same_is a id is) ∙ tied_itself nat_list_cmp_total id)))
+    by false is = is
 
 -- each of the five kinds of rows that go
 
@@ -278,6 +330,17 @@ user_anchored rows id old =
       roles = λ role here. refl;
     })
     old.catalog
+    (record {
+      app_creds = λ cred among.
+          let left = among_filter (λ cred. not (is_cred_of_user id cred)) rows.app_creds cred among in
+          record { stood = old.credentials.app_creds cred left.0; user = not-true (same cred.user id) left.1; project = refl; roles = λ role here. refl };
+      secrets_users = λ row among.
+          let left = among_filter (λ row. not (is_secret_of id row)) rows.secrets row among in
+          record { stood = old.credentials.secrets_users row left.0; out = not-true (same row.user id) left.1 };
+      rules_users = λ row among.
+          let left = among_drop id_cmp (λ (r : MfaRow). r.user) id rows.factor_rules row among in
+          record { stood = old.credentials.rules_users row left.0; out = other_key row.user id left.1 };
+    })
 
 -- a group
 
@@ -318,6 +381,11 @@ group_anchored rows id old =
     record { stood = old.grants row left.0; at = no_target_of_group id row.target; who = other_group id row.actor left.1; role = refl })
     (λ trust among. record { stood = old.trusts trust among; trustor = refl; trustee = refl; project = refl; roles = λ role here. refl })
     old.catalog
+    (record {
+      app_creds = λ cred among. record { stood = old.credentials.app_creds cred among; user = refl; project = refl; roles = λ role here. refl };
+      secrets_users = λ row among. record { stood = old.credentials.secrets_users row among; out = refl };
+      rules_users = λ row among. record { stood = old.credentials.rules_users row among; out = refl };
+    })
 
 -- a project
 
@@ -364,6 +432,13 @@ project_anchored rows id old =
       roles = λ role here. refl;
     })
     old.catalog
+    (record {
+      app_creds = λ cred among.
+          let left = among_filter (λ cred. not (is_on_project id cred)) rows.app_creds cred among in
+          record { stood = old.credentials.app_creds cred left.0; user = refl; project = not-true (same cred.project id) left.1; roles = λ role here. refl };
+      secrets_users = λ row among. record { stood = old.credentials.secrets_users row among; out = refl };
+      rules_users = λ row among. record { stood = old.credentials.rules_users row among; out = refl };
+    })
 
 -- a role
 
@@ -417,6 +492,18 @@ role_anchored rows id old =
       roles = λ role here. none_of (λ other. same other id) trust.roles role (untouched rows.trusts (has_role id) trust left.1) here;
     })
     old.catalog
+    (record {
+      app_creds = λ cred among.
+          let left = among_filter (λ cred. not (lists_role id cred)) rows.app_creds cred among in
+          record {
+            stood = old.credentials.app_creds cred left.0;
+            user = refl;
+            project = refl;
+            roles = λ role here. none_of (λ other. same other id) cred.roles role (not-true (lists_role id cred) left.1) here;
+          };
+      secrets_users = λ row among. record { stood = old.credentials.secrets_users row among; out = refl };
+      rules_users = λ row among. record { stood = old.credentials.rules_users row among; out = refl };
+    })
 
 -- a domain
 
@@ -481,6 +568,23 @@ domain_anchored rows id old =
       roles = λ role here. refl;
     })
     old.catalog
+    (record {
+      app_creds = λ cred among.
+          let left = among_filter (is_cred_left rows id) rows.app_creds cred among in
+          let parts = and_parts (not (is_domain_user rows id cred.user)) (not (is_domain_project rows id cred.project)) left.1 in
+          record {
+            stood = old.credentials.app_creds cred left.0;
+            user = not-true (is_domain_user rows id cred.user) parts.0;
+            project = not-true (is_domain_project rows id cred.project) parts.1;
+            roles = λ role here. refl;
+          };
+      secrets_users = λ row among.
+          let left = among_filter (λ row. not (is_domain_user rows id row.user)) rows.secrets row among in
+          record { stood = old.credentials.secrets_users row left.0; out = not-true (is_domain_user rows id row.user) left.1 };
+      rules_users = λ row among.
+          let left = among_filter (λ row. not (is_domain_user rows id row.user)) rows.factor_rules row among in
+          record { stood = old.credentials.rules_users row left.0; out = not-true (is_domain_user rows id row.user) left.1 };
+    })
 
 -- rows that are put
 
@@ -538,6 +642,37 @@ same_rows old new domains projects users groups roles = record {
   roles = λ id stands. subst (λ (rows : List RoleRow). IsStanding (role_of id rows)) (sym roles) stands;
 }
 
+anchored_user_put : (rows : Rows) (row : UserRow) → AreAnchored rows → AreAnchored (put_people (with_user row (people rows)) rows)
+anchored_user_put rows row old =
+    anchored_with rows (put_people (with_user row (people rows)) rows) (record {
+      domains = λ id stands. stands;
+      projects = λ id stands. stands;
+      users = λ id. stands_put (λ (r : UserRow). r.id) row rows.users id;
+      groups = λ id stands. stands;
+      roles = λ id stands. stands;
+    }) old.members old.implications old.grants old.trusts old.catalog old.credentials
+
+-- with the user come its rules
+anchored_user_with : (rows : Rows) (row : UserRow) (rules : MfaRow) → rules.user ≡ row.id → AreAnchored rows →
+    AreAnchored (put_factors (with_rules rules (factors rows)) (put_people (with_user row (people rows)) rows))
+anchored_user_with rows row rules is old =
+    let mid : Rows = put_people (with_user row (people rows)) rows in
+    let came = anchored_user_put rows row old in
+    let stands : UserStands mid rules.user = subst (UserStands mid) (sym is) (ap is_some (find_put id_cmp (λ (r : UserRow). r.id) nat_list_cmp_total row rows.users)) in
+    anchored_with mid (put_factors (with_rules rules (factors rows)) mid) (same_rows mid (put_factors (with_rules rules (factors rows)) mid) refl refl refl refl refl)
+    came.members came.implications came.grants came.trusts came.catalog (record {
+      app_creds = came.credentials.app_creds;
+      secrets_users = came.credentials.secrets_users;
+      rules_users = each_put (λ (r : MfaRow). r.user) (λ (r : MfaRow). UserStands mid r.user) rules rows.factor_rules stands came.credentials.rules_users;
+    })
+
+new_cred_stands : (rows : Rows) (row : AppCredRow) → IsAppCredMade rows row → IsCredAnchored rows row
+new_cred_stands rows row made = record {
+  user = made.user;
+  project = made.project;
+  roles = each_of_all (λ role. IsStanding (role_of role rows.roles)) row.roles made.roles;
+}
+
 pub anchored_kept : (S : State) (moment : ℕ) (what : Change) → Fits S moment what → AreAnchored S.rows → AreAnchored (rows_after S.rows what)
 unfolding Fits rows_after
 anchored_kept S moment (change.PutDomain row) fits old =
@@ -547,7 +682,7 @@ anchored_kept S moment (change.PutDomain row) fits old =
       users = λ id stands. stands;
       groups = λ id stands. stands;
       roles = λ id stands. stands;
-    }) old.members old.implications old.grants old.trusts old.catalog
+    }) old.members old.implications old.grants old.trusts old.catalog old.credentials
 anchored_kept S moment (change.PutProject row) fits old =
     anchored_with S.rows (rows_after S.rows (change.PutProject row)) (record {
       domains = λ id stands. stands;
@@ -555,15 +690,8 @@ anchored_kept S moment (change.PutProject row) fits old =
       users = λ id stands. stands;
       groups = λ id stands. stands;
       roles = λ id stands. stands;
-    }) old.members old.implications old.grants old.trusts old.catalog
-anchored_kept S moment (change.PutUser row) fits old =
-    anchored_with S.rows (rows_after S.rows (change.PutUser row)) (record {
-      domains = λ id stands. stands;
-      projects = λ id stands. stands;
-      users = λ id. stands_put (λ (r : UserRow). r.id) row S.rows.users id;
-      groups = λ id stands. stands;
-      roles = λ id stands. stands;
-    }) old.members old.implications old.grants old.trusts old.catalog
+    }) old.members old.implications old.grants old.trusts old.catalog old.credentials
+anchored_kept S moment (change.PutUser row) fits old = anchored_user_put S.rows row old
 anchored_kept S moment (change.PutGroup row) fits old =
     anchored_with S.rows (rows_after S.rows (change.PutGroup row)) (record {
       domains = λ id stands. stands;
@@ -571,7 +699,7 @@ anchored_kept S moment (change.PutGroup row) fits old =
       users = λ id stands. stands;
       groups = λ id. stands_put (λ (r : GroupRow). r.id) row S.rows.groups id;
       roles = λ id stands. stands;
-    }) old.members old.implications old.grants old.trusts old.catalog
+    }) old.members old.implications old.grants old.trusts old.catalog old.credentials
 anchored_kept S moment (change.PutRole row) fits old =
     anchored_with S.rows (rows_after S.rows (change.PutRole row)) (record {
       domains = λ id stands. stands;
@@ -579,10 +707,10 @@ anchored_kept S moment (change.PutRole row) fits old =
       users = λ id stands. stands;
       groups = λ id stands. stands;
       roles = λ id. stands_put (λ (r : RoleRow). r.id) row S.rows.roles id;
-    }) old.members old.implications old.grants old.trusts old.catalog
+    }) old.members old.implications old.grants old.trusts old.catalog old.credentials
 anchored_kept S moment (change.PutTrust row) fits old =
     anchored_with S.rows (rows_after S.rows (change.PutTrust row)) (same_rows S.rows (rows_after S.rows (change.PutTrust row)) refl refl refl refl refl)
-    old.members old.implications old.grants (put_trust_stand S.rows moment row fits old.trusts) old.catalog
+    old.members old.implications old.grants (put_trust_stand S.rows moment row fits old.trusts) old.catalog old.credentials
 anchored_kept S moment (change.DropDomain id) fits old = domain_anchored S.rows id old
 anchored_kept S moment (change.DropProject id) fits old = project_anchored S.rows id old
 anchored_kept S moment (change.DropUser id) fits old = user_anchored S.rows id old
@@ -592,46 +720,75 @@ anchored_kept S moment (change.DropTrust id) fits old =
     anchored_with S.rows (rows_after S.rows (change.DropTrust id)) (same_rows S.rows (rows_after S.rows (change.DropTrust id)) refl refl refl refl refl)
     old.members old.implications old.grants
     (λ trust among. old.trusts trust (among_filter (λ trust. not (goes S.rows.trusts (touches S.rows (change.DropTrust id)) trust)) S.rows.trusts trust among).0)
-    old.catalog
+    old.catalog old.credentials
 anchored_kept S moment (change.Join row) fits old =
     anchored_with S.rows (rows_after S.rows (change.Join row)) (same_rows S.rows (rows_after S.rows (change.Join row)) refl refl refl refl refl)
-    (each_put_by member_cmp (IsMemberAnchored S.rows) row S.rows.members (member_stands S.rows row fits) old.members) old.implications old.grants old.trusts old.catalog
+    (each_put_by member_cmp (IsMemberAnchored S.rows) row S.rows.members (member_stands S.rows row fits) old.members) old.implications old.grants old.trusts old.catalog old.credentials
 anchored_kept S moment (change.Leave row) fits old =
     anchored_with S.rows (rows_after S.rows (change.Leave row)) (same_rows S.rows (rows_after S.rows (change.Leave row)) refl refl refl refl refl)
-    (each_drop_by member_cmp (IsMemberAnchored S.rows) row S.rows.members old.members) old.implications old.grants old.trusts old.catalog
+    (each_drop_by member_cmp (IsMemberAnchored S.rows) row S.rows.members old.members) old.implications old.grants old.trusts old.catalog old.credentials
 anchored_kept S moment (change.Imply row) fits old =
     anchored_with S.rows (rows_after S.rows (change.Imply row)) (same_rows S.rows (rows_after S.rows (change.Imply row)) refl refl refl refl refl)
-    old.members (each_put_by imply_cmp (IsImplicationAnchored S.rows) row S.rows.implications (implication_stands S.rows row fits) old.implications) old.grants old.trusts old.catalog
+    old.members (each_put_by imply_cmp (IsImplicationAnchored S.rows) row S.rows.implications (implication_stands S.rows row fits) old.implications) old.grants old.trusts old.catalog old.credentials
 anchored_kept S moment (change.Unimply row) fits old =
     anchored_with S.rows (rows_after S.rows (change.Unimply row)) (same_rows S.rows (rows_after S.rows (change.Unimply row)) refl refl refl refl refl)
-    old.members (each_drop_by imply_cmp (IsImplicationAnchored S.rows) row S.rows.implications old.implications) old.grants old.trusts old.catalog
+    old.members (each_drop_by imply_cmp (IsImplicationAnchored S.rows) row S.rows.implications old.implications) old.grants old.trusts old.catalog old.credentials
 anchored_kept S moment (change.Grant row) fits old =
     anchored_with S.rows (rows_after S.rows (change.Grant row)) (same_rows S.rows (rows_after S.rows (change.Grant row)) refl refl refl refl refl)
-    old.members old.implications (each_put_by grant_cmp (IsGrantAnchored S.rows) row S.rows.grants (record { target = fits.0.1; actor = fits.0.2; role = fits.0.3 }) old.grants) old.trusts old.catalog
+    old.members old.implications (each_put_by grant_cmp (IsGrantAnchored S.rows) row S.rows.grants (record { target = fits.0.1; actor = fits.0.2; role = fits.0.3 }) old.grants) old.trusts old.catalog old.credentials
 anchored_kept S moment (change.Ungrant row) fits old =
     anchored_with S.rows (rows_after S.rows (change.Ungrant row)) (same_rows S.rows (rows_after S.rows (change.Ungrant row)) refl refl refl refl refl)
-    old.members old.implications (each_drop_by grant_cmp (IsGrantAnchored S.rows) row S.rows.grants old.grants) old.trusts old.catalog
+    old.members old.implications (each_drop_by grant_cmp (IsGrantAnchored S.rows) row S.rows.grants old.grants) old.trusts old.catalog old.credentials
 anchored_kept S moment (change.UseTrust id) fits old =
     anchored_with S.rows (rows_after S.rows (change.UseTrust id)) (same_rows S.rows (rows_after S.rows (change.UseTrust id)) refl refl refl refl refl)
-    old.members old.implications old.grants (used_stand S.rows id old.trusts) old.catalog
+    old.members old.implications old.grants (used_stand S.rows id old.trusts) old.catalog old.credentials
 anchored_kept S moment (change.RevokeToken audit) fits old = old
 anchored_kept S moment (change.Rotate key) fits old = old
 anchored_kept S moment (change.Load keys) fits old = old
 anchored_kept S moment (change.PutRegion row) fits old =
     anchored_with S.rows (rows_after S.rows (change.PutRegion row)) (same_rows S.rows (rows_after S.rows (change.PutRegion row)) refl refl refl refl refl)
-    old.members old.implications old.grants old.trusts (anchored_region_put row (catalogs S.rows) fits.1 old.catalog)
+    old.members old.implications old.grants old.trusts (anchored_region_put row (catalogs S.rows) fits.1 old.catalog) old.credentials
 anchored_kept S moment (change.PutService row) fits old =
     anchored_with S.rows (rows_after S.rows (change.PutService row)) (same_rows S.rows (rows_after S.rows (change.PutService row)) refl refl refl refl refl)
-    old.members old.implications old.grants old.trusts (anchored_service_put row (catalogs S.rows) old.catalog)
+    old.members old.implications old.grants old.trusts (anchored_service_put row (catalogs S.rows) old.catalog) old.credentials
 anchored_kept S moment (change.PutEndpoint row) fits old =
     anchored_with S.rows (rows_after S.rows (change.PutEndpoint row)) (same_rows S.rows (rows_after S.rows (change.PutEndpoint row)) refl refl refl refl refl)
-    old.members old.implications old.grants old.trusts (anchored_endpoint_put row (catalogs S.rows) fits.1 old.catalog)
+    old.members old.implications old.grants old.trusts (anchored_endpoint_put row (catalogs S.rows) fits.1 old.catalog) old.credentials
 anchored_kept S moment (change.DropRegion id) fits old =
     anchored_with S.rows (rows_after S.rows (change.DropRegion id)) (same_rows S.rows (rows_after S.rows (change.DropRegion id)) refl refl refl refl refl)
-    old.members old.implications old.grants old.trusts (anchored_region_dropped id (catalogs S.rows) fits old.catalog)
+    old.members old.implications old.grants old.trusts (anchored_region_dropped id (catalogs S.rows) fits old.catalog) old.credentials
 anchored_kept S moment (change.DropService id) fits old =
     anchored_with S.rows (rows_after S.rows (change.DropService id)) (same_rows S.rows (rows_after S.rows (change.DropService id)) refl refl refl refl refl)
-    old.members old.implications old.grants old.trusts (anchored_service_dropped id (catalogs S.rows) old.catalog)
+    old.members old.implications old.grants old.trusts (anchored_service_dropped id (catalogs S.rows) old.catalog) old.credentials
 anchored_kept S moment (change.DropEndpoint id) fits old =
     anchored_with S.rows (rows_after S.rows (change.DropEndpoint id)) (same_rows S.rows (rows_after S.rows (change.DropEndpoint id)) refl refl refl refl refl)
-    old.members old.implications old.grants old.trusts (anchored_endpoint_dropped id (catalogs S.rows) old.catalog)
+    old.members old.implications old.grants old.trusts (anchored_endpoint_dropped id (catalogs S.rows) old.catalog) old.credentials
+anchored_kept S moment (change.PutAppCred row) fits old =
+    anchored_with S.rows (rows_after S.rows (change.PutAppCred row)) (same_rows S.rows (rows_after S.rows (change.PutAppCred row)) refl refl refl refl refl)
+    old.members old.implications old.grants old.trusts old.catalog (record {
+      app_creds = each_put (λ (r : AppCredRow). r.id) (IsCredAnchored S.rows) row S.rows.app_creds (new_cred_stands S.rows row fits) old.credentials.app_creds;
+      secrets_users = old.credentials.secrets_users;
+      rules_users = old.credentials.rules_users;
+    })
+anchored_kept S moment (change.DropAppCred id) fits old =
+    anchored_with S.rows (rows_after S.rows (change.DropAppCred id)) (same_rows S.rows (rows_after S.rows (change.DropAppCred id)) refl refl refl refl refl)
+    old.members old.implications old.grants old.trusts old.catalog (record {
+      app_creds = each_drop (λ (r : AppCredRow). r.id) (IsCredAnchored S.rows) id S.rows.app_creds old.credentials.app_creds;
+      secrets_users = old.credentials.secrets_users;
+      rules_users = old.credentials.rules_users;
+    })
+anchored_kept S moment (change.PutSecret row) fits old =
+    anchored_with S.rows (rows_after S.rows (change.PutSecret row)) (same_rows S.rows (rows_after S.rows (change.PutSecret row)) refl refl refl refl refl)
+    old.members old.implications old.grants old.trusts old.catalog (record {
+      app_creds = old.credentials.app_creds;
+      secrets_users = each_put (λ (r : SecretRow). r.id) (λ (r : SecretRow). UserStands S.rows r.user) row S.rows.secrets fits.1 old.credentials.secrets_users;
+      rules_users = old.credentials.rules_users;
+    })
+anchored_kept S moment (change.DropSecret id) fits old =
+    anchored_with S.rows (rows_after S.rows (change.DropSecret id)) (same_rows S.rows (rows_after S.rows (change.DropSecret id)) refl refl refl refl refl)
+    old.members old.implications old.grants old.trusts old.catalog (record {
+      app_creds = old.credentials.app_creds;
+      secrets_users = each_drop (λ (r : SecretRow). r.id) (λ (r : SecretRow). UserStands S.rows r.user) id S.rows.secrets old.credentials.secrets_users;
+      rules_users = old.credentials.rules_users;
+    })
+anchored_kept S moment (change.PutUserWith row rules) fits old = anchored_user_with S.rows row rules fits.1 old

@@ -1,6 +1,6 @@
 -- Every command: the change that it makes fits, and what it tells can be told.
 use Rattle.std.proofs.Common.{◌≡◌, ℕ, ◌≤◌, ◌<◌, ◌^◌, Bool, true, false, List, [], ◌∷◌, Option, Some, None, is_some, codes, ap, arith}
-use Rattle.std.specs.Prelude.{not, nat_lt}
+use Rattle.std.specs.Prelude.{not, nat_lt, is_none}
 use Rattle.std.specs.List.{AllByRecursion, filter}
 use Rattle.std.proofs.lemmas.Bool.{not-true, ltb-true}
 use Rattle.ks_base.specs.declared.events.EventRow.{EventRow}
@@ -19,6 +19,7 @@ use Rattle.ks_base.specs.declared.receipt.Drawn.{Drawn}
 use Rattle.ks_base.specs.declared.shapes.Filter.{Filter}
 use Rattle.ks_base.specs.declared.users.MemberRow.{MemberRow}
 use Rattle.ks_base.specs.CatalogLists.{is_endpoint_listed, is_region_listed, is_service_listed}
+use Rattle.ks_base.specs.Factors.{secret_of}
 use Rattle.ks_base.specs.Grants.{grant_fault, stands, ungrant_fault}
 use Rattle.ks_base.specs.People.{member_of}
 use Rattle.ks_base.specs.PeopleFaults.{drop_group_fault, drop_user_fault, join_group_fault, leave_group_fault}
@@ -30,6 +31,7 @@ use Rattle.ks_base.specs.Rows.{Id, Text, Rows, domain_of, group_of, project_of, 
 use Rattle.ks_base.specs.TreeFaults.{drop_domain_fault, drop_project_fault}
 use Rattle.ks_laws.specs.Orderly.{IsOrderly}
 use Rattle.ks_laws.proofs.CatalogRows.{good_create_catalog, good_delete_endpoint, good_delete_region, good_delete_service, good_update_catalog}
+use Rattle.ks_laws.proofs.CredentialCommands.{good_create_app_cred, good_create_secret, good_delete_app_cred, good_delete_secret, good_get_app_cred, good_get_secret, good_list_app_creds, good_list_secrets}
 use Rattle.ks_laws.proofs.GivesLemmas.{Gives, IsGood, gives_bind, gives_blame, gives_fault, gives_found, gives_go, gives_need, gives_past, gives_stop, good_changes, good_tells}
 use Rattle.ks_laws.proofs.ListLemmas.{all_mapped, all_of_each, each_filter}
 use Rattle.ks_laws.proofs.RowCommands.{good_change_password, good_create, good_update}
@@ -61,7 +63,7 @@ use Rattle.ks_machine.specs.Moment.{last_moment}
 use Rattle.ks_machine.specs.Outcomes.{Outcome, key, made_id, tells}
 use Rattle.ks_machine.specs.States.{State}
 use Rattle.ks_machine.specs.Steps.{answered, as_caller, as_caller_about, caller_of, is_allowed, missing, revoked_subject, subject_of, told_subject}
-use Rattle.ks_machine.specs.Tables.{row_cause, tree_cause, people, roles, standing_domain, standing_endpoint, standing_group, standing_project, standing_region, standing_role, standing_service, standing_user, trees, unless_row, unless_tree}
+use Rattle.ks_machine.specs.Tables.{row_cause, tree_cause, people, roles, standing_domain, standing_endpoint, standing_group, standing_project, standing_region, standing_role, standing_secret, standing_service, standing_user, trees, unless_row, unless_tree}
 use Rattle.ks_machine.specs.Targets.{catalog_kind}
 use Rattle.ks_machine.specs.Told.{IsBodyTellable, IsEventTellable, IsRowTellable}
 use Rattle.ks_machine.specs.Validity.{Valid, validity}
@@ -125,6 +127,8 @@ row_tellable rows kind.Event id = gives_stop Row IsRowTellable (cause.Absent kin
 row_tellable rows kind.Region id = gives_past IsRowTellable (standing_region rows id) _ (λ found. gives_go Cause IsRowTellable (row.Region found) tt)
 row_tellable rows kind.Service id = gives_past IsRowTellable (standing_service rows id) _ (λ found. gives_go Cause IsRowTellable (row.Service found) tt)
 row_tellable rows kind.Endpoint id = gives_past IsRowTellable (standing_endpoint rows id) _ (λ found. gives_go Cause IsRowTellable (row.Endpoint found) tt)
+row_tellable rows kind.AppCred id = gives_stop Row IsRowTellable (cause.Absent kind.AppCred id)
+row_tellable rows kind.Secret id = gives_past IsRowTellable (standing_secret rows id) _ (λ found. gives_go Cause IsRowTellable (row.Secret found) tt)
 
 good_get : (S : State) (moment : ℕ) (kind_of_row : Kind) (id : Id) → Gives (IsGood S moment) (get S.rows kind_of_row id)
 unfolding get
@@ -146,6 +150,8 @@ listed_tellable rows kind.Event filters = tt
 listed_tellable rows kind.Region filters = all_mapped IsRowTellable (λ found. row.Region found) (filter (is_region_listed filters.fields) rows.regions) (λ x among. tt)
 listed_tellable rows kind.Service filters = all_mapped IsRowTellable (λ found. row.Service found) (filter (is_service_listed filters.fields) rows.services) (λ x among. tt)
 listed_tellable rows kind.Endpoint filters = all_mapped IsRowTellable (λ found. row.Endpoint found) (filter (is_endpoint_listed filters.fields) rows.endpoints) (λ x among. tt)
+listed_tellable rows kind.AppCred filters = tt
+listed_tellable rows kind.Secret filters = all_mapped IsRowTellable (λ found. row.Secret found) rows.secrets (λ x among. tt)
 
 good_list : (S : State) (moment : ℕ) (kind_of_row : Kind) (filters : Filter) → Gives {E = Cause} (IsGood S moment) (Go (list S.rows kind_of_row filters))
 unfolding list
@@ -181,6 +187,11 @@ good_delete S moment kind.Event id = gives_stop Outcome (IsGood S moment) (cause
 good_delete S moment kind.Region id = good_delete_region S moment id
 good_delete S moment kind.Service id = good_delete_service S moment id
 good_delete S moment kind.Endpoint id = good_delete_endpoint S moment id
+good_delete S moment kind.AppCred id = gives_stop Outcome (IsGood S moment) (cause.Absent kind.AppCred id)
+good_delete S moment kind.Secret id =
+    gives_bind (λ old. secret_of id S.rows.secrets ≡ Some old) (IsGood S moment) (standing_secret S.rows id) _
+    (gives_found (secret_of id S.rows.secrets) (cause.Absent kind.Secret id)) (λ old is.
+    good_changes S moment (change.DropSecret id) body.Nothing (λ room. ap (λ o. fault_if (is_none o) (row_fault.Absent kind.Secret id)) is) tt)
 
 -- memberships, implications and grants
 
@@ -423,3 +434,16 @@ good_answered known S moment call (command.UpdateCatalog id asked) old high le f
 good_answered known S moment call (command.DeleteCatalog of id) old high le fields read =
     good_as_caller known S moment call _ (λ caller is. good_delete S moment (catalog_kind of) id)
 good_answered known S moment call command.ShowCatalog old high le fields read = good_as_caller known S moment call _ (λ caller is. good_show_catalog S moment caller)
+good_answered known S moment call (command.CreateAppCred user asked) old high le fields read =
+    good_as_caller known S moment call _ (λ caller is. good_create_app_cred known S moment call.draw caller user asked old fields is)
+good_answered known S moment call (command.ListAppCreds user) old high le fields read =
+    good_as_caller known S moment call _ (λ caller is. good_list_app_creds S moment user old)
+good_answered known S moment call (command.GetAppCred user id) old high le fields read =
+    good_as_caller known S moment call _ (λ caller is. good_get_app_cred S moment user id old)
+good_answered known S moment call (command.DeleteAppCred user id) old high le fields read =
+    good_as_caller known S moment call _ (λ caller is. good_delete_app_cred S moment caller user id)
+good_answered known S moment call (command.CreateSecret asked) old high le fields read =
+    good_as_caller known S moment call _ (λ caller is. good_create_secret S moment call.draw asked fields)
+good_answered known S moment call command.ListSecrets old high le fields read = good_as_caller known S moment call _ (λ caller is. good_list_secrets S moment)
+good_answered known S moment call (command.GetSecret id) old high le fields read = good_as_caller known S moment call _ (λ caller is. good_get_secret S moment id)
+good_answered known S moment call (command.DeleteSecret id) old high le fields read = good_as_caller known S moment call _ (λ caller is. good_delete_secret S moment id)

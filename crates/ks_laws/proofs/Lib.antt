@@ -3,6 +3,7 @@ mod OpeningLemmas
 pub mod TreeLemmas
 mod PeopleLemmas
 mod CatalogLemmas
+mod CredentialLemmas
 mod TrustLemmas
 mod OrderLemmas
 mod AnchorLemmas
@@ -13,6 +14,7 @@ mod TokenLemmas
 mod RowCommands
 mod CatalogRows
 mod TrustCommands
+mod CredentialCommands
 mod CommandLemmas
 mod AsksLemmas
 mod QuietLemmas

@@ -1,6 +1,7 @@
 -- Limits, and chains of tokens, on the state of the machine's examples, computed.
 use Rattle.std.proofs.Common.{◌≡◌, ℕ, ◌+◌, List, [], ◌∷◌, ◌++◌, Option, Some, None, true, false, refl}
 use Rattle.std.specs.Prelude.{replicate, codes}
+use Rattle.ks_base.specs.declared.app_creds.AppCredRow.{AppCredRow}
 use Rattle.ks_base.specs.declared.catalog.CatalogIn.{CatalogIn}
 use Rattle.ks_base.specs.declared.catalog.CatalogKind.{CatalogKind}
 use Rattle.ks_base.specs.declared.catalog.CatalogKind.TheVariants as of
@@ -10,6 +11,7 @@ use Rattle.ks_base.specs.declared.catalog.RegionRow.{RegionRow}
 use Rattle.ks_base.specs.declared.catalog.ServiceRow.{ServiceRow}
 use Rattle.ks_base.specs.declared.events.EventRow.{EventRow}
 use Rattle.ks_base.specs.declared.events.Revoke.TheVariants as revoke
+use Rattle.ks_base.specs.declared.factors.SecretRow.{SecretRow}
 use Rattle.ks_base.specs.declared.kinds.Kind.TheVariants as kind
 use Rattle.ks_base.specs.declared.rows.RoleRow.{RoleRow}
 use Rattle.ks_base.specs.Rows.{Id, Text}
@@ -147,6 +149,73 @@ endpoints_at_their_limit :
 unfolding the_machine
 endpoints_at_their_limit = refl
 
+-- secrets of codes, and application credentials, at theirs
+
+abbrev secret_called : Id → SecretRow
+secret_called id = record { id = id; user = codes "bobby"; secret = replicate 10 0 }
+
+abbrev with_secrets : ℕ → Id → State
+with_secrets count id = record start { rows = record start.rows { secrets = replicate count (secret_called id) } }
+
+abbrev made_secret : Id → Command
+made_secret user = command.CreateSecret (record { user = user; secret = replicate 10 1 })
+
+-- the 65,536th secret has room, and the 65,537th has none; a user that does not stand is told before
+secrets_at_their_limit :
+    cause_of (step known (with_secrets 65535 (codes "s")) (call (made_secret (codes "bobby")) ann))
+    ∷ cause_of (step known (with_secrets 65536 (codes "s")) (call (made_secret (codes "bobby")) ann))
+    ∷ cause_of (step known (with_secrets 65536 (codes "s")) (call (made_secret (codes "x")) ann))
+    ∷ cause_of (step known (with_secrets 65535 drawn_id) (call (made_secret (codes "bobby")) ann))
+    ∷ []
+    ≡ None ∷ Some (cause.Full kind.Secret) ∷ Some (cause.Absent kind.User (codes "x")) ∷ Some (cause.IdTaken drawn_id) ∷ []
+unfolding the_machine
+secrets_at_their_limit = refl
+
+abbrev cred_called : Id → Text → AppCredRow
+cred_called id name = record {
+  id = id;
+  user = codes "ann";
+  project = codes "demo-id";
+  name = name;
+  description = [];
+  roles = codes "r-admin" ∷ [];
+  secret = record { salt = []; rounds = 1; digest = [] };
+  expires = None;
+  unrestricted = false;
+}
+
+abbrev with_creds : ℕ → Id → State
+with_creds count id = record start { rows = record start.rows { app_creds = replicate count (cred_called id (codes "other")) } }
+
+abbrev made_cred : Text → Command
+made_cred name =
+    command.CreateAppCred (codes "ann") (record {
+      name = name;
+      secret = Some (codes "s3cret");
+      description = [];
+      expires = None;
+      roles = None;
+      unrestricted = false;
+    })
+
+-- the 65,536th credential has room, and the 65,537th has none; a name that its user has given is told before, and a drawn id that stands
+-- behind
+creds_at_their_limit :
+    cause_of (step known (with_creds 65535 (codes "c")) (call (made_cred (codes "new")) ann))
+    ∷ cause_of (step known (with_creds 65536 (codes "c")) (call (made_cred (codes "new")) ann))
+    ∷ cause_of (step known (with_creds 65536 (codes "c")) (call (made_cred (codes "other")) ann))
+    ∷ cause_of (step known (with_creds 65536 drawn_id) (call (made_cred (codes "new")) ann))
+    ∷ cause_of (step known (with_creds 65535 drawn_id) (call (made_cred (codes "new")) ann))
+    ∷ []
+    ≡ None
+    ∷ Some (cause.Full kind.AppCred)
+    ∷ Some (cause.NameTaken (codes "c"))
+    ∷ Some (cause.Full kind.AppCred)
+    ∷ Some (cause.IdTaken drawn_id)
+    ∷ []
+unfolding the_machine
+creds_at_their_limit = refl
+
 -- room for revocations
 
 abbrev an_event : EventRow
@@ -165,7 +234,7 @@ unfolding the_machine
 own_revocations_at_their_limit = refl
 
 abbrev disabled : Command
-disabled = command.Update (codes "bobby") (made.User None None None None (Some false))
+disabled = command.Update (codes "bobby") (made.User None None None None (Some false) None)
 
 -- who is disabled is disabled all the same: the 262,144th has room, and one more has none
 revocations_at_their_limit :
@@ -183,7 +252,7 @@ abbrev with_drawn_user : State → State
 with_drawn_user S = record S { rows = record S.rows { users = record { id = drawn_id; name = codes "drawn"; domain = codes "default"; enabled = true; password = None } ∷ S.rows.users } }
 
 creations_need_no_room :
-    cause_of (step known (with_drawn_user (with_events 262144)) (call (command.Create (made.User None (Some (codes "new")) None None None)) ann))
+    cause_of (step known (with_drawn_user (with_events 262144)) (call (command.Create (made.User None (Some (codes "new")) None None None None)) ann))
     ≡ Some (cause.IdTaken drawn_id)
 unfolding the_machine
 creations_need_no_room = refl

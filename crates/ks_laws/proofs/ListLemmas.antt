@@ -41,6 +41,32 @@ pub all_mapped : {X Y : Type 0} (P : Y → Type 0) (f : X → Y) (rows : List X)
 all_mapped P f [] each = tt
 all_mapped P f (row ∷ rows) each = (each row (inl refl), all_mapped P f rows (λ x among. each x (inr among)))
 
+-- names that are unique within a home, as in a domain or of a user
+
+abbrev pub AreNamesApart : {X : Type 0} (id_of home_of name_of : X → Id) → List X → Type 0
+AreNamesApart {X} id_of home_of name_of rows =
+    (a b : X) → Among rows a → Among rows b → home_of a ≡ home_of b → name_of a ≡ name_of b → id_of a ≡ id_of b
+
+-- the name of a row is its own
+abbrev pub IsNameAlone : {X : Type 0} (id_of home_of name_of : X → Id) → X → List X → Type 0
+IsNameAlone {X} id_of home_of name_of row rows =
+    (other : X) → Among rows other → home_of other ≡ home_of row → name_of other ≡ name_of row → id_of other ≡ id_of row
+
+pub names_put : {X : Type 0} (id_of home_of name_of : X → Id) (row : X) (rows : List X) → IsNameAlone id_of home_of name_of row rows →
+    AreNamesApart id_of home_of name_of rows → AreNamesApart id_of home_of name_of (put_row id_cmp id_of row rows)
+names_put {X} id_of home_of name_of row rows alone unique a b first second home name =
+    by (among_put id_cmp id_of row rows a first) (among_put id_cmp id_of row rows b second)
+  where
+    by : (row ≡ a) ⊎ Among rows a → (row ≡ b) ⊎ Among rows b → id_of a ≡ id_of b
+    by (inl one) (inl other) = ap id_of (sym one ∙ other)
+    by (inl one) (inr among) =
+        let P : X → Type 0 = λ r. home_of r ≡ home_of b → name_of r ≡ name_of b → id_of r ≡ id_of b in
+        subst P one (λ home name. sym (alone b among (sym home) (sym name))) home name
+    by (inr among) (inl other) =
+        let P : X → Type 0 = λ r. home_of a ≡ home_of r → name_of a ≡ name_of r → id_of a ≡ id_of r in
+        subst P other (λ home name. alone a among home name) home name
+    by (inr one) (inr other) = unique a b one other home name
+
 -- tests
 
 found_none_by : {X : Type 0} (test : X → Bool) (next x : X) (xs : List X) (b : Bool) → test next ≡ b → cond b (Some next) (find test xs) ≡ None →

@@ -338,6 +338,7 @@ in_order_opened opening = record {
   grants = ascending_all grant_cmp (λ (r : GrantRow). r) grant_total opening.assignments;
   trusts = tt;
   catalog = catalog_in_order opening;
+  credentials = record { app_creds = tt; secrets_order = tt; rules_order = tt };
 }
 
 -- what memberships, implications and grants of a file name stands
@@ -447,6 +448,11 @@ anchored_opened opening ids absent =
           (λ row among. grant_anchored (rows_opened opening) row (pass_alone _ opening.assignments faults.1.1.1.1.1.1.1.0 row among));
       trusts = λ trust among. absurd among;
       catalog = catalog_anchored opening ids faults.1.1.1.1.1.0 faults.1.1.1.1.1.1.0;
+      credentials = record {
+        app_creds = λ cred among. absurd among;
+        secrets_users = λ row among. absurd among;
+        rules_users = λ row among. absurd among;
+      };
     }
 
 catalog_opened : (opening : PlainOpening) → IsOpeningInRange opening → IsCatalogInRange (catalogs (rows_opened opening))
@@ -467,6 +473,12 @@ opened_is_orderly opening range none = record {
     roles = each_opened id_cmp (λ r. r.id) IsRoleInRange opening.roles (each_of_all IsRoleInRange opening.roles range.roles);
     trusts = no_trusts;
     catalog = catalog_opened opening range;
+    credentials = record {
+      app_creds = λ cred among. absurd among;
+      names = λ a b first. absurd first;
+      secrets_range = λ row among. absurd among;
+      rules_range = λ row among. absurd among;
+    };
   };
   anchored = anchored_opened opening ids absent;
   order = in_order_opened opening;

@@ -1,5 +1,5 @@
 -- Each change of domains, users and groups keeps them orderly.
-use Rattle.std.proofs.Common.{◌≡◌, Bool, true, false, ◌⊎◌, inl, inr, List, [], ◌∷◌, Option, Some, None, refl, sym, ap, subst, ◌∙◌}
+use Rattle.std.proofs.Common.{◌≡◌, Bool, true, false, List, [], ◌∷◌, Option, Some, None, refl, ap}
 use Rattle.std.proofs.lemmas.Bool.{and_from}
 use Rattle.std.specs.Prelude.{not}
 use Rattle.std.specs.List.{filter, find}
@@ -11,10 +11,10 @@ use Rattle.ks_base.specs.People.{PeopleState, is_group_in, is_user_in, is_user_n
 use Rattle.ks_base.specs.PeopleFaults.{add_user_fault, is_other_user_named, other_user_named, set_user_fault, user_absent, user_id_taken, user_name_taken, users_full}
 use Rattle.ks_base.specs.Rows.{Id, same, user_of}
 use Rattle.ks_base.specs.Tables.{Among, drop_row, id_cmp, put_row}
-use Rattle.ks_base.proofs.RowLemmas.{among_drop, among_filter, among_put}
+use Rattle.ks_base.proofs.RowLemmas.{among_drop, among_filter}
 use Rattle.ks_base.proofs.OptionLemmas.{none_mapped}
-use Rattle.ks_laws.specs.Orderly.{AreNamesUnique, ArePeopleOrderly, DomainStands}
-use Rattle.ks_laws.proofs.ListLemmas.{each_drop, each_filter, each_put, found_none, is_same, none_apply, same_is}
+use Rattle.ks_laws.specs.Orderly.{ArePeopleOrderly, DomainStands}
+use Rattle.ks_laws.proofs.ListLemmas.{each_drop, each_filter, each_put, found_none, is_same, names_put, none_apply, same_is}
 use Rattle.ks_laws.proofs.TreeLemmas.{homes_left, homes_put}
 use Rattle.ks_machine.specs.Lawful.{IsPut}
 use Rattle.ks_machine.specs.Ranges.{IsGroupInRange, IsUserInRange}
@@ -40,24 +40,6 @@ people_domain_dropped gone domains users groups old = record {
       old.names a b (among_filter (λ row. not (is_user_in gone row)) users a first).0 (among_filter (λ row. not (is_user_in gone row)) users b second).0;
 }
 
--- the name of a put user is its own
-abbrev IsAlone : UserRow → List UserRow → Type 0
-IsAlone row users = (other : UserRow) → Among users other → other.domain ≡ row.domain → other.name ≡ row.name → other.id ≡ row.id
-
-names_put : (row : UserRow) (users : List UserRow) → IsAlone row users → AreNamesUnique users → AreNamesUnique (put_row id_cmp (λ r. r.id) row users)
-names_put row users alone unique a b first second home name =
-    by (among_put id_cmp (λ (r : UserRow). r.id) row users a first) (among_put id_cmp (λ (r : UserRow). r.id) row users b second)
-  where
-    by : (row ≡ a) ⊎ Among users a → (row ≡ b) ⊎ Among users b → a.id ≡ b.id
-    by (inl one) (inl other) = ap (λ (r : UserRow). r.id) (sym one ∙ other)
-    by (inl one) (inr among) =
-        let P : UserRow → Type 0 = λ r. r.domain ≡ b.domain → r.name ≡ b.name → r.id ≡ b.id in
-        subst P one (λ home name. sym (alone b among (sym home) (sym name))) home name
-    by (inr among) (inl other) =
-        let P : UserRow → Type 0 = λ r. a.domain ≡ r.domain → a.name ≡ r.name → a.id ≡ r.id in
-        subst P other (λ home name. alone a among home name) home name
-    by (inr one) (inr other) = unique a b one other home name
-
 pub people_user_put : (row : UserRow) (domains : List DomainRow) (users : List UserRow) (groups : List GroupRow) → IsUserInRange row → DomainStands domains row.domain →
     ((other : UserRow) → Among users other → other.domain ≡ row.domain → other.name ≡ row.name → other.id ≡ row.id) → ArePeopleOrderly domains users groups →
     ArePeopleOrderly domains (put_row id_cmp (λ r. r.id) row users) groups
@@ -66,7 +48,7 @@ people_user_put row domains users groups range home alone old = record {
   groups_range = old.groups_range;
   user_homes = each_put (λ r. r.id) _ row users home old.user_homes;
   group_homes = old.group_homes;
-  names = names_put row users alone old.names;
+  names = names_put (λ (r : UserRow). r.id) (λ (r : UserRow). r.domain) (λ (r : UserRow). r.name) row users alone old.names;
 }
 
 pub people_user_dropped : (gone : Id) (domains : List DomainRow) (users : List UserRow) (groups : List GroupRow) → ArePeopleOrderly domains users groups →

@@ -1,5 +1,6 @@
 -- Checks that lack no fact, whatever is known: none of them is given what is known.
 use Rattle.std.proofs.Common.{ℕ, Bool, List, [], ◌∷◌, Option, Some, None}
+use Rattle.ks_base.specs.declared.app_creds.AppCredRow.{AppCredRow}
 use Rattle.ks_base.specs.declared.catalog.CatalogIn.{CatalogIn}
 use Rattle.ks_base.specs.declared.catalog.CatalogKind.{CatalogKind}
 use Rattle.ks_base.specs.declared.catalog.CatalogKind.TheVariants as of_catalog
@@ -16,12 +17,14 @@ use Rattle.ks_base.specs.declared.rows.GroupRow.{GroupRow}
 use Rattle.ks_base.specs.declared.rows.ProjectRow.{ProjectRow}
 use Rattle.ks_base.specs.declared.rows.RoleRow.{RoleRow}
 use Rattle.ks_base.specs.declared.users.MemberRow.{MemberRow}
+use Rattle.ks_base.specs.declared.users.UserRow.{UserRow}
 use Rattle.ks_base.specs.Rows.{Id, Text, Rows}
 use Rattle.ks_laws.proofs.AsksLemmas.{Asks, asks_bind, asks_each, asks_fault, asks_found, asks_go, asks_map, asks_need, asks_stop}
 use Rattle.ks_machine.specs.declared.bodies.Named.{Named}
 use Rattle.ks_machine.specs.declared.bodies.Named.TheVariants as named
 use Rattle.ks_machine.specs.declared.bodies.ScopeIn.{ScopeIn}
 use Rattle.ks_machine.specs.declared.bodies.ScopeIn.TheVariants as scope_in
+use Rattle.ks_machine.specs.declared.bodies.SecretBody.{SecretBody}
 use Rattle.ks_machine.specs.declared.bodies.TrustBody.{TrustBody}
 use Rattle.ks_machine.specs.declared.call.FolderRead.{FolderRead}
 use Rattle.ks_machine.specs.declared.call.FolderRead.TheVariants as folder
@@ -29,12 +32,14 @@ use Rattle.ks_machine.specs.declared.cause.Cause.{Cause}
 use Rattle.ks_machine.specs.declared.change.Change.{Change}
 use Rattle.ks_machine.specs.declared.command.Command.{Command}
 use Rattle.ks_machine.specs.declared.lines.ReadToken.{ReadToken}
-use Rattle.ks_machine.specs.Attempts.{Lack}
+use Rattle.ks_machine.specs.AppCredCommands.{delete_app_cred, get_app_cred, list_app_creds, role_held, roles_given}
+use Rattle.ks_machine.specs.Attempts.{Lack, each}
 use Rattle.ks_machine.specs.CatalogCommands.{create_catalog, create_endpoint, create_region, create_service, given_id_free, update_catalog, update_endpoint, update_region, update_service}
 use Rattle.ks_machine.specs.Creations.{create_domain, create_group, create_project, create_role}
+use Rattle.ks_machine.specs.FactorCommands.{create_secret, delete_secret, get_secret}
 use Rattle.ks_machine.specs.Keys.{keys_read, load_keys, rotate_keys}
 use Rattle.ks_machine.specs.Listings.{delete, get, row_at}
-use Rattle.ks_machine.specs.Login.{project_on, scoped, to_domain, to_project, to_system, to_trust, with_roles}
+use Rattle.ks_machine.specs.Login.{by_code, project_on, scoped, scoped_by, shown_by, to_cred, to_domain, to_project, to_system, to_trust, with_roles}
 use Rattle.ks_machine.specs.Members.{actor_stands, all_stand, grant, grants_of, is_granted, is_in, target_stands}
 use Rattle.ks_machine.specs.Room.{room_for}
 use Rattle.ks_machine.specs.States.{State}
@@ -85,7 +90,7 @@ module _ (P : Lack → Type 0) where
   unfolding to_trust
   to_trust_asks rows moment user id = search (asks_bind, asks_go, asks_found, asks_need, asks_fault, project_on_asks, asks_each) depth 20
 
-  pub asks_scoped : (rows : Rows) (moment : ℕ) (user : Id) (asked : ScopeIn) → Asks P (scoped rows moment user asked)
+  asks_scoped : (rows : Rows) (moment : ℕ) (user : Id) (asked : ScopeIn) → Asks P (scoped rows moment user asked)
   unfolding scoped
   asks_scoped rows moment user scope_in.Nothing = asks_go Cause P _
   asks_scoped rows moment user scope_in.Unscoped = asks_go Cause P _
@@ -93,6 +98,25 @@ module _ (P : Lack → Type 0) where
   asks_scoped rows moment user (scope_in.Project project) = to_project_asks rows user _
   asks_scoped rows moment user scope_in.System = to_system_asks rows user
   asks_scoped rows moment user (scope_in.Trust id) = to_trust_asks rows moment user id
+
+  to_cred_asks : (rows : Rows) (cred : AppCredRow) (asked : ScopeIn) → Asks P (to_cred rows cred asked)
+  unfolding to_cred
+  to_cred_asks rows cred asked = search (asks_bind, asks_go, asks_need, project_on_asks) depth 14
+
+  pub asks_scoped_by : (rows : Rows) (moment : ℕ) (user : Id) (cred : Option AppCredRow) (asked : ScopeIn) → Asks P (scoped_by rows moment user cred asked)
+  unfolding scoped_by
+  asks_scoped_by rows moment user None asked = asks_scoped rows moment user asked
+  asks_scoped_by rows moment user (Some cred) asked = to_cred_asks rows cred asked
+
+  -- factors
+
+  pub asks_by_code : (rows : Rows) (moment : ℕ) (named : Option UserRow) (code : ℕ) → Asks P (by_code rows moment named code)
+  unfolding by_code
+  asks_by_code rows moment named code = search (asks_bind, asks_go, asks_found, asks_need) depth 14
+
+  pub asks_shown_by : (S : State) (moment : ℕ) (user : Id) (methods : ℕ) → Asks P (shown_by S moment user methods)
+  unfolding shown_by
+  asks_shown_by S moment user methods = asks_map P _ _ (asks_need P _ _)
 
   -- rows
 
@@ -111,6 +135,8 @@ module _ (P : Lack → Type 0) where
   asks_row rows kind.Region id = asks_map P _ _ (asks_found P _ _)
   asks_row rows kind.Service id = asks_map P _ _ (asks_found P _ _)
   asks_row rows kind.Endpoint id = asks_map P _ _ (asks_found P _ _)
+  asks_row rows kind.AppCred id = asks_stop _ P _
+  asks_row rows kind.Secret id = asks_map P _ _ (asks_found P _ _)
 
   pub asks_get : (rows : Rows) (of : Kind) (id : Id) → Asks P (get rows of id)
   unfolding get
@@ -131,6 +157,8 @@ module _ (P : Lack → Type 0) where
   asks_delete rows kind.Region id = asks_map P _ _ (asks_fault P _ _)
   asks_delete rows kind.Service id = asks_map P _ _ (asks_found P _ _)
   asks_delete rows kind.Endpoint id = asks_map P _ _ (asks_found P _ _)
+  asks_delete rows kind.AppCred id = asks_stop _ P _
+  asks_delete rows kind.Secret id = asks_map P _ _ (asks_found P _ _)
 
   -- memberships, implications and grants
 
@@ -167,14 +195,14 @@ module _ (P : Lack → Type 0) where
 
   -- trusts
 
-  role_asks : (rows : Rows) (name : Named) → Asks P (role_asked rows name)
-  role_asks rows (named.Id id) = asks_found P _ _
-  role_asks rows (named.Name name) = asks_found P _ _
+  role_asks : (rows : Rows) (field : Text) (name : Named) → Asks P (role_asked rows field name)
+  role_asks rows field (named.Id id) = asks_found P _ _
+  role_asks rows field (named.Name name) = asks_found P _ _
 
-  roles_asks : (rows : Rows) (names : List Named) → Asks P (roles_asked rows names)
+  roles_asks : (rows : Rows) (field : Text) (names : List Named) → Asks P (roles_asked rows field names)
   unfolding roles_asked
-  roles_asks rows [] = asks_go Cause P _
-  roles_asks rows (name ∷ names) = asks_bind P _ _ (role_asks rows name) (λ (role : RoleRow). asks_map P _ _ (roles_asks rows names))
+  roles_asks rows field [] = asks_go Cause P _
+  roles_asks rows field (name ∷ names) = asks_bind P _ _ (role_asks rows field name) (λ (role : RoleRow). asks_map P _ _ (roles_asks rows field names))
 
   parent_asks : (rows : Rows) (asked : TrustBody) (of : Option Id) → Asks P (parent_by rows asked of)
   parent_asks rows asked None = search (asks_bind, asks_go, asks_need) depth 16
@@ -182,7 +210,42 @@ module _ (P : Lack → Type 0) where
 
   pub asks_create_trust : (rows : Rows) (moment : ℕ) (drawn : Drawn) (caller : Valid) (asked : TrustBody) → Asks P (create_trust rows moment drawn caller asked)
   unfolding create_trust
-  asks_create_trust rows moment drawn caller asked = search (asks_bind, asks_go, asks_need, asks_found, asks_fault, parent_asks, roles_asks) depth 24
+  asks_create_trust rows moment drawn caller asked = search (asks_bind, asks_go, asks_need, asks_found, asks_fault, parent_asks, roles_asks) depth 26
+
+  -- application credentials
+
+  pub asks_roles_given : (rows : Rows) (caller : Valid) (names : Option (List Named)) → Asks P (roles_given rows caller names)
+  asks_roles_given rows caller None = asks_go Cause P _
+  asks_roles_given rows caller (Some names) = roles_asks rows _ names
+
+  pub asks_roles_held : (rows : Rows) (user project : Id) (roles : List Id) → Asks P (each (role_held rows user project) roles)
+  asks_roles_held rows user project roles = asks_each P (role_held rows user project) roles (λ role. asks_need P _ _)
+
+  pub asks_list_app_creds : (rows : Rows) (user : Id) → Asks P (list_app_creds rows user)
+  unfolding list_app_creds
+  asks_list_app_creds rows user = asks_map P _ _ (asks_found P _ _)
+
+  pub asks_get_app_cred : (rows : Rows) (user id : Id) → Asks P (get_app_cred rows user id)
+  unfolding get_app_cred
+  asks_get_app_cred rows user id = search (asks_bind, asks_go, asks_found) depth 14
+
+  pub asks_delete_app_cred : (rows : Rows) (caller : Valid) (user id : Id) → Asks P (delete_app_cred rows caller user id)
+  unfolding delete_app_cred
+  asks_delete_app_cred rows caller user id = search (asks_bind, asks_go, asks_found, asks_need) depth 14
+
+  -- secrets of codes
+
+  pub asks_create_secret : (rows : Rows) (drawn : Drawn) (asked : SecretBody) → Asks P (create_secret rows drawn asked)
+  unfolding create_secret
+  asks_create_secret rows drawn asked = search (asks_bind, asks_go, asks_found, asks_fault) depth 14
+
+  pub asks_get_secret : (rows : Rows) (id : Id) → Asks P (get_secret rows id)
+  unfolding get_secret
+  asks_get_secret rows id = asks_map P _ _ (asks_found P _ _)
+
+  pub asks_delete_secret : (rows : Rows) (id : Id) → Asks P (delete_secret rows id)
+  unfolding delete_secret
+  asks_delete_secret rows id = asks_map P _ _ (asks_found P _ _)
 
   -- keys
 

@@ -27,19 +27,20 @@ use Rattle.ks_laws.proofs.GivesLemmas.{Gives, IsGood, gives_bind, gives_fault, g
 use Rattle.ks_laws.proofs.ListLemmas.{found_by_own, found_is_among, is_same, none_apply, none_found, put_new, put_standing, same_is, two_none, unless_fault}
 use Rattle.ks_machine.specs.declared.bodies.Made.{Made}
 use Rattle.ks_machine.specs.declared.bodies.Made.TheVariants as made
+use Rattle.ks_machine.specs.declared.bodies.MfaIn.{MfaIn}
 use Rattle.ks_machine.specs.declared.body_out.BodyOut.TheVariants as body
 use Rattle.ks_machine.specs.declared.body_out.Row.TheVariants as row
 use Rattle.ks_machine.specs.declared.cause.Cause.{Cause}
 use Rattle.ks_machine.specs.declared.cause.Cause.TheVariants as cause
 use Rattle.ks_machine.specs.declared.change.Change.TheVariants as change
-use Rattle.ks_machine.specs.Attempts.{Fresh, Known, asked, found, need}
-use Rattle.ks_machine.specs.Creations.{create, create_domain, create_group, create_project, create_role, create_user, text_or_empty}
+use Rattle.ks_machine.specs.Attempts.{Fresh, Go, Known, asked, found, need}
+use Rattle.ks_machine.specs.Creations.{create, create_domain, create_group, create_project, create_role, create_user, put_user, text_or_empty}
 use Rattle.ks_machine.specs.Fit.{IsMade, IsMadeName}
 use Rattle.ks_machine.specs.Lawful.{Fits}
 use Rattle.ks_machine.specs.Login.{by_password, is_password}
-use Rattle.ks_machine.specs.Outcomes.{made_id, salt}
+use Rattle.ks_machine.specs.Outcomes.{changes, made_id, salt}
 use Rattle.ks_machine.specs.Passwords.{change_password, derived, derived_or}
-use Rattle.ks_machine.specs.Ranges.{AreRounds, IsDescription, IsGroupInRange, IsName, IsProjectInRange}
+use Rattle.ks_machine.specs.Ranges.{AreMfaRules, AreRounds, IsDescription, IsGroupInRange, IsName, IsProjectInRange}
 use Rattle.ks_machine.specs.States.{State, is_user_on}
 use Rattle.ks_machine.specs.Tables.{row_cause, tree_cause, people, roles, standing_domain, standing_group, standing_project, standing_role, standing_user, trees, unless_row, unless_tree}
 use Rattle.ks_machine.specs.Updates.{unchanged, update, update_domain, update_group, update_project, update_role, update_user}
@@ -68,7 +69,7 @@ description_or (Some description) old is was = is
 abbrev HasRounds : Option PasswordRow → Type 0
 HasRounds kept = IfSome kept (λ password. AreRounds password.rounds)
 
-gives_derived : (known : Known) (S : State) (drawn : Drawn) (password : Text) → IsOrderly S → Gives {E = Cause} (λ row. AreRounds row.rounds) (derived known S drawn password)
+pub gives_derived : (known : Known) (S : State) (drawn : Drawn) (password : Text) → IsOrderly S → Gives {E = Cause} (λ row. AreRounds row.rounds) (derived known S drawn password)
 unfolding derived
 gives_derived known S drawn password old =
     gives_past (λ row. AreRounds row.rounds) (asked (Fresh (salt drawn) S.settings.rounds) (known.derive password (salt drawn) S.settings.rounds)) _ (λ digest.
@@ -118,18 +119,28 @@ good_create_project S moment new range =
         none_is (project_of new.id S.rows.projects) (unless_fault (is_some (project_of new.id S.rows.projects)) (tree_fault.IdTaken new.id)
         (none_apply (project_faults S.rows new) free).1.1.1.1.1.1.0)
 
-good_create_user : (known : Known) (S : State) (moment : ℕ) (drawn : Drawn) (new : UserRow) (password : Option Text) → IsOrderly S → IsName new.name →
-    Gives (IsGood S moment) (create_user known S drawn new password)
+-- a user, and with it the rules that the body gives
+abbrev AreRulesOf : Option MfaIn → Type 0
+AreRulesOf factors = IfSome factors (λ said. AreMfaRules said.rules)
+
+good_user : (S : State) (moment : ℕ) (new : UserRow) (factors : Option MfaIn) (made : Bool) → Fits S moment (change.PutUser new) → AreRulesOf factors →
+    Gives {E = Cause} (IsGood S moment) (Go (changes (put_user new factors) (body.One (row.User new) made)))
+unfolding Fits
+good_user S moment new None made fits are = good_changes S moment (change.PutUser new) (body.One (row.User new) made) (λ room. fits) tt
+good_user S moment new (Some said) made fits are =
+    good_changes S moment (put_user new (Some said)) (body.One (row.User new) made) (λ room. (fits, refl, are)) tt
+
+good_create_user : (known : Known) (S : State) (moment : ℕ) (drawn : Drawn) (new : UserRow) (password : Option Text) (factors : Option MfaIn) → IsOrderly S →
+    IsName new.name → AreRulesOf factors → Gives (IsGood S moment) (create_user known S drawn new password factors)
 unfolding create_user Fits add_user_fault
-good_create_user known S moment drawn new password old named =
+good_create_user known S moment drawn new password factors old named are =
     gives_bind (λ home. domain_of new.domain S.rows.domains ≡ Some home) (IsGood S moment) (standing_domain S.rows new.domain) _
     (gives_found (domain_of new.domain S.rows.domains) (cause.Absent kind.Domain new.domain)) (λ home stands.
     gives_past (IsGood S moment) (unless_row (user_name_taken (people S.rows) new)) _ (λ _.
     gives_bind HasRounds (IsGood S moment) (derived_or known S drawn None password) _ (gives_derived_or known S drawn None password old tt) (λ kept rounds.
     gives_bind (λ _. add_user_fault (people S.rows) new ≡ None) (IsGood S moment) (unless_row (add_user_fault (people S.rows) new)) _
     (gives_fault row_cause (add_user_fault (people S.rows) new)) (λ _ free.
-    good_changes S moment (change.PutUser (record new { password = kept })) (body.One (row.User (record new { password = kept })) true)
-    (λ room. ((named, rounds), ap is_some stands, put_new _ _ _ _ (taken free) free)) tt))))
+    good_user S moment (record new { password = kept }) factors true ((named, rounds), ap is_some stands, put_new _ _ _ _ (taken free) free) are))))
   where
     taken : add_user_fault (people S.rows) new ≡ None → user_of new.id S.rows.users ≡ None
     taken free =
@@ -174,8 +185,8 @@ good_create known S moment drawn caller (made.Domain given name description enab
     good_create_domain S moment (made_id drawn) given name description enabled is
 good_create known S moment drawn caller (made.Project given name domain parent description enabled) old is =
     good_create_project S moment _ (made_name given name is.0, made_description description is.1)
-good_create known S moment drawn caller (made.User given name domain password enabled) old is =
-    good_create_user known S moment drawn _ password old (made_name given name is.0)
+good_create known S moment drawn caller (made.User given name domain password enabled factors) old is =
+    good_create_user known S moment drawn _ password factors old (made_name given name is.0) is.2
 good_create known S moment drawn caller (made.Group given name domain description) old is =
     good_create_group S moment _ (made_name given name is.0, made_description description is.1)
 good_create known S moment drawn caller (made.Role given name description) old is =
@@ -221,10 +232,10 @@ good_update_project S moment id given name domain parent description enabled ord
     )) tt)))))
 
 good_update_user : (known : Known) (S : State) (moment : ℕ) (drawn : Drawn) (id : Id) (given : Option Id) (name : Option Text) (domain : Option Id) (password : Option Text)
-    (enabled : Option Bool) → IsOrderly S → IsMade false (made.User given name domain password enabled) →
-    Gives (IsGood S moment) (update_user known S drawn id given name domain password enabled)
+    (enabled : Option Bool) (factors : Option MfaIn) → IsOrderly S → IsMade false (made.User given name domain password enabled factors) →
+    Gives (IsGood S moment) (update_user known S drawn id given name domain password enabled factors)
 unfolding update_user Fits set_user_fault
-good_update_user known S moment drawn id given name domain password enabled orderly is =
+good_update_user known S moment drawn id given name domain password enabled factors orderly is =
     gives_bind (λ old. user_of id S.rows.users ≡ Some old) (IsGood S moment) (standing_user S.rows id) _
     (gives_found (user_of id S.rows.users) (cause.Absent kind.User id)) (λ old stands.
     let named : UserRow = record old { name = unwrap_or name old.name; enabled = unwrap_or enabled old.enabled } in
@@ -235,12 +246,11 @@ good_update_user known S moment drawn id given name domain password enabled orde
     gives_bind (λ _. set_user_fault (people S.rows) named ≡ None) (IsGood S moment) (unless_row (set_user_fault (people S.rows) named)) _
     (gives_fault row_cause (set_user_fault (people S.rows) named)) (λ _ free.
     gives_bind HasRounds (IsGood S moment) (derived_or known S drawn old.password password) _ (gives_derived_or known S drawn old.password password orderly was.1) (λ kept rounds.
-    good_changes S moment (change.PutUser (record named { password = kept })) (body.One (row.User (record named { password = kept })) false)
-    (λ room. (
+    good_user S moment (record named { password = kept }) factors false (
       (name_or name old.name is.0 was.0, rounds),
       orderly.rows.people.user_homes old among,
       put_standing _ _ _ _ old (found_by_own (λ (r : UserRow). r.id) id S.rows.users old stands) refl free,
-    )) tt)))))
+    ) is.2)))))
 
 good_update_group : (S : State) (moment : ℕ) (id : Id) (given : Option Id) (name : Option Text) (domain : Option Id) (description : Option Text) → IsOrderly S →
     IsMade false (made.Group given name domain description) → Gives (IsGood S moment) (update_group S.rows id given name domain description)
@@ -285,8 +295,8 @@ unfolding update
 good_update known S moment drawn id (made.Domain given name description enabled) old is = good_update_domain S moment id given name description enabled old is
 good_update known S moment drawn id (made.Project given name domain parent description enabled) old is =
     good_update_project S moment id given name domain parent description enabled old is
-good_update known S moment drawn id (made.User given name domain password enabled) old is =
-    good_update_user known S moment drawn id given name domain password enabled old is
+good_update known S moment drawn id (made.User given name domain password enabled factors) old is =
+    good_update_user known S moment drawn id given name domain password enabled factors old is
 good_update known S moment drawn id (made.Group given name domain description) old is = good_update_group S moment id given name domain description old is
 good_update known S moment drawn id (made.Role given name description) old is = good_update_role S moment id given name description old is
 

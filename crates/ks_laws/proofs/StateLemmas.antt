@@ -9,6 +9,7 @@ use Rattle.ks_laws.specs.Laws.{ChangesKeepOrderly, TimeKeepsOrderly}
 use Rattle.ks_laws.specs.Orderly.{AreRowsOrderly, Each}
 use Rattle.ks_laws.proofs.AnchorLemmas.{anchored_kept}
 use Rattle.ks_laws.proofs.CatalogLemmas.{endpoint_dropped, endpoint_put, region_dropped, region_put, service_dropped, service_put}
+use Rattle.ks_laws.proofs.CredentialLemmas.{cred_dropped, cred_put, creds_left, factors_left, rules_put, secret_dropped, secret_put, user_factors_dropped}
 use Rattle.ks_laws.proofs.ListLemmas.{each_drop, each_put}
 use Rattle.ks_laws.proofs.OpeningLemmas.{few_keys}
 use Rattle.ks_laws.proofs.OrderLemmas.{order_kept}
@@ -32,6 +33,7 @@ rows_kept S moment (change.PutDomain row) fits old = record {
   roles = old.roles;
   trusts = old.trusts;
   catalog = old.catalog;
+  credentials = old.credentials;
 }
 rows_kept S moment (change.PutProject row) fits old = record {
   trees = trees_project_put row S.rows.domains S.rows.projects fits.0 (is_placed (trees S.rows) row _ old.trees fits.1) old.trees;
@@ -39,6 +41,7 @@ rows_kept S moment (change.PutProject row) fits old = record {
   roles = old.roles;
   trusts = old.trusts;
   catalog = old.catalog;
+  credentials = old.credentials;
 }
 rows_kept S moment (change.PutUser row) fits old = record {
   trees = old.trees;
@@ -46,6 +49,7 @@ rows_kept S moment (change.PutUser row) fits old = record {
   roles = old.roles;
   trusts = old.trusts;
   catalog = old.catalog;
+  credentials = old.credentials;
 }
 rows_kept S moment (change.PutGroup row) fits old = record {
   trees = old.trees;
@@ -53,6 +57,7 @@ rows_kept S moment (change.PutGroup row) fits old = record {
   roles = old.roles;
   trusts = old.trusts;
   catalog = old.catalog;
+  credentials = old.credentials;
 }
 rows_kept S moment (change.PutRole row) fits old = record {
   trees = old.trees;
@@ -60,6 +65,7 @@ rows_kept S moment (change.PutRole row) fits old = record {
   roles = each_put (λ (r : RoleRow). r.id) IsRoleInRange row S.rows.roles fits.0 old.roles;
   trusts = old.trusts;
   catalog = old.catalog;
+  credentials = old.credentials;
 }
 rows_kept S moment (change.PutTrust row) fits old = record {
   trees = old.trees;
@@ -67,6 +73,7 @@ rows_kept S moment (change.PutTrust row) fits old = record {
   roles = old.roles;
   trusts = trusts_put S.rows moment row fits old.trusts;
   catalog = old.catalog;
+  credentials = old.credentials;
 }
 rows_kept S moment (change.DropDomain id) fits old = record {
   trees = trees_domain_dropped id S.rows.domains S.rows.projects old.trees;
@@ -74,6 +81,7 @@ rows_kept S moment (change.DropDomain id) fits old = record {
   roles = old.roles;
   trusts = trusts_gone_from S.rows.trusts (touches S.rows (change.DropDomain id)) old.trusts;
   catalog = old.catalog;
+  credentials = creds_left _ _ _ _ (factors_left _ _ _ _ _ old.credentials);
 }
 rows_kept S moment (change.DropProject id) fits old = record {
   trees = trees_project_dropped id S.rows.domains S.rows.projects (has_no_children (trees S.rows) id fits) old.trees;
@@ -81,6 +89,7 @@ rows_kept S moment (change.DropProject id) fits old = record {
   roles = old.roles;
   trusts = trusts_gone_from S.rows.trusts (touches S.rows (change.DropProject id)) old.trusts;
   catalog = old.catalog;
+  credentials = creds_left _ _ _ _ old.credentials;
 }
 rows_kept S moment (change.DropUser id) fits old = record {
   trees = old.trees;
@@ -88,6 +97,7 @@ rows_kept S moment (change.DropUser id) fits old = record {
   roles = old.roles;
   trusts = trusts_gone_from S.rows.trusts (touches S.rows (change.DropUser id)) old.trusts;
   catalog = old.catalog;
+  credentials = creds_left _ _ _ _ (user_factors_dropped id _ _ _ _ old.credentials);
 }
 rows_kept S moment (change.DropGroup id) fits old = record {
   trees = old.trees;
@@ -95,6 +105,7 @@ rows_kept S moment (change.DropGroup id) fits old = record {
   roles = old.roles;
   trusts = old.trusts;
   catalog = old.catalog;
+  credentials = old.credentials;
 }
 rows_kept S moment (change.DropRole id) fits old = record {
   trees = old.trees;
@@ -102,6 +113,7 @@ rows_kept S moment (change.DropRole id) fits old = record {
   roles = each_drop (λ (r : RoleRow). r.id) IsRoleInRange id S.rows.roles old.roles;
   trusts = trusts_gone_from S.rows.trusts (touches S.rows (change.DropRole id)) old.trusts;
   catalog = old.catalog;
+  credentials = creds_left _ _ _ _ old.credentials;
 }
 rows_kept S moment (change.DropTrust id) fits old = record {
   trees = old.trees;
@@ -109,6 +121,7 @@ rows_kept S moment (change.DropTrust id) fits old = record {
   roles = old.roles;
   trusts = trusts_gone_from S.rows.trusts (touches S.rows (change.DropTrust id)) old.trusts;
   catalog = old.catalog;
+  credentials = old.credentials;
 }
 rows_kept S moment (change.UseTrust id) fits old = record {
   trees = old.trees;
@@ -116,13 +129,14 @@ rows_kept S moment (change.UseTrust id) fits old = record {
   roles = old.roles;
   trusts = trusts_used id S.rows.trusts old.trusts;
   catalog = old.catalog;
+  credentials = old.credentials;
 }
-rows_kept S moment (change.Join row) fits old = record { trees = old.trees; people = old.people; roles = old.roles; trusts = old.trusts; catalog = old.catalog }
-rows_kept S moment (change.Leave row) fits old = record { trees = old.trees; people = old.people; roles = old.roles; trusts = old.trusts; catalog = old.catalog }
-rows_kept S moment (change.Imply row) fits old = record { trees = old.trees; people = old.people; roles = old.roles; trusts = old.trusts; catalog = old.catalog }
-rows_kept S moment (change.Unimply row) fits old = record { trees = old.trees; people = old.people; roles = old.roles; trusts = old.trusts; catalog = old.catalog }
-rows_kept S moment (change.Grant row) fits old = record { trees = old.trees; people = old.people; roles = old.roles; trusts = old.trusts; catalog = old.catalog }
-rows_kept S moment (change.Ungrant row) fits old = record { trees = old.trees; people = old.people; roles = old.roles; trusts = old.trusts; catalog = old.catalog }
+rows_kept S moment (change.Join row) fits old = record { trees = old.trees; people = old.people; roles = old.roles; trusts = old.trusts; catalog = old.catalog; credentials = old.credentials }
+rows_kept S moment (change.Leave row) fits old = record { trees = old.trees; people = old.people; roles = old.roles; trusts = old.trusts; catalog = old.catalog; credentials = old.credentials }
+rows_kept S moment (change.Imply row) fits old = record { trees = old.trees; people = old.people; roles = old.roles; trusts = old.trusts; catalog = old.catalog; credentials = old.credentials }
+rows_kept S moment (change.Unimply row) fits old = record { trees = old.trees; people = old.people; roles = old.roles; trusts = old.trusts; catalog = old.catalog; credentials = old.credentials }
+rows_kept S moment (change.Grant row) fits old = record { trees = old.trees; people = old.people; roles = old.roles; trusts = old.trusts; catalog = old.catalog; credentials = old.credentials }
+rows_kept S moment (change.Ungrant row) fits old = record { trees = old.trees; people = old.people; roles = old.roles; trusts = old.trusts; catalog = old.catalog; credentials = old.credentials }
 rows_kept S moment (change.RevokeToken audit) fits old = old
 rows_kept S moment (change.Rotate key) fits old = old
 rows_kept S moment (change.Load keys) fits old = old
@@ -132,6 +146,7 @@ rows_kept S moment (change.PutRegion row) fits old = record {
   roles = old.roles;
   trusts = old.trusts;
   catalog = region_put row (catalogs S.rows) fits.0 old.catalog;
+  credentials = old.credentials;
 }
 rows_kept S moment (change.PutService row) fits old = record {
   trees = old.trees;
@@ -139,6 +154,7 @@ rows_kept S moment (change.PutService row) fits old = record {
   roles = old.roles;
   trusts = old.trusts;
   catalog = service_put row (catalogs S.rows) fits.0 old.catalog;
+  credentials = old.credentials;
 }
 rows_kept S moment (change.PutEndpoint row) fits old = record {
   trees = old.trees;
@@ -146,6 +162,7 @@ rows_kept S moment (change.PutEndpoint row) fits old = record {
   roles = old.roles;
   trusts = old.trusts;
   catalog = endpoint_put row (catalogs S.rows) fits.0 old.catalog;
+  credentials = old.credentials;
 }
 rows_kept S moment (change.DropRegion id) fits old = record {
   trees = old.trees;
@@ -153,6 +170,7 @@ rows_kept S moment (change.DropRegion id) fits old = record {
   roles = old.roles;
   trusts = old.trusts;
   catalog = region_dropped id (catalogs S.rows) old.catalog;
+  credentials = old.credentials;
 }
 rows_kept S moment (change.DropService id) fits old = record {
   trees = old.trees;
@@ -160,6 +178,7 @@ rows_kept S moment (change.DropService id) fits old = record {
   roles = old.roles;
   trusts = old.trusts;
   catalog = service_dropped id (catalogs S.rows) old.catalog;
+  credentials = old.credentials;
 }
 rows_kept S moment (change.DropEndpoint id) fits old = record {
   trees = old.trees;
@@ -167,6 +186,47 @@ rows_kept S moment (change.DropEndpoint id) fits old = record {
   roles = old.roles;
   trusts = old.trusts;
   catalog = endpoint_dropped id (catalogs S.rows) old.catalog;
+  credentials = old.credentials;
+}
+rows_kept S moment (change.PutAppCred row) fits old = record {
+  trees = old.trees;
+  people = old.people;
+  roles = old.roles;
+  trusts = old.trusts;
+  catalog = old.catalog;
+  credentials = cred_put row S.rows.app_creds S.rows.secrets S.rows.factor_rules fits.range fits.accepted old.credentials;
+}
+rows_kept S moment (change.DropAppCred id) fits old = record {
+  trees = old.trees;
+  people = old.people;
+  roles = old.roles;
+  trusts = old.trusts;
+  catalog = old.catalog;
+  credentials = cred_dropped id S.rows.app_creds S.rows.secrets S.rows.factor_rules old.credentials;
+}
+rows_kept S moment (change.PutSecret row) fits old = record {
+  trees = old.trees;
+  people = old.people;
+  roles = old.roles;
+  trusts = old.trusts;
+  catalog = old.catalog;
+  credentials = secret_put row S.rows.app_creds S.rows.secrets S.rows.factor_rules fits.0 old.credentials;
+}
+rows_kept S moment (change.DropSecret id) fits old = record {
+  trees = old.trees;
+  people = old.people;
+  roles = old.roles;
+  trusts = old.trusts;
+  catalog = old.catalog;
+  credentials = secret_dropped id S.rows.app_creds S.rows.secrets S.rows.factor_rules old.credentials;
+}
+rows_kept S moment (change.PutUserWith row rules) fits old = record {
+  trees = old.trees;
+  people = people_user_put row S.rows.domains S.rows.users S.rows.groups fits.0.0 fits.0.1 (is_alone (people S.rows) row fits.0.2) old.people;
+  roles = old.roles;
+  trusts = old.trusts;
+  catalog = old.catalog;
+  credentials = rules_put rules S.rows.app_creds S.rows.secrets S.rows.factor_rules fits.2 old.credentials;
 }
 
 -- the next number of the ring
@@ -201,6 +261,11 @@ ring_kept S moment (change.PutEndpoint row) fits = omega arith
 ring_kept S moment (change.DropRegion id) fits = omega arith
 ring_kept S moment (change.DropService id) fits = omega arith
 ring_kept S moment (change.DropEndpoint id) fits = omega arith
+ring_kept S moment (change.PutAppCred row) fits = omega arith
+ring_kept S moment (change.DropAppCred id) fits = omega arith
+ring_kept S moment (change.PutSecret row) fits = omega arith
+ring_kept S moment (change.DropSecret id) fits = omega arith
+ring_kept S moment (change.PutUserWith row rules) fits = omega arith
 
 -- revocations
 

@@ -1,7 +1,8 @@
 -- Valid tokens, and logins: each is told with moments that have a text, and a login by a trust takes a use that is left.
-use Rattle.std.proofs.Common.{◌≡◌, ℕ, ◌≤◌, Bool, true, false, List, [], ◌∷◌, Option, Some, None, Result, Ok, Err, option_map, is_some, refl, sym, ap, subst, arith}
+use Rattle.std.proofs.Common.{◌≡◌, ℕ, ◌+◌, ◌≤◌, Bool, true, false, List, [], ◌∷◌, Option, Some, None, Result, Ok, Err, option_map, is_some, refl, sym, ap, subst, arith}
 use Rattle.std.specs.Prelude.{not}
 use Rattle.std.specs.Option.{option_map_or}
+use Rattle.ks_base.specs.declared.app_creds.AppCredRow.{AppCredRow}
 use Rattle.ks_base.specs.declared.faults.TrustFault.{TrustFault}
 use Rattle.ks_base.specs.declared.faults.TrustFault.TheVariants as trust_fault
 use Rattle.ks_base.specs.declared.grants.Target.TheVariants as target
@@ -34,13 +35,13 @@ use Rattle.ks_machine.specs.declared.why.Why.{Why}
 use Rattle.ks_machine.specs.declared.why.Why.TheVariants as why
 use Rattle.ks_machine.specs.Attempts.{Go, Known, blame, decided, each, found, need, unless}
 use Rattle.ks_machine.specs.Lawful.{Fits}
-use Rattle.ks_machine.specs.Login.{Scoped, Shown, by_password, login, new_payload, project_on, role_kept, scoped, shown, shown_by_token, told_token, to_domain, to_project, to_system, to_trust, token_given, use_of, user_on, with_roles}
+use Rattle.ks_machine.specs.Login.{Scoped, Shown, asks_nowhere, by_code, by_password, by_secret, login, meets, new_payload, password_method, project_on, role_kept, scoped, scoped_by, shown, shown_by, shown_by_token, told_token, to_cred, to_domain, to_project, to_system, to_trust, token_given, totp_method, use_of, user_on, with_roles}
 use Rattle.ks_machine.specs.Moment.{last_moment}
-use Rattle.ks_machine.specs.Scopes.{domain_in, homed_user, project_in, user_in}
+use Rattle.ks_machine.specs.Scopes.{cred_in, domain_in, homed_user, project_in, user_in}
 use Rattle.ks_machine.specs.States.{State, is_domain_on, is_user_on}
 use Rattle.ks_machine.specs.Told.{IsTokenTellable}
 use Rattle.ks_machine.specs.TokenLines.{token_lines}
-use Rattle.ks_machine.specs.Validity.{Valid, has_roles, held_lines, holder, is_scope_on, is_trust_line, opens, validity}
+use Rattle.ks_machine.specs.Validity.{Valid, has_cred_roles, has_roles, held_lines, holder, is_cred_line, is_scope_on, is_trust_line, opens, validity}
 use Rattle.ks_payload.specs.declared.payload.Payload.{Payload}
 use Rattle.ks_payload.specs.Payloads.{IsInRange}
 
@@ -48,6 +49,7 @@ use Rattle.ks_payload.specs.Payloads.{IsInRange}
 
 pub record IsToken (S : State) (moment : ℕ) (token : Valid) : Type 0 where
   pub user : is_user_on S.rows token.payload.user ≡ true
+  pub scope : is_scope_on S.rows token.payload ≡ true
   pub range : IsInRange token.payload
   pub issued : token.issued ≤ moment
 
@@ -59,13 +61,15 @@ gives_read P (Err e) is = tt
 held_valid : (S : State) (moment : ℕ) (held : ReadToken) → IsRead moment held → Gives (IsToken S moment) (held_lines S moment held)
 unfolding held_lines
 held_valid S moment held read =
-    gives_bind (λ _. Unit {0}) (IsToken S moment) (need (not (is_revoked S.events (holder S.rows held.payload) held.issued)) why.Revoked) _ (gives_any _) (λ _ _.
+    gives_past (IsToken S moment) (need (not (is_revoked S.events (holder S.rows held.payload) held.issued)) why.Revoked) _ (λ _.
     gives_bind (λ _. is_user_on S.rows held.payload.user ≡ true) (IsToken S moment) (need (is_user_on S.rows held.payload.user) why.User) _
     (gives_need (is_user_on S.rows held.payload.user) why.User) (λ _ user.
-    gives_bind (λ _. Unit {0}) (IsToken S moment) (need (is_scope_on S.rows held.payload) why.Scope) _ (gives_any _) (λ _ _.
-    gives_bind (λ _. Unit {0}) (IsToken S moment) (need (is_trust_line S.rows moment held.payload) why.Trust) _ (gives_any _) (λ _ _.
-    gives_bind (λ _. Unit {0}) (IsToken S moment) (need (has_roles S.rows held.payload) why.Roles) _ (gives_any _) (λ _ _.
-    gives_go Why (IsToken S moment) _ (record { user = user; range = read.range; issued = read.issued }))))))
+    gives_bind (λ _. is_scope_on S.rows held.payload ≡ true) (IsToken S moment) (need (is_scope_on S.rows held.payload) why.Scope) _
+    (gives_need (is_scope_on S.rows held.payload) why.Scope) (λ _ scope.
+    gives_past (IsToken S moment) (need (is_trust_line S.rows moment held.payload) why.Trust) _ (λ _.
+    gives_past (IsToken S moment) (need (is_cred_line S.rows moment held.payload) why.Credential) _ (λ _.
+    gives_past (IsToken S moment) (need (has_roles S.rows held.payload) why.Roles) _ (λ _.
+    gives_go Why (IsToken S moment) _ (record { user = user; scope = scope; range = read.range; issued = read.issued })))))))
 
 pub valid_token : (known : Known) (S : State) (moment : ℕ) (late : Bool) (text : Text) → Gives (IsToken S moment) (validity known S moment late text)
 unfolding validity
@@ -88,16 +92,32 @@ token_tellable rows text made payload issued roles past ends = told_by rows (use
 
 -- a login
 
-shown_ends : (known : Known) (S : State) (moment : ℕ) (by : Proof) → IsOrderly S → moment ≤ last_moment → Gives (λ who. who.expires ≤ LAST_SECOND) (shown known S moment by)
+abbrev Ends : Shown → Type 0
+Ends who = who.expires ≤ LAST_SECOND
+
+shown_by_ends : (S : State) (moment : ℕ) (user : Id) (methods : ℕ) → IsOrderly S → moment ≤ last_moment → Gives Ends (shown_by S moment user methods)
+unfolding shown_by
+shown_by_ends S moment user methods old le =
+    gives_past Ends (meets S.rows user methods) _ (λ _. gives_go Cause Ends _ (omega (arith, le, old.settings.life_most)))
+
+shown_ends : (known : Known) (S : State) (moment : ℕ) (by : Proof) → IsOrderly S → moment ≤ last_moment → Gives Ends (shown known S moment by)
 unfolding shown
 shown_ends known S moment (proof.Password user password) old le =
-    gives_bind (λ _. Unit {0}) (λ who. who.expires ≤ LAST_SECOND) (by_password known S.rows (user_in S.rows user) password) _ (gives_any _) (λ row _.
-    gives_go Cause (λ who. who.expires ≤ LAST_SECOND) _ (omega (arith, le, old.settings.life_most)))
+    gives_past Ends (by_password known S.rows (user_in S.rows user) password) _ (λ row. shown_by_ends S moment row.id password_method old le)
 shown_ends known S moment (proof.Token text) old le =
-    gives_bind (IsToken S moment) (λ who. who.expires ≤ LAST_SECOND) (blame (λ _. cause.Credentials) (validity known S moment false text)) _
+    gives_bind (IsToken S moment) Ends (blame (λ _. cause.Credentials) (validity known S moment false text)) _
     (gives_blame (IsToken S moment) (λ _. cause.Credentials) (validity known S moment false text) (valid_token known S moment false text)) (λ token is.
-    gives_bind (λ _. Unit {0}) (λ who. who.expires ≤ LAST_SECOND) (need (not (is_some token.payload.trust)) cause.TrustToken) _ (gives_any _) (λ _ _.
-    gives_go Cause (λ who. who.expires ≤ LAST_SECOND) (shown_by_token token) is.range.expires))
+    gives_past Ends (need (not (is_some token.payload.trust)) cause.TrustToken) _ (λ _.
+    gives_past Ends (need (not (is_some token.payload.credential)) cause.TrustToken) _ (λ _.
+    gives_go Cause Ends (shown_by_token token) is.range.expires)))
+shown_ends known S moment (proof.AppCred named secret) old le =
+    gives_past Ends (by_secret known S.rows moment (cred_in S.rows named) secret) _ (λ cred. gives_go Cause Ends _ (omega (arith, le, old.settings.life_most)))
+shown_ends known S moment (proof.Totp user code) old le =
+    gives_past Ends (by_code S.rows moment (user_in S.rows user) code) _ (λ row. shown_by_ends S moment row.id totp_method old le)
+shown_ends known S moment (proof.Both user password coded code) old le =
+    gives_past Ends (by_password known S.rows (user_in S.rows user) password) _ (λ row.
+    gives_past Ends (by_code S.rows moment (user_in S.rows coded) code) _ (λ other.
+    gives_past Ends (need (same row.id other.id) cause.Credentials) _ (λ _. shown_by_ends S moment row.id (password_method + totp_method) old le)))
 
 -- a trust that a login is by may be used
 abbrev IsUsable : Rows → ℕ → Option TrustRow → Type 0
@@ -173,6 +193,20 @@ scope_usable rows moment user (scope_in.Project project) = project_usable rows m
 scope_usable rows moment user scope_in.System = system_usable rows moment user
 scope_usable rows moment user (scope_in.Trust id) = trust_usable rows moment user id
 
+cred_usable : (rows : Rows) (moment : ℕ) (cred : AppCredRow) (asked : ScopeIn) → Gives (λ scope. IsUsable rows moment scope.trust) (to_cred rows cred asked)
+unfolding to_cred
+cred_usable rows moment cred asked =
+    gives_past (λ scope. IsUsable rows moment scope.trust) (need (asks_nowhere asked) (cause.ScopeRefused scope_why.Absent)) _ (λ _.
+    gives_past (λ scope. IsUsable rows moment scope.trust) (project_on rows (project_of cred.project rows.projects)) _ (λ project.
+    gives_past (λ scope. IsUsable rows moment scope.trust) (need (has_cred_roles rows cred) (cause.ScopeRefused scope_why.NoRoles)) _ (λ _.
+    no_trust rows moment _ refl)))
+
+scope_by_usable : (rows : Rows) (moment : ℕ) (user : Id) (cred : Option AppCredRow) (asked : ScopeIn) →
+    Gives (λ scope. IsUsable rows moment scope.trust) (scoped_by rows moment user cred asked)
+unfolding scoped_by
+scope_by_usable rows moment user None asked = scope_usable rows moment user asked
+scope_by_usable rows moment user (Some cred) asked = cred_usable rows moment cred asked
+
 use_by : (S : State) (moment : ℕ) (trust : TrustRow) (remaining : Option ℕ) → trust.remaining ≡ remaining → IsUsable S.rows moment (Some trust) →
     FitsIf S moment (option_map (λ left. change.UseTrust trust.id) remaining)
 unfolding Fits
@@ -195,6 +229,7 @@ pub good_login : (known : Known) (S : State) (moment : ℕ) (drawn : Drawn) (ask
     Gives (IsGood S moment) (login known S moment drawn asked)
 unfolding login
 good_login known S moment drawn asked old le =
-    gives_bind (λ who. who.expires ≤ LAST_SECOND) (IsGood S moment) (shown known S moment asked.proof) _ (shown_ends known S moment asked.proof old le) (λ who ends.
-    gives_bind (λ scope. IsUsable S.rows moment scope.trust) (IsGood S moment) (scoped S.rows moment who.user asked.scope) _ (scope_usable S.rows moment who.user asked.scope) (λ scope usable.
+    gives_bind Ends (IsGood S moment) (shown known S moment asked.proof) _ (shown_ends known S moment asked.proof old le) (λ who ends.
+    gives_bind (λ scope. IsUsable S.rows moment scope.trust) (IsGood S moment) (scoped_by S.rows moment who.user who.credential asked.scope) _
+    (scope_by_usable S.rows moment who.user who.credential asked.scope) (λ scope usable.
     gives_go Cause (IsGood S moment) (token_given S moment drawn who scope) (token_good S moment drawn who scope le ends usable)))

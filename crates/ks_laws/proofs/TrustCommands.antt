@@ -18,7 +18,7 @@ use Rattle.ks_base.specs.declared.shapes.ShapeFault.TheVariants as shape
 use Rattle.ks_base.specs.declared.trusts.TrustRow.{TrustRow}
 use Rattle.ks_base.specs.declared.users.UserRow.{UserRow}
 use Rattle.ks_base.specs.RoleLists.{is_named}
-use Rattle.ks_base.specs.Rows.{Id, Rows, same, project_of, role_of, trust_of, user_of}
+use Rattle.ks_base.specs.Rows.{Id, Rows, Text, same, project_of, role_of, trust_of, user_of}
 use Rattle.ks_base.specs.Tables.{Among, find_row, has_key, id_cmp, put_by, put_row}
 use Rattle.ks_base.specs.Trusts.{Follows, FollowsParent, creation_fault}
 use Rattle.ks_base.proofs.RowLemmas.{among_put}
@@ -43,7 +43,7 @@ use Rattle.ks_machine.specs.Ranges.{IsExpiry, IsLastOf, IsPassable, IsTrustInRan
 use Rattle.ks_machine.specs.States.{State, is_domain_on}
 use Rattle.ks_machine.specs.Tables.{standing_project, standing_trust, standing_user}
 use Rattle.ks_machine.specs.Told.{IsRowTellable}
-use Rattle.ks_machine.specs.TrustCommands.{count_for, create_trust, delete_trust, get_trust, is_passed_on, is_trust_listed, list_trusts, may_count, needs, new_trust, trust_cause, parent_by, role_asked, roles_asked, roles_of_trust, roles_to_give, told_trust, unless_trust}
+use Rattle.ks_machine.specs.TrustCommands.{count_for, create_trust, delete_trust, get_trust, is_passed_on, is_trust_listed, list_trusts, may_count, needs, new_trust, trust_cause, parent_by, role_asked, roles_asked, roles_of_trust, roles_to_give, told_trust, unless_trust, unrestricted}
 use Rattle.ks_machine.specs.Validity.{Valid}
 
 -- the roles of a new trust stand, and are as many at most as were asked for
@@ -63,14 +63,14 @@ among_stands (next ∷ rows) row (inl is) =
     (rw (has_own next) refl)
 among_stands (next ∷ rows) row (inr among) = found_one_by (has_key id_cmp (λ (r : RoleRow). r.id) row.id next) next (role_of row.id rows) (among_stands rows row among)
 
-asked_stands : (rows : Rows) (name : Named) → Gives (λ role. IsStanding (role_of role.id rows.roles)) (role_asked rows name)
-asked_stands rows (named.Id id) =
+asked_stands : (rows : Rows) (field : Text) (name : Named) → Gives (λ role. IsStanding (role_of role.id rows.roles)) (role_asked rows field name)
+asked_stands rows field (named.Id id) =
     gives_weaker (λ role. role_of id rows.roles ≡ Some role) (λ role. IsStanding (role_of role.id rows.roles)) (found (role_of id rows.roles) (cause.Absent kind.Role id))
     (gives_found (role_of id rows.roles) (cause.Absent kind.Role id)) (λ role is. ap is_some (found_by_own (λ (r : RoleRow). r.id) id rows.roles role is))
-asked_stands rows (named.Name name) =
+asked_stands rows field (named.Name name) =
     gives_weaker (λ role. find (is_named name) rows.roles ≡ Some role) (λ role. IsStanding (role_of role.id rows.roles))
-    (found (find (is_named name) rows.roles) (cause.Shape (shape.Range (codes "trust.roles"))))
-    (gives_found (find (is_named name) rows.roles) (cause.Shape (shape.Range (codes "trust.roles"))))
+    (found (find (is_named name) rows.roles) (cause.Shape (shape.Range field)))
+    (gives_found (find (is_named name) rows.roles) (cause.Shape (shape.Range field)))
     (λ role is. among_stands rows.roles role (found_passes (is_named name) rows.roles role is).0)
 
 pub record AreAsked (rows : Rows) (count : ℕ) (ids : List Id) : Type 0 where
@@ -84,17 +84,17 @@ one_more rows role count ids stands asked = record { stand = λ id among. by id 
     by id (inl is) = subst (λ (k : Id). IsStanding (role_of k rows.roles)) is stands
     by id (inr among) = asked.stand id among
 
-roles_are_asked : (rows : Rows) (names : List Named) → Gives (AreAsked rows (length names)) (roles_asked rows names)
+roles_are_asked : (rows : Rows) (field : Text) (names : List Named) → Gives (AreAsked rows (length names)) (roles_asked rows field names)
 unfolding roles_asked
-roles_are_asked rows [] = gives_go Cause (AreAsked rows 0) [] (record { stand = λ id among. absurd among; count_is = refl })
-roles_are_asked rows (name ∷ names) =
-    gives_bind (λ role. IsStanding (role_of role.id rows.roles)) (AreAsked rows (suc (length names))) (role_asked rows name) _ (asked_stands rows name) (λ role stands.
-    gives_bind (AreAsked rows (length names)) (AreAsked rows (suc (length names))) (roles_asked rows names) _ (roles_are_asked rows names) (λ ids asked.
+roles_are_asked rows field [] = gives_go Cause (AreAsked rows 0) [] (record { stand = λ id among. absurd among; count_is = refl })
+roles_are_asked rows field (name ∷ names) =
+    gives_bind (λ role. IsStanding (role_of role.id rows.roles)) (AreAsked rows (suc (length names))) (role_asked rows field name) _ (asked_stands rows field name) (λ role stands.
+    gives_bind (AreAsked rows (length names)) (AreAsked rows (suc (length names))) (roles_asked rows field names) _ (roles_are_asked rows field names) (λ ids asked.
     gives_go Cause (AreAsked rows (suc (length names))) (role.id ∷ ids) (one_more rows role (length names) ids stands asked)))
 
 -- the ids in their order are some of them
 
-among_ordered : (ids : List Id) (id : Id) → Among (in_order ids) id → Among ids id
+pub among_ordered : (ids : List Id) (id : Id) → Among (in_order ids) id → Among ids id
 unfolding in_order
 among_ordered [] id among = among
 among_ordered (next ∷ ids) id among =
@@ -130,7 +130,7 @@ unfolding in_order
 ordered_some [] some = absurd (omega arith)
 ordered_some (id ∷ ids) some = put_some id (in_order ids)
 
-above_none : (n : ℕ) → nat_lt 0 n ≡ true → 1 ≤ n
+pub above_none : (n : ℕ) → nat_lt 0 n ≡ true → 1 ≤ n
 above_none n is = grind (arith, nat_tests, is)
 
 -- the parent of a new trust
@@ -230,6 +230,7 @@ pub good_create_trust : (S : State) (moment : ℕ) (drawn : Drawn) (caller : Val
     Gives (IsGood S moment) (create_trust S.rows moment drawn caller asked)
 unfolding create_trust Fits
 good_create_trust S moment drawn caller asked old body_in is =
+    gives_past (IsGood S moment) (unrestricted S.rows caller) _ (λ _.
     gives_bind (λ _. same caller.payload.user asked.trustor ≡ true) (IsGood S moment) (needs (same caller.payload.user asked.trustor) fault.NotTrustor) _
     (gives_need (same caller.payload.user asked.trustor) (cause.Trust fault.NotTrustor)) (λ _ own.
     gives_bind (λ trustee. user_of asked.trustee S.rows.users ≡ Some trustee) (IsGood S moment) (standing_user S.rows asked.trustee) _
@@ -239,7 +240,8 @@ good_create_trust S moment drawn caller asked old body_in is =
     gives_bind (IsParent S.rows asked) (IsGood S moment) (parent_by S.rows asked caller.payload.trust) _ (parent_given S.rows asked caller.payload.trust) (λ parent parent_is.
     gives_bind (λ _. nat_lt 0 (length asked.roles) ≡ true) (IsGood S moment) (needs (nat_lt 0 (length asked.roles)) fault.NoRoles) _
     (gives_need (nat_lt 0 (length asked.roles)) (cause.Trust fault.NoRoles)) (λ _ some.
-    gives_bind (AreAsked S.rows (length asked.roles)) (IsGood S moment) (roles_asked S.rows asked.roles) _ (roles_are_asked S.rows asked.roles) (λ ids are.
+    gives_bind (AreAsked S.rows (length asked.roles)) (IsGood S moment) (roles_asked S.rows (codes "trust.roles") asked.roles) _
+    (roles_are_asked S.rows (codes "trust.roles") asked.roles) (λ ids are.
     gives_bind (λ _. may_count asked parent ≡ true) (IsGood S moment) (needs (may_count asked parent) fault.DepthOut) _
     (gives_need (may_count asked parent) (cause.Trust fault.DepthOut)) (λ _ may.
     let new : TrustRow = new_trust (made_id drawn) asked parent (in_order ids) in
@@ -250,7 +252,7 @@ good_create_trust S moment drawn caller asked old body_in is =
     (user_stands_by S.rows (user_of caller.payload.user S.rows.users) is.user) in
     let made = new_made S.rows moment (made_id drawn) asked parent ids old.rows.trusts.range body_in parent_is may some are
     trustor_stands (ap is_some trustee_is) (ap is_some project_is) accepted in
-    good_changes S moment (change.PutTrust new) (body.One (told_trust S.rows new) true) (λ room. made) made.range.expires))))))))
+    good_changes S moment (change.PutTrust new) (body.One (told_trust S.rows new) true) (λ room. made) made.range.expires)))))))))
 
 -- what is told of trusts
 

@@ -62,9 +62,9 @@ LacksAreInRange =
 abbrev pub KeptSaltsAreWhole : Type 0
 KeptSaltsAreWhole =
     (known : Known) (S : State) (moment : ℕ) (call : Call) (salt : List ℕ) (rounds : ℕ)
-    → IsOrderly S → AreSalted S.rows.users → Fit call → step_at known S moment call ≡ Needs (Stored salt rounds) → length salt ≡ 16
+    → IsOrderly S → AreSalted S.rows → Fit call → step_at known S moment call ≡ Needs (Stored salt rounds) → length salt ≡ 16
 
--- what any step lacks is a fact of a token or a password of its call, and is not known
+-- what any step lacks is a fact of a token, a password or a secret of its call, and is not known
 abbrev pub LacksAreUnknown : Type 0
 LacksAreUnknown =
     (known : Known) (S : State) (moment : ℕ) (call : Call) (lack : Lack) → step_at known S moment call ≡ Needs lack → IsUnknown known call lack

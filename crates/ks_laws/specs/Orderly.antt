@@ -1,9 +1,12 @@
 -- What holds of the state of every lawful front: rows have their ranges, and what they name stands.
 use Rattle.std.specs.Prelude.{◌≡◌, ◌+◌, ◌*◌, ◌≤◌, List, length, IfSome}
+use Rattle.ks_base.specs.declared.app_creds.AppCredRow.{AppCredRow}
 use Rattle.ks_base.specs.declared.catalog.EndpointRow.{EndpointRow}
 use Rattle.ks_base.specs.declared.catalog.RegionRow.{RegionRow}
 use Rattle.ks_base.specs.declared.catalog.ServiceRow.{ServiceRow}
 use Rattle.ks_base.specs.declared.events.EventRow.{EventRow}
+use Rattle.ks_base.specs.declared.factors.MfaRow.{MfaRow}
+use Rattle.ks_base.specs.declared.factors.SecretRow.{SecretRow}
 use Rattle.ks_base.specs.declared.grants.GrantRow.{GrantRow}
 use Rattle.ks_base.specs.declared.grants.ImplyRow.{ImplyRow}
 use Rattle.ks_base.specs.declared.limits.TheConstants.{REDELEGATIONS, TRUST_ROLES, USES}
@@ -21,7 +24,7 @@ use Rattle.ks_base.specs.Tables.{Among, IsAscending, id_cmp}
 use Rattle.ks_base.specs.Trusts.{AreChained}
 use Rattle.ks_laws.specs.Ancestries.{HasAncestry}
 use Rattle.ks_machine.specs.Lawful.{ActorStands, IsStanding, TargetStands}
-use Rattle.ks_machine.specs.Ranges.{IsDomainInRange, IsEndpointInRange, IsExpiry, IsGroupInRange, IsLastOf, IsProjectInRange, IsRegionInRange, IsRoleInRange, IsServiceInRange, IsSettings, IsUserInRange}
+use Rattle.ks_machine.specs.Ranges.{AreMfaRules, IsAppCredInRange, IsDomainInRange, IsEndpointInRange, IsExpiry, IsGroupInRange, IsLastOf, IsProjectInRange, IsRegionInRange, IsRoleInRange, IsServiceInRange, IsSettings, IsTotpSecret, IsUserInRange}
 use Rattle.ks_machine.specs.States.{State}
 use Rattle.ks_machine.specs.Tables.{catalogs}
 
@@ -72,7 +75,18 @@ pub record IsCatalogInRange (catalog : CatalogState) : Type 0 where
   pub services : Each IsServiceInRange catalog.services
   pub endpoints : Each IsEndpointInRange catalog.endpoints
 
--- what memberships, implications, grants, trusts and the catalog name stands
+-- no two application credentials of a user have one name
+abbrev pub AreCredNamesUnique : List AppCredRow → Type 0
+AreCredNamesUnique creds = (a b : AppCredRow) → Among creds a → Among creds b → a.user ≡ b.user → a.name ≡ b.name → a.id ≡ b.id
+
+-- application credentials, secrets of codes, and rules of methods: in range
+pub record AreCredentialsOrderly (creds : List AppCredRow) (secrets : List SecretRow) (rules : List MfaRow) : Type 0 where
+  pub app_creds : Each IsAppCredInRange creds
+  pub names : AreCredNamesUnique creds
+  pub secrets_range : Each (λ (row : SecretRow). IsTotpSecret row.secret) secrets
+  pub rules_range : Each (λ (row : MfaRow). AreMfaRules row.rules) rules
+
+-- what memberships, implications, grants, trusts, the catalog and what users log in by name stands
 
 pub record IsMemberAnchored (rows : Rows) (row : MemberRow) : Type 0 where
   pub group : IsStanding (group_of row.group rows.groups)
@@ -104,18 +118,37 @@ pub record IsCatalogAnchored (catalog : CatalogState) : Type 0 where
   pub regions : Each (λ row. IfSome row.parent (RegionStands catalog)) catalog.regions
   pub endpoints : Each (IsEndpointAnchored catalog) catalog.endpoints
 
+pub record IsCredAnchored (rows : Rows) (cred : AppCredRow) : Type 0 where
+  pub user : IsStanding (user_of cred.user rows.users)
+  pub project : IsStanding (project_of cred.project rows.projects)
+  pub roles : Each (λ role. IsStanding (role_of role rows.roles)) cred.roles
+
+abbrev pub UserStands : Rows → Id → Type 0
+UserStands rows id = IsStanding (user_of id rows.users)
+
+pub record AreCredentialsAnchored (rows : Rows) (creds : List AppCredRow) (secrets : List SecretRow) (rules : List MfaRow) : Type 0 where
+  pub app_creds : Each (IsCredAnchored rows) creds
+  pub secrets_users : Each (λ (row : SecretRow). UserStands rows row.user) secrets
+  pub rules_users : Each (λ (row : MfaRow). UserStands rows row.user) rules
+
 pub record AreAnchored (rows : Rows) : Type 0 where
   pub members : Each (IsMemberAnchored rows) rows.members
   pub implications : Each (IsImplicationAnchored rows) rows.implications
   pub grants : Each (IsGrantAnchored rows) rows.grants
   pub trusts : Each (IsTrustAnchored rows) rows.trusts
   pub catalog : IsCatalogAnchored (catalogs rows)
+  pub credentials : AreCredentialsAnchored rows rows.app_creds rows.secrets rows.factor_rules
 
 -- each list stands in its order, with no key twice
 pub record IsCatalogInOrder (catalog : CatalogState) : Type 0 where
   pub regions : IsAscending id_cmp (λ (row : RegionRow). row.id) catalog.regions
   pub services : IsAscending id_cmp (λ (row : ServiceRow). row.id) catalog.services
   pub endpoints : IsAscending id_cmp (λ (row : EndpointRow). row.id) catalog.endpoints
+
+pub record AreCredentialsInOrder (creds : List AppCredRow) (secrets : List SecretRow) (rules : List MfaRow) : Type 0 where
+  pub app_creds : IsAscending id_cmp (λ (row : AppCredRow). row.id) creds
+  pub secrets_order : IsAscending id_cmp (λ (row : SecretRow). row.id) secrets
+  pub rules_order : IsAscending id_cmp (λ (row : MfaRow). row.user) rules
 
 pub record AreInOrder (rows : Rows) : Type 0 where
   pub domains : IsAscending id_cmp (λ (row : DomainRow). row.id) rows.domains
@@ -128,6 +161,7 @@ pub record AreInOrder (rows : Rows) : Type 0 where
   pub grants : IsAscending grant_cmp (λ (row : GrantRow). row) rows.grants
   pub trusts : IsAscending id_cmp (λ (row : TrustRow). row.id) rows.trusts
   pub catalog : IsCatalogInOrder (catalogs rows)
+  pub credentials : AreCredentialsInOrder rows.app_creds rows.secrets rows.factor_rules
 
 pub record AreRowsOrderly (rows : Rows) : Type 0 where
   pub trees : AreTreesOrderly rows.domains rows.projects
@@ -135,6 +169,7 @@ pub record AreRowsOrderly (rows : Rows) : Type 0 where
   pub roles : Each IsRoleInRange rows.roles
   pub trusts : AreTrustsOrderly rows.trusts
   pub catalog : IsCatalogInRange (catalogs rows)
+  pub credentials : AreCredentialsOrderly rows.app_creds rows.secrets rows.factor_rules
 
 -- and no revocation is later than the highest moment, and the opening and each change gave at most 32 numbers to keys
 pub record IsOrderly (S : State) : Type 0 where

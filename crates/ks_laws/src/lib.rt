@@ -14,8 +14,9 @@ pub fn states_stay_orderly()
 {}
 
 /// Whatever is known, what a step of an orderly state lacks for a fit call can be found out: it names keys that are held, or
-/// rounds in range with the salt that a standing user keeps or the one that was drawn. It is a fact of a token or a password
-/// of the call, and is not known. With all facts none is lacking, so that an answer is always a step's reply.
+/// rounds in range with the salt that a standing user or application credential keeps or the one that was drawn. It is a fact of
+/// a token, a password or a secret of the call, and is not known. With all facts none is lacking, so that an answer is always a
+/// step's reply.
 pub fn steps_lack_what_can_be_found()
     ensures ranges { LacksAreInRange }
     ensures salts { KeptSaltsAreWhole }

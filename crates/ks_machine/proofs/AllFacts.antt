@@ -1,5 +1,6 @@
 -- With all facts no check lacks one.
 use Rattle.std.proofs.Common.{◌≡◌, ℕ, Bool, true, false, List, [], ◌∷◌, Option, Some, None, Result, Ok, Err, sym, subst}
+use Rattle.ks_base.specs.declared.app_creds.AppCredRow.{AppCredRow}
 use Rattle.ks_base.specs.declared.catalog.CatalogIn.{CatalogIn}
 use Rattle.ks_base.specs.declared.catalog.CatalogKind.{CatalogKind}
 use Rattle.ks_base.specs.declared.catalog.CatalogKind.TheVariants as of
@@ -18,15 +19,18 @@ use Rattle.ks_base.specs.declared.users.MemberRow.{MemberRow}
 use Rattle.ks_base.specs.declared.users.PasswordRow.{PasswordRow}
 use Rattle.ks_base.specs.declared.users.UserRow.{UserRow}
 use Rattle.ks_base.specs.Rows.{Id, Text, Rows}
+use Rattle.ks_machine.specs.declared.bodies.AppCredBody.{AppCredBody}
 use Rattle.ks_machine.specs.declared.bodies.LoginBody.{LoginBody}
 use Rattle.ks_machine.specs.declared.bodies.Made.{Made}
 use Rattle.ks_machine.specs.declared.bodies.Made.TheVariants as made
+use Rattle.ks_machine.specs.declared.bodies.MfaIn.{MfaIn}
 use Rattle.ks_machine.specs.declared.bodies.Named.{Named}
 use Rattle.ks_machine.specs.declared.bodies.Named.TheVariants as named
 use Rattle.ks_machine.specs.declared.bodies.Proof.{Proof}
 use Rattle.ks_machine.specs.declared.bodies.Proof.TheVariants as proof
 use Rattle.ks_machine.specs.declared.bodies.ScopeIn.{ScopeIn}
 use Rattle.ks_machine.specs.declared.bodies.ScopeIn.TheVariants as scope_in
+use Rattle.ks_machine.specs.declared.bodies.SecretBody.{SecretBody}
 use Rattle.ks_machine.specs.declared.bodies.TrustBody.{TrustBody}
 use Rattle.ks_machine.specs.declared.call.Call.{Call}
 use Rattle.ks_machine.specs.declared.call.FolderRead.{FolderRead}
@@ -37,12 +41,14 @@ use Rattle.ks_machine.specs.declared.command.Command.{Command}
 use Rattle.ks_machine.specs.declared.command.Command.TheVariants as command
 use Rattle.ks_machine.specs.declared.lines.ReadToken.{ReadToken}
 use Rattle.ks_machine.specs.declared.why.Why.{Why}
+use Rattle.ks_machine.specs.AppCredCommands.{create_app_cred, delete_app_cred, get_app_cred, list_app_creds, role_held, roles_given}
 use Rattle.ks_machine.specs.Attempts.{Attempt, Go, Stop, Lacks, Lack, ◌>>=◌, blame, decided, each, everything, found, need, unless}
 use Rattle.ks_machine.specs.CatalogCommands.{create_catalog, create_endpoint, create_region, create_service, given_id_free, update_catalog, update_endpoint, update_region, update_service}
 use Rattle.ks_machine.specs.Creations.{create, create_domain, create_group, create_project, create_role, create_user}
+use Rattle.ks_machine.specs.FactorCommands.{create_secret, delete_secret, get_secret}
 use Rattle.ks_machine.specs.Keys.{keys_read, load_keys, rotate_keys}
 use Rattle.ks_machine.specs.Listings.{delete, get, row_at}
-use Rattle.ks_machine.specs.Login.{by_password, is_password, login, project_on, scoped, shown, to_domain, to_project, to_system, to_trust, with_roles}
+use Rattle.ks_machine.specs.Login.{by_code, by_password, by_secret, is_password, login, project_on, scoped, scoped_by, shown, shown_by, to_cred, to_domain, to_project, to_system, to_trust, with_roles}
 use Rattle.ks_machine.specs.Members.{actor_stands, all_stand, grant, grants_of, list_groups_of, implication, implied, imply, is_granted, is_implied, is_in, join, leave, list_members_of, target_stands, ungrant, unimply}
 use Rattle.ks_machine.specs.Outcomes.{Outcome}
 use Rattle.ks_machine.specs.Passwords.{change_password, derived, derived_or}
@@ -124,7 +130,7 @@ whole_opens keys text =
 
 whole_lines : (S : State) (moment : ℕ) (held : ReadToken) → IsWhole (held_lines S moment held)
 unfolding held_lines
-whole_lines S moment held = search (whole_bind, whole_go, whole_need) depth 14
+whole_lines S moment held = search (whole_bind, whole_go, whole_need) depth 16
 
 whole_validity : (S : State) (moment : ℕ) (late : Bool) (text : Text) → IsWhole (validity everything S moment late text)
 unfolding validity
@@ -152,11 +158,28 @@ whole_by_password : (rows : Rows) (named : Option UserRow) (password : Text) →
 unfolding by_password
 whole_by_password rows named password = search (whole_bind, whole_go, whole_found, whole_need, whole_password) depth 14
 
+whole_by_secret : (rows : Rows) (moment : ℕ) (named : Option AppCredRow) (secret : Text) → IsWhole (by_secret everything rows moment named secret)
+unfolding by_secret
+whole_by_secret rows moment named secret = search (whole_bind, whole_go, whole_found, whole_need, whole_password) depth 14
+
+whole_by_code : (rows : Rows) (moment : ℕ) (named : Option UserRow) (code : ℕ) → IsWhole (by_code rows moment named code)
+unfolding by_code
+whole_by_code rows moment named code = search (whole_bind, whole_go, whole_found, whole_need) depth 14
+
+whole_shown_by : (S : State) (moment : ℕ) (user : Id) (methods : ℕ) → IsWhole (shown_by S moment user methods)
+unfolding shown_by
+whole_shown_by S moment user methods = whole_map _ _ (whole_need _ _)
+
 whole_shown : (S : State) (moment : ℕ) (by : Proof) → IsWhole (shown everything S moment by)
 unfolding shown
-whole_shown S moment (proof.Password user password) = whole_map _ _ (whole_by_password S.rows _ password)
+whole_shown S moment (proof.Password user password) =
+    whole_bind _ _ (whole_by_password S.rows _ password) (λ (row : UserRow). whole_shown_by S moment row.id _)
 whole_shown S moment (proof.Token text) =
-    whole_bind _ _ (whole_blame _ _ (whole_validity S moment false text)) (λ (token : Valid). whole_map _ _ (whole_need _ _))
+    whole_bind _ _ (whole_blame _ _ (whole_validity S moment false text)) (λ (token : Valid). search (whole_bind, whole_go, whole_need) depth 14)
+whole_shown S moment (proof.AppCred named secret) = whole_map _ _ (whole_by_secret S.rows moment _ secret)
+whole_shown S moment (proof.Totp user code) = whole_bind _ _ (whole_by_code S.rows moment _ code) (λ (row : UserRow). whole_shown_by S moment row.id _)
+whole_shown S moment (proof.Both user password coded code) =
+    whole_bind _ _ (whole_by_password S.rows _ password) (λ (row : UserRow). search (whole_bind, whole_by_code, whole_need, whole_shown_by) depth 16)
 
 whole_with_roles : (rows : Rows) (user : Id) (at : Target) → IsWhole (with_roles rows user at)
 unfolding with_roles
@@ -191,9 +214,18 @@ whole_scoped rows moment user (scope_in.Project project) = whole_to_project rows
 whole_scoped rows moment user scope_in.System = whole_to_system rows user
 whole_scoped rows moment user (scope_in.Trust id) = whole_to_trust rows moment user id
 
+whole_to_cred : (rows : Rows) (cred : AppCredRow) (asked : ScopeIn) → IsWhole (to_cred rows cred asked)
+unfolding to_cred
+whole_to_cred rows cred asked = search (whole_bind, whole_go, whole_need, whole_project_on) depth 14
+
+whole_scoped_by : (rows : Rows) (moment : ℕ) (user : Id) (cred : Option AppCredRow) (asked : ScopeIn) → IsWhole (scoped_by rows moment user cred asked)
+unfolding scoped_by
+whole_scoped_by rows moment user None asked = whole_scoped rows moment user asked
+whole_scoped_by rows moment user (Some cred) asked = whole_to_cred rows cred asked
+
 whole_login : (S : State) (moment : ℕ) (drawn : Drawn) (asked : LoginBody) → IsWhole (login everything S moment drawn asked)
 unfolding login
-whole_login S moment drawn asked = search (whole_bind, whole_go, whole_shown, whole_scoped) depth 14
+whole_login S moment drawn asked = search (whole_bind, whole_go, whole_shown, whole_scoped_by) depth 14
 
 -- passwords
 
@@ -212,15 +244,16 @@ whole_change_password S drawn id original password = search (whole_bind, whole_g
 
 -- rows
 
-whole_create_user : (S : State) (drawn : Drawn) (new : UserRow) (password : Option Text) → IsWhole (create_user everything S drawn new password)
+whole_create_user : (S : State) (drawn : Drawn) (new : UserRow) (password : Option Text) (factors : Option MfaIn) →
+    IsWhole (create_user everything S drawn new password factors)
 unfolding create_user
-whole_create_user S drawn new password = search (whole_bind, whole_go, whole_found, whole_fault, whole_derived_or) depth 14
+whole_create_user S drawn new password factors = search (whole_bind, whole_go, whole_found, whole_fault, whole_derived_or) depth 14
 
 whole_create : (S : State) (drawn : Drawn) (caller : Valid) (asked : Made) → IsWhole (create everything S drawn caller asked)
 unfolding create create_domain create_project create_group create_role
 whole_create S drawn caller (made.Domain given name description enabled) = search (whole_bind, whole_go, whole_fault) depth 16
 whole_create S drawn caller (made.Project given name domain parent description enabled) = search (whole_bind, whole_go, whole_fault) depth 16
-whole_create S drawn caller (made.User given name domain password enabled) = whole_create_user S drawn _ password
+whole_create S drawn caller (made.User given name domain password enabled factors) = whole_create_user S drawn _ password factors
 whole_create S drawn caller (made.Group given name domain description) = search (whole_bind, whole_go, whole_found, whole_fault) depth 16
 whole_create S drawn caller (made.Role given name description) = search (whole_bind, whole_go, whole_fault) depth 16
 
@@ -228,7 +261,7 @@ whole_update : (S : State) (drawn : Drawn) (id : Id) (asked : Made) → IsWhole 
 unfolding update update_domain update_project update_user update_group update_role
 whole_update S drawn id (made.Domain given name description enabled) = search (whole_bind, whole_go, whole_found, whole_need, whole_fault) depth 16
 whole_update S drawn id (made.Project given name domain parent description enabled) = search (whole_bind, whole_go, whole_found, whole_need, whole_fault) depth 16
-whole_update S drawn id (made.User given name domain password enabled) = search (whole_bind, whole_go, whole_found, whole_need, whole_fault, whole_derived_or) depth 16
+whole_update S drawn id (made.User given name domain password enabled factors) = search (whole_bind, whole_go, whole_found, whole_need, whole_fault, whole_derived_or) depth 16
 whole_update S drawn id (made.Group given name domain description) = search (whole_bind, whole_go, whole_found, whole_need, whole_fault) depth 16
 whole_update S drawn id (made.Role given name description) = search (whole_bind, whole_go, whole_found, whole_need, whole_fault) depth 16
 
@@ -247,6 +280,8 @@ whole_row rows kind.Event id = whole_stop _ _
 whole_row rows kind.Region id = whole_map _ _ (whole_found _ _)
 whole_row rows kind.Service id = whole_map _ _ (whole_found _ _)
 whole_row rows kind.Endpoint id = whole_map _ _ (whole_found _ _)
+whole_row rows kind.AppCred id = whole_stop _ _
+whole_row rows kind.Secret id = whole_map _ _ (whole_found _ _)
 
 whole_get : (rows : Rows) (what : Kind) (id : Id) → IsWhole (get rows what id)
 unfolding get
@@ -267,6 +302,8 @@ whole_delete rows kind.Event id = whole_stop _ _
 whole_delete rows kind.Region id = whole_map _ _ (whole_fault _ _)
 whole_delete rows kind.Service id = whole_map _ _ (whole_found _ _)
 whole_delete rows kind.Endpoint id = whole_map _ _ (whole_found _ _)
+whole_delete rows kind.AppCred id = whole_stop _ _
+whole_delete rows kind.Secret id = whole_map _ _ (whole_found _ _)
 
 -- the catalog
 
@@ -318,14 +355,14 @@ whole_grants_of rows who at inherited = search (whole_bind, whole_go, whole_targ
 
 -- trusts
 
-whole_role : (rows : Rows) (name : Named) → IsWhole (role_asked rows name)
-whole_role rows (named.Id id) = whole_found _ _
-whole_role rows (named.Name name) = whole_found _ _
+whole_role : (rows : Rows) (field : Text) (name : Named) → IsWhole (role_asked rows field name)
+whole_role rows field (named.Id id) = whole_found _ _
+whole_role rows field (named.Name name) = whole_found _ _
 
-whole_roles : (rows : Rows) (names : List Named) → IsWhole (roles_asked rows names)
+whole_roles : (rows : Rows) (field : Text) (names : List Named) → IsWhole (roles_asked rows field names)
 unfolding roles_asked
-whole_roles rows [] = whole_go Cause _
-whole_roles rows (name ∷ names) = whole_bind _ _ (whole_role rows name) (λ (role : RoleRow). whole_map _ _ (whole_roles rows names))
+whole_roles rows field [] = whole_go Cause _
+whole_roles rows field (name ∷ names) = whole_bind _ _ (whole_role rows field name) (λ (role : RoleRow). whole_map _ _ (whole_roles rows field names))
 
 whole_parent : (rows : Rows) (asked : TrustBody) (of : Option Id) → IsWhole (parent_by rows asked of)
 whole_parent rows asked None = search (whole_bind, whole_go, whole_need) depth 16
@@ -333,7 +370,34 @@ whole_parent rows asked (Some id) = search (whole_bind, whole_go, whole_found, w
 
 whole_create_trust : (rows : Rows) (moment : ℕ) (drawn : Drawn) (caller : Valid) (asked : TrustBody) → IsWhole (create_trust rows moment drawn caller asked)
 unfolding create_trust
-whole_create_trust rows moment drawn caller asked = search (whole_bind, whole_go, whole_need, whole_found, whole_fault, whole_parent, whole_roles) depth 24
+whole_create_trust rows moment drawn caller asked = search (whole_bind, whole_go, whole_need, whole_found, whole_fault, whole_parent, whole_roles) depth 26
+
+-- application credentials and secrets
+
+whole_given : (rows : Rows) (caller : Valid) (names : Option (List Named)) → IsWhole (roles_given rows caller names)
+whole_given rows caller None = whole_go Cause _
+whole_given rows caller (Some names) = whole_roles rows _ names
+
+whole_held : (rows : Rows) (user project : Id) (roles : List Id) → IsWhole (each (role_held rows user project) roles)
+whole_held rows user project roles = whole_each (role_held rows user project) roles (λ (role : Id). whole_need _ _)
+
+whole_create_app_cred : (S : State) (moment : ℕ) (drawn : Drawn) (caller : Valid) (user : Id) (asked : AppCredBody) →
+    IsWhole (create_app_cred everything S moment drawn caller user asked)
+unfolding create_app_cred
+whole_create_app_cred S moment drawn caller user asked =
+    search (whole_bind, whole_go, whole_need, whole_found, whole_fault, whole_given, whole_held, whole_derived) depth 34
+
+whole_delete_app_cred : (rows : Rows) (caller : Valid) (user id : Id) → IsWhole (delete_app_cred rows caller user id)
+unfolding delete_app_cred
+whole_delete_app_cred rows caller user id = search (whole_bind, whole_go, whole_need, whole_found) depth 14
+
+whole_get_app_cred : (rows : Rows) (user id : Id) → IsWhole (get_app_cred rows user id)
+unfolding get_app_cred
+whole_get_app_cred rows user id = search (whole_bind, whole_go, whole_found) depth 14
+
+whole_create_secret : (rows : Rows) (drawn : Drawn) (asked : SecretBody) → IsWhole (create_secret rows drawn asked)
+unfolding create_secret
+whole_create_secret rows drawn asked = search (whole_bind, whole_go, whole_found, whole_fault) depth 14
 
 -- keys
 
@@ -363,7 +427,7 @@ unfolding as_caller_about
 whole_about S moment call late own = search (whole_bind, whole_go, whole_found, whole_caller, whole_subject, whole_allows) depth 16
 
 whole_answered : (S : State) (moment : ℕ) (call : Call) (asked : Command) → IsWhole (answered everything S moment call asked)
-unfolding answered list_groups_of list_members_of join leave implied imply implication is_implied unimply grant ungrant get_trust delete_trust roles_of_trust
+unfolding answered list_groups_of list_members_of join leave implied imply implication is_implied unimply grant ungrant get_trust delete_trust roles_of_trust list_app_creds get_secret delete_secret
 whole_answered S moment call command.Version = whole_go Cause _
 whole_answered S moment call (command.Login body) = whole_login S moment call.draw body
 whole_answered S moment call (command.ChangePassword id original password) = whole_change_password S call.draw id original password
@@ -405,6 +469,15 @@ whole_answered S moment call (command.GetCatalog what id) = whole_as_caller S mo
 whole_answered S moment call (command.UpdateCatalog id body) = whole_as_caller S moment call _ (λ caller. whole_update_catalog S.rows id body.of body)
 whole_answered S moment call (command.DeleteCatalog what id) = whole_as_caller S moment call _ (λ caller. whole_delete S.rows _ id)
 whole_answered S moment call command.ShowCatalog = whole_as_caller S moment call _ (λ caller. whole_go Cause _)
+whole_answered S moment call (command.CreateAppCred user body) =
+    whole_as_caller S moment call _ (λ caller. whole_create_app_cred S moment call.draw caller user body)
+whole_answered S moment call (command.ListAppCreds user) = whole_as_caller S moment call _ (λ caller. whole_map _ _ (whole_found _ _))
+whole_answered S moment call (command.GetAppCred user id) = whole_as_caller S moment call _ (λ caller. whole_get_app_cred S.rows user id)
+whole_answered S moment call (command.DeleteAppCred user id) = whole_as_caller S moment call _ (λ caller. whole_delete_app_cred S.rows caller user id)
+whole_answered S moment call (command.CreateSecret body) = whole_as_caller S moment call _ (λ caller. whole_create_secret S.rows call.draw body)
+whole_answered S moment call command.ListSecrets = whole_as_caller S moment call _ (λ caller. whole_go Cause _)
+whole_answered S moment call (command.GetSecret id) = whole_as_caller S moment call _ (λ caller. whole_map _ _ (whole_found _ _))
+whole_answered S moment call (command.DeleteSecret id) = whole_as_caller S moment call _ (λ caller. whole_map _ _ (whole_found _ _))
 
 whole_room : (S : State) (moment most : ℕ) (what : Option Change) → IsWhole (room_for S moment most what)
 unfolding room_for

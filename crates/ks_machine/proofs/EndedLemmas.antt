@@ -447,6 +447,15 @@ stay_after S moment (change.PutEndpoint row) fits = all_same S.rows (rows_after 
 stay_after S moment (change.DropRegion id) fits = all_same S.rows (rows_after S.rows (change.DropRegion id)) (ended_by S.rows (change.DropRegion id)) refl refl refl
 stay_after S moment (change.DropService id) fits = all_same S.rows (rows_after S.rows (change.DropService id)) (ended_by S.rows (change.DropService id)) refl refl refl
 stay_after S moment (change.DropEndpoint id) fits = all_same S.rows (rows_after S.rows (change.DropEndpoint id)) (ended_by S.rows (change.DropEndpoint id)) refl refl refl
+stay_after S moment (change.PutAppCred row) fits = all_same S.rows (rows_after S.rows (change.PutAppCred row)) (ended_by S.rows (change.PutAppCred row)) refl refl refl
+stay_after S moment (change.DropAppCred id) fits = all_same S.rows (rows_after S.rows (change.DropAppCred id)) (ended_by S.rows (change.DropAppCred id)) refl refl refl
+stay_after S moment (change.PutSecret row) fits = all_same S.rows (rows_after S.rows (change.PutSecret row)) (ended_by S.rows (change.PutSecret row)) refl refl refl
+stay_after S moment (change.DropSecret id) fits = all_same S.rows (rows_after S.rows (change.DropSecret id)) (ended_by S.rows (change.DropSecret id)) refl refl refl
+stay_after S moment (change.PutUserWith row rules) fits = record {
+  users = user_put S.rows (rows_after S.rows (change.PutUserWith row rules)) row (ended_by S.rows (change.PutUserWith row rules)) refl (λ standing found. kept_by_put _ _ _ _ standing fits.0.2 found);
+  projects = projects_same S.rows (rows_after S.rows (change.PutUserWith row rules)) (ended_by S.rows (change.PutUserWith row rules)) refl;
+  trusts = trusts_same S.rows (rows_after S.rows (change.PutUserWith row rules)) (ended_by S.rows (change.PutUserWith row rules)) refl;
+}
 
 -- so what is revoked stays revoked
 

@@ -299,7 +299,7 @@ ended S [] = map (λ event. event.what) S.events
 ended S (called ∷ more) = ended (run S called) more
 
 abbrev pub update_bob : Option Text → Option Bool → Command
-update_bob name enabled = command.Update (codes "bobby") (made.User None name None None enabled)
+update_bob name enabled = command.Update (codes "bobby") (made.User None name None None enabled None)
 
 -- bob is renamed to his own name, disabled, enabled and deleted
 bob_ends :

@@ -1,38 +1,48 @@
 -- What some true facts suffice for is what all facts say.
-use Rattle.std.specs.Prelude.{codes, not, unwrap_or, ◌&&◌, ◌||◌}
+use Rattle.std.specs.Prelude.{codes, length, nat_lt, not, unwrap_or, ◌&&◌, ◌||◌}
 use Rattle.std.proofs.Common.{◌≡◌, ℕ, Bool, false, List, [], ◌∷◌, Option, Some, None, refl, sym, ap, subst, inl, inr}
+use Rattle.ks_base.specs.declared.app_creds.AppCredRow.{AppCredRow}
+use Rattle.ks_base.specs.declared.faults.TrustFault.TheVariants as trust_fault
 use Rattle.ks_base.specs.declared.receipt.Drawn.{Drawn}
 use Rattle.ks_base.specs.declared.users.PasswordRow.{PasswordRow}
 use Rattle.ks_base.specs.declared.users.UserRow.{UserRow}
+use Rattle.ks_base.specs.AppCreds.{cred_name_taken}
 use Rattle.ks_base.specs.PeopleFaults.{set_user_fault, user_name_taken}
 use Rattle.ks_base.specs.Rows.{Id, Text, Rows}
+use Rattle.ks_base.specs.Trusts.{is_expired}
 use Rattle.ks_fernet.specs.declared.opening.OpenAnswer.{OpenAnswer}
 use Rattle.ks_fernet.specs.declared.opening.OpenAnswer.TheVariants.{NotText, No, Yes}
 use Rattle.ks_fernet.specs.Opening.{open_of}
+use Rattle.ks_machine.specs.declared.bodies.AppCredBody.{AppCredBody}
 use Rattle.ks_machine.specs.declared.bodies.LoginBody.{LoginBody}
 use Rattle.ks_machine.specs.declared.bodies.Made.{Made}
 use Rattle.ks_machine.specs.declared.bodies.Made.TheVariants as made
+use Rattle.ks_machine.specs.declared.bodies.MfaIn.{MfaIn}
 use Rattle.ks_machine.specs.declared.bodies.Proof.{Proof}
 use Rattle.ks_machine.specs.declared.bodies.Proof.TheVariants as proof
 use Rattle.ks_machine.specs.declared.call.Call.{Call}
 use Rattle.ks_machine.specs.declared.cause.Cause.{Cause}
 use Rattle.ks_machine.specs.declared.cause.Cause.TheVariants as cause
+use Rattle.ks_machine.specs.declared.cause.ScopeWhy.TheVariants as scope_why
 use Rattle.ks_machine.specs.declared.change.Change.{Change}
 use Rattle.ks_machine.specs.declared.command.Command.{Command}
 use Rattle.ks_machine.specs.declared.command.Command.TheVariants as command
 use Rattle.ks_machine.specs.declared.reply.Reply.{Reply}
 use Rattle.ks_machine.specs.declared.why.Why.{Why}
-use Rattle.ks_machine.specs.Attempts.{Attempt, Go, Stop, Lacks, Lack, ◌>>=◌, Known, asked, blame, everything, found, need, unless}
+use Rattle.ks_machine.specs.Attempts.{Attempt, Go, Stop, Lacks, Lack, ◌>>=◌, Known, asked, blame, each, everything, found, need, unless}
 use Rattle.ks_machine.specs.Actions.{requirements}
+use Rattle.ks_machine.specs.AppCredCommands.{create_app_cred, new_cred, own_project, role_held, roles_given, underived}
 use Rattle.ks_machine.specs.Keys.{is_failed}
 use Rattle.ks_machine.specs.Creations.{create, create_user}
+use Rattle.ks_machine.specs.Effective.{in_order}
 use Rattle.ks_machine.specs.FactLaws.{AreTrue, IsTrue}
-use Rattle.ks_machine.specs.Login.{by_password, is_password, login, shown}
-use Rattle.ks_machine.specs.Outcomes.{Outcome}
+use Rattle.ks_machine.specs.Login.{by_password, by_secret, is_password, login, shown}
+use Rattle.ks_machine.specs.Outcomes.{Outcome, made_id}
 use Rattle.ks_machine.specs.Passwords.{change_password, derived, derived_or}
 use Rattle.ks_machine.specs.States.{State}
 use Rattle.ks_machine.specs.Steps.{Replies, answered, as_caller, as_caller_about, caller_of, checked, has_drawn, lacking_of, step_at, stepped, subject_of}
 use Rattle.ks_machine.specs.Tables.{people, standing_domain, standing_user, unless_row}
+use Rattle.ks_machine.specs.TrustCommands.{needs, unrestricted}
 use Rattle.ks_machine.specs.Updates.{unchanged, update, update_user}
 use Rattle.ks_machine.specs.Validity.{Valid, lacking, lacking_by, opened, opened_by, opens, unless_lacking, validity}
 use Rattle.ks_ring.specs.declared.held_key.HeldKey.{HeldKey}
@@ -143,10 +153,20 @@ unfolding by_password
 agrees_by_password known true rows named password =
     agrees_on (found named cause.Credentials) _ _ (λ (user : UserRow). agrees_on (found user.password cause.Credentials) _ _ (λ (row : PasswordRow). agrees_then _ _ _ (agrees_password known true row password)))
 
+agrees_by_secret : (known : Known) → AreTrue known → (rows : Rows) (moment : ℕ) (named : Option AppCredRow) (secret : Text) →
+    Agrees (by_secret known rows moment named secret) (by_secret everything rows moment named secret)
+unfolding by_secret
+agrees_by_secret known true rows moment named secret =
+    agrees_on (found named cause.Credentials) _ _ (λ (cred : AppCredRow).
+    agrees_on (need (not (is_expired cred.expires moment)) cause.Credentials) _ _ (λ serves. agrees_then _ _ _ (agrees_password known true cred.secret secret)))
+
 agrees_shown : (known : Known) → AreTrue known → (S : State) (moment : ℕ) (by : Proof) → Agrees (shown known S moment by) (shown everything S moment by)
 unfolding shown
 agrees_shown known true S moment (proof.Password user password) = agrees_then _ _ _ (agrees_by_password known true S.rows _ password)
 agrees_shown known true S moment (proof.Token text) = agrees_then _ _ _ (agrees_blame _ _ _ (agrees_validity known true S moment false text))
+agrees_shown known true S moment (proof.AppCred named secret) = agrees_then _ _ _ (agrees_by_secret known true S.rows moment _ secret)
+agrees_shown known true S moment (proof.Totp user code) = agrees_refl _
+agrees_shown known true S moment (proof.Both user password coded code) = agrees_then _ _ _ (agrees_by_password known true S.rows _ password)
 
 agrees_login : (known : Known) → AreTrue known → (S : State) (moment : ℕ) (drawn : Drawn) (asked : LoginBody) →
     Agrees (login known S moment drawn asked) (login everything S moment drawn asked)
@@ -172,10 +192,10 @@ agrees_change_password known true S drawn id original password =
 
 -- commands of a caller
 
-agrees_create_user : (known : Known) → AreTrue known → (S : State) (drawn : Drawn) (new : UserRow) (password : Option Text) →
-    Agrees (create_user known S drawn new password) (create_user everything S drawn new password)
+agrees_create_user : (known : Known) → AreTrue known → (S : State) (drawn : Drawn) (new : UserRow) (password : Option Text) (factors : Option MfaIn) →
+    Agrees (create_user known S drawn new password factors) (create_user everything S drawn new password factors)
 unfolding create_user
-agrees_create_user known true S drawn new password =
+agrees_create_user known true S drawn new password factors =
     agrees_on (standing_domain S.rows new.domain) _ _ (λ domain. agrees_on (unless_row (user_name_taken (people S.rows) new)) _ _ (λ free. agrees_then _ _ _ (agrees_derived_or known true S drawn None password)))
 
 agrees_create : (known : Known) → AreTrue known → (S : State) (drawn : Drawn) (caller : Valid) (asked : Made) →
@@ -183,15 +203,15 @@ agrees_create : (known : Known) → AreTrue known → (S : State) (drawn : Drawn
 unfolding create
 agrees_create known true S drawn caller (made.Domain given name description enabled) = agrees_refl _
 agrees_create known true S drawn caller (made.Project given name domain parent description enabled) = agrees_refl _
-agrees_create known true S drawn caller (made.User given name domain password enabled) = agrees_create_user known true S drawn _ password
+agrees_create known true S drawn caller (made.User given name domain password enabled factors) = agrees_create_user known true S drawn _ password factors
 agrees_create known true S drawn caller (made.Group given name domain description) = agrees_refl _
 agrees_create known true S drawn caller (made.Role given name description) = agrees_refl _
 
 agrees_update_user : (known : Known) → AreTrue known → (S : State) (drawn : Drawn) (id : Id) (given : Option Id) (name : Option Text) (domain : Option Id)
-    (password : Option Text) (enabled : Option Bool) →
-    Agrees (update_user known S drawn id given name domain password enabled) (update_user everything S drawn id given name domain password enabled)
+    (password : Option Text) (enabled : Option Bool) (factors : Option MfaIn) →
+    Agrees (update_user known S drawn id given name domain password enabled factors) (update_user everything S drawn id given name domain password enabled factors)
 unfolding update_user
-agrees_update_user known true S drawn id given name domain password enabled =
+agrees_update_user known true S drawn id given name domain password enabled factors =
     agrees_on (standing_user S.rows id) _ _ (λ old. agrees_on (unchanged (codes "id") given id) _ _ (λ same_id.
     agrees_on (unchanged (codes "domain_id") domain old.domain) _ _ (λ same_domain.
     agrees_on (unless_row (set_user_fault (people S.rows) (record old { name = unwrap_or name old.name; enabled = unwrap_or enabled old.enabled }))) _ _ (λ free.
@@ -202,9 +222,21 @@ agrees_update : (known : Known) → AreTrue known → (S : State) (drawn : Drawn
 unfolding update
 agrees_update known true S drawn id (made.Domain given name description enabled) = agrees_refl _
 agrees_update known true S drawn id (made.Project given name domain parent description enabled) = agrees_refl _
-agrees_update known true S drawn id (made.User given name domain password enabled) = agrees_update_user known true S drawn id given name domain password enabled
+agrees_update known true S drawn id (made.User given name domain password enabled factors) = agrees_update_user known true S drawn id given name domain password enabled factors
 agrees_update known true S drawn id (made.Group given name domain description) = agrees_refl _
 agrees_update known true S drawn id (made.Role given name description) = agrees_refl _
+
+agrees_create_app_cred : (known : Known) → AreTrue known → (S : State) (moment : ℕ) (drawn : Drawn) (caller : Valid) (user : Id) (asked : AppCredBody) →
+    Agrees (create_app_cred known S moment drawn caller user asked) (create_app_cred everything S moment drawn caller user asked)
+unfolding create_app_cred
+agrees_create_app_cred known true S moment drawn caller user asked =
+    agrees_on (unrestricted S.rows caller) _ _ (λ free. agrees_on (standing_user S.rows user) _ _ (λ stands.
+    agrees_on (found (own_project caller.payload) (cause.ScopeRefused scope_why.Absent)) _ _ (λ project.
+    agrees_on (roles_given S.rows caller asked.roles) _ _ (λ given. agrees_on (needs (nat_lt 0 (length (in_order given))) trust_fault.NoRoles) _ _ (λ some.
+    agrees_on (each (role_held S.rows user project) (in_order given)) _ _ (λ held.
+    agrees_on (needs (not (is_expired asked.expires moment)) trust_fault.Expired) _ _ (λ serves.
+    agrees_on (unless_row (cred_name_taken S.rows.app_creds (new_cred (made_id drawn) user project asked (in_order given) underived))) _ _ (λ unnamed.
+    agrees_then _ _ _ (agrees_derived known true S drawn _)))))))))
 
 agrees_as_caller : (known : Known) → AreTrue known → (S : State) (moment : ℕ) (call : Call) (own all : Valid → Attempt Cause Outcome) →
     ((caller : Valid) → Agrees (own caller) (all caller)) → Agrees (as_caller known S moment call own) (as_caller everything S moment call all)
@@ -268,6 +300,15 @@ agrees_answered known true S moment call (command.GetCatalog of id) = agrees_own
 agrees_answered known true S moment call (command.UpdateCatalog id body) = agrees_own known true S moment call _
 agrees_answered known true S moment call (command.DeleteCatalog of id) = agrees_own known true S moment call _
 agrees_answered known true S moment call command.ShowCatalog = agrees_own known true S moment call _
+agrees_answered known true S moment call (command.CreateAppCred user body) =
+    agrees_as_caller known true S moment call _ _ (λ caller. agrees_create_app_cred known true S moment call.draw caller user body)
+agrees_answered known true S moment call (command.ListAppCreds user) = agrees_own known true S moment call _
+agrees_answered known true S moment call (command.GetAppCred user id) = agrees_own known true S moment call _
+agrees_answered known true S moment call (command.DeleteAppCred user id) = agrees_own known true S moment call _
+agrees_answered known true S moment call (command.CreateSecret body) = agrees_own known true S moment call _
+agrees_answered known true S moment call command.ListSecrets = agrees_own known true S moment call _
+agrees_answered known true S moment call (command.GetSecret id) = agrees_own known true S moment call _
+agrees_answered known true S moment call (command.DeleteSecret id) = agrees_own known true S moment call _
 
 agrees_checked : (known : Known) → AreTrue known → (S : State) (moment : ℕ) (call : Call) →
     Agrees (checked known S moment call) (checked everything S moment call)

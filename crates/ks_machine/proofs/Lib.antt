@@ -11,4 +11,5 @@ pub mod AllFacts
 pub mod TokenLemmas
 pub mod EndedLemmas
 pub mod RefusedLemmas
+pub mod RestrictedLemmas
 pub mod OpenedLemmas

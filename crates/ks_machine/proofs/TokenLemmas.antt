@@ -1,16 +1,19 @@
 -- What holds of valid tokens.
-use Rattle.std.proofs.Common.{◌≡◌, ℕ, Bool, true, false, List, [], ◌∷◌, Option, Some, None, inl, inr, ◌++◌, refl, sym, ap, subst, ◌∙◌}
+use Rattle.std.proofs.Common.{◌≡◌, ℕ, Bool, true, false, ◌&&◌, List, [], ◌∷◌, Option, Some, None, inl, inr, ◌++◌, refl, sym, ap, subst, ◌∙◌}
 use Rattle.std.specs.Prelude.{not}
 use Rattle.std.specs.List.{list_all, list_any}
 use Rattle.std.specs.Option.{option_and_then, option_map_or}
 use Rattle.std.proofs.lemmas.Bool.{and_parts}
+use Rattle.std.proofs.lemmas.Slice.Eq.{bytes_eq-Decides}
+use Rattle.ks_base.specs.declared.app_creds.AppCredRow.{AppCredRow}
 use Rattle.ks_base.specs.declared.grants.Target.TheVariants as target
 use Rattle.ks_base.specs.declared.trusts.TrustRow.{TrustRow}
+use Rattle.ks_base.specs.AppCreds.{cred_of}
 use Rattle.ks_base.specs.Revocation.{is_revoked}
 use Rattle.ks_base.specs.Roles.{Effective, IsImplied, Walks}
-use Rattle.ks_base.specs.Rows.{Id, Text, Rows, trust_of}
+use Rattle.ks_base.specs.Rows.{Id, Text, Rows, same, trust_of}
 use Rattle.ks_base.specs.Tables.{Among}
-use Rattle.ks_base.specs.Trusts.{first_trustor}
+use Rattle.ks_base.specs.Trusts.{first_trustor, is_expired}
 use Rattle.ks_base.proofs.RowLemmas.{among_filter}
 use Rattle.ks_base.proofs.WalkLemmas.{walk_then}
 use Rattle.ks_base.proofs.AmongLemmas.{any-Decides}
@@ -20,7 +23,7 @@ use Rattle.ks_machine.specs.Attempts.{Attempt, Go, Stop, Lacks, ◌>>=◌, Known
 use Rattle.ks_machine.specs.Effective.{closure, in_order, leads, roles_implied}
 use Rattle.ks_machine.specs.States.{State, is_user_on}
 use Rattle.ks_machine.specs.TokenLines.{token_lines}
-use Rattle.ks_machine.specs.Validity.{Valid, are_kept, has_roles, held_lines, holder, is_kept, is_scope_on, is_trust_line, opens, roles_of, validity}
+use Rattle.ks_machine.specs.Validity.{Valid, are_had, are_kept, has_cred_roles, has_roles, held_lines, holder, is_cred_line, is_cred_on, is_had, is_kept, is_scope_on, is_trust_line, opens, roles_of, validity}
 use Rattle.ks_machine.proofs.RoleLemmas.{effective-Decides, leads-Decides}
 use Rattle.ks_payload.specs.declared.payload.Payload.{Payload}
 
@@ -40,6 +43,7 @@ pub record Holds (S : State) (moment : ℕ) (token : Valid) : Type 0 where
   pub user : is_user_on S.rows token.payload.user ≡ true
   pub scope : is_scope_on S.rows token.payload ≡ true
   pub trust : is_trust_line S.rows moment token.payload ≡ true
+  pub credential : is_cred_line S.rows moment token.payload ≡ true
   pub has_roles_of : has_roles S.rows token.payload ≡ true
   pub roles : token.roles ≡ roles_of S.rows token.payload
 
@@ -53,9 +57,18 @@ of_lines S moment held token goes =
     let user = goes_need (is_user_on S.rows held.payload.user) why.User _ token revoked.1 in
     let scope = goes_need (is_scope_on S.rows held.payload) why.Scope _ token user.1 in
     let trust = goes_need (is_trust_line S.rows moment held.payload) why.Trust _ token scope.1 in
-    let roles = goes_need (has_roles S.rows held.payload) why.Roles _ token trust.1 in
+    let credential = goes_need (is_cred_line S.rows moment held.payload) why.Credential _ token trust.1 in
+    let roles = goes_need (has_roles S.rows held.payload) why.Roles _ token credential.1 in
     let is : record { payload = held.payload; issued = held.issued; roles = roles_of S.rows held.payload } ≡ token = cc in
-    subst (Holds S moment) is (record { revoked = revoked.0; user = user.0; scope = scope.0; trust = trust.0; has_roles_of = roles.0; roles = refl })
+    subst (Holds S moment) is (record {
+      revoked = revoked.0;
+      user = user.0;
+      scope = scope.0;
+      trust = trust.0;
+      credential = credential.0;
+      has_roles_of = roles.0;
+      roles = refl;
+    })
 
 pub valid_holds : (known : Known) (S : State) (moment : ℕ) (late : Bool) (text : Text) (token : Valid) →
     validity known S moment late text ≡ Go token → Holds S moment token
@@ -94,6 +107,10 @@ kept_by_trust rows payload id trust named stands kept =
     let P : Option TrustRow → Type 0 = λ found. option_map_or (λ row. list_all (is_kept rows row) row.roles) found true ≡ true in
     subst P (ap (option_and_then (λ id. trust_of id rows.trusts)) named ∙ stands) kept
 
+-- the roles that a trust or a credential lists
+listed_roles : (rows : Rows) (payload : Payload) → has_roles rows payload ≡ true → (are_kept rows payload ≡ true) × (are_had rows payload ≡ true)
+listed_roles rows payload has = and_parts (are_kept rows payload) (are_had rows payload) (and_parts _ (are_kept rows payload && are_had rows payload) has).1
+
 -- what a role implies is effective where it is
 effective_on : (rows : Rows) (user : Id) (project prior role : Id) → Effective rows user (target.Project project) prior → Walks rows.implications prior role →
     Effective rows user (target.Project project) role
@@ -116,7 +133,7 @@ pub trust_bound : (known : Known) (S : State) (moment : ℕ) (late : Bool) (text
     Effective S.rows (first_trustor S.rows.trusts trust) (target.Project trust.project) role
 trust_bound known S moment late text token id trust role goes named stands among =
     let holds = valid_holds known S moment late text token goes in
-    let kept = kept_by_trust S.rows token.payload id trust named stands (and_parts _ (are_kept S.rows token.payload) holds.has_roles_of).1 in
+    let kept = kept_by_trust S.rows token.payload id trust named stands (listed_roles S.rows token.payload holds.has_roles_of).0 in
     let roles = holds.roles ∙ roles_by_trust S.rows token.payload id trust named stands in
     of_implied kept (implied_by S.rows trust.roles role (subst (λ (roles : List Id). Among roles role) roles among))
   where
@@ -126,3 +143,55 @@ trust_bound known S moment late text token id trust role goes named stands among
         effective_on S.rows (first_trustor S.rows.trusts trust) trust.project prior role
         ((effective-Decides S.rows (first_trustor S.rows.trusts trust) (target.Project trust.project) prior).0 (all_among (is_kept S.rows trust) trust.roles prior kept given))
         walks
+
+-- the credential of a token
+
+tested : {X : Type 0} (o : Option X) (test : X → Bool) → option_map_or test o false ≡ true → (x : X) × (o ≡ Some x) × (test x ≡ true)
+tested None test is = cc
+tested (Some x) test is = (x, refl, is)
+
+cred_is_its_users : (moment : ℕ) (payload : Payload) (cred : AppCredRow) → is_cred_on moment payload cred ≡ true → cred.user ≡ payload.user
+unfolding is_cred_on
+cred_is_its_users moment payload cred is =
+    (bytes_eq-Decides cred.user payload.user).0
+    (and_parts (same cred.user payload.user) (option_map_or (same cred.project) payload.project false)
+    (and_parts (not (is_expired cred.expires moment)) (same cred.user payload.user && option_map_or (same cred.project) payload.project false) is).1).0
+
+roles_by_cred : (rows : Rows) (payload : Payload) (id : Id) (cred : AppCredRow) → payload.trust ≡ None → payload.credential ≡ Some id →
+    cred_of id rows.app_creds ≡ Some cred → roles_of rows payload ≡ closure rows cred.roles
+unfolding roles_of
+roles_by_cred rows payload id cred none named stands = rw (none, named, stands) refl
+
+pub had_by_cred : (rows : Rows) (payload : Payload) (id : Id) (cred : AppCredRow) → payload.credential ≡ Some id → cred_of id rows.app_creds ≡ Some cred →
+    are_had rows payload ≡ true → list_all (is_had rows cred) cred.roles ≡ true
+had_by_cred rows payload id cred named stands had =
+    let P : Option AppCredRow → Type 0 = λ found. option_map_or (has_cred_roles rows) found true ≡ true in
+    subst P (ap (option_and_then (λ id. cred_of id rows.app_creds)) named ∙ stands) had
+
+pub implied_is_had : (rows : Rows) (cred : AppCredRow) (role : Id) → list_all (is_had rows cred) cred.roles ≡ true → IsImplied rows.implications cred.roles role →
+    Effective rows cred.user (target.Project cred.project) role
+implied_is_had rows cred role had (prior, given, walks) =
+    effective_on rows cred.user cred.project prior role
+    ((effective-Decides rows cred.user (target.Project cred.project) prior).0 (all_among (is_had rows cred) cred.roles prior had given)) walks
+
+pub cred_bound : (known : Known) (S : State) (moment : ℕ) (late : Bool) (text : Text) (token : Valid) (id : Id) (role : Id) →
+    validity known S moment late text ≡ Go token → token.payload.trust ≡ None → token.payload.credential ≡ Some id → Among token.roles role →
+    (cred : AppCredRow) × (cred_of id S.rows.app_creds ≡ Some cred) × (cred.user ≡ token.payload.user) × Effective S.rows cred.user (target.Project cred.project) role
+cred_bound known S moment late text token id role goes none named among =
+    let P : Option Id → Type 0 =
+    λ credential. option_map_or (λ id. option_map_or (is_cred_on moment token.payload) (cred_of id S.rows.app_creds) false) credential true ≡ true in
+    by (tested (cred_of id S.rows.app_creds) (is_cred_on moment token.payload) (subst P named holds.credential))
+  where
+    holds : Holds S moment token
+    holds = valid_holds known S moment late text token goes
+
+    by : (cred : AppCredRow) × (cred_of id S.rows.app_creds ≡ Some cred) × (is_cred_on moment token.payload cred ≡ true) →
+        (cred : AppCredRow) × (cred_of id S.rows.app_creds ≡ Some cred) × (cred.user ≡ token.payload.user) × Effective S.rows cred.user (target.Project cred.project) role
+    by (cred, stands, is) =
+        let had = had_by_cred S.rows token.payload id cred named stands (listed_roles S.rows token.payload holds.has_roles_of).1 in
+        let roles = holds.roles ∙ roles_by_cred S.rows token.payload id cred none named stands in (
+          cred,
+          stands,
+          cred_is_its_users moment token.payload cred is,
+          implied_is_had S.rows cred role had (implied_by S.rows cred.roles role (subst (λ (roles : List Id). Among roles role) roles among)),
+        )

@@ -193,7 +193,7 @@ abbrev by_trust : Text → Id → ℕ → Call
 by_trust name trust later = record (call (command.Login (record { proof = proof.Password (user_named.Id name) name; scope = scope_in.Trust trust })) None) { reading = moment + later }
 
 abbrev bob_is : Bool → Call
-bob_is enabled = by (codes "ann") 1 (command.Update (codes "bobby") (made.User None None None None (Some enabled)))
+bob_is enabled = by (codes "ann") 1 (command.Update (codes "bobby") (made.User None None None None (Some enabled) None))
 
 abbrev bobs_role : Bool → Call
 bobs_role true = by (codes "ann") 1 (command.Grant (record { actor = actor.User (codes "bobby"); target = target.Project (codes "demo-id"); inherited = false; role = codes "r-member" }))

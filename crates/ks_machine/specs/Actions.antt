@@ -30,6 +30,8 @@ kind_word kind.Event = codes "event"
 kind_word kind.Region = codes "region"
 kind_word kind.Service = codes "service"
 kind_word kind.Endpoint = codes "endpoint"
+kind_word kind.AppCred = codes "appcred"
+kind_word kind.Secret = codes "secret"
 
 abbrev pub kind_words : Kind → Text
 kind_words kind = kind_word kind ++ codes "s"
@@ -76,7 +78,7 @@ open_to_all draws = record { action = None; draws = draws; loads = false; subjec
 
 -- a change of a user draws a salt, also without a password
 abbrev pub draws_for : Made → Bool
-draws_for (made.User given name domain password enabled) = true
+draws_for (made.User given name domain password enabled factors) = true
 draws_for (made.Domain given name description enabled) = false
 draws_for (made.Project given name domain parent description enabled) = false
 draws_for (made.Group given name domain description) = false
@@ -123,3 +125,11 @@ requirements (command.GetCatalog of id) = asks (codes "get_" ++ catalog_word of)
 requirements (command.UpdateCatalog id asked) = asks (codes "update_" ++ catalog_word asked.of)
 requirements (command.DeleteCatalog of id) = asks (codes "delete_" ++ catalog_word of)
 requirements command.ShowCatalog = open_to_all false
+requirements (command.CreateAppCred user body) = asks_and_draws (codes "create_application_credential")
+requirements (command.ListAppCreds user) = asks (codes "list_application_credentials")
+requirements (command.GetAppCred user id) = asks (codes "get_application_credential")
+requirements (command.DeleteAppCred user id) = asks (codes "delete_application_credential")
+requirements (command.CreateSecret body) = asks_and_draws (codes "create_credential")
+requirements command.ListSecrets = asks (codes "list_credentials")
+requirements (command.GetSecret id) = asks (codes "get_credential")
+requirements (command.DeleteSecret id) = asks (codes "delete_credential")

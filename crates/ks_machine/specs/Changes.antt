@@ -2,6 +2,7 @@
 use Rattle.std.specs.Prelude.{ℕ, ◌+◌, Bool, true, false, not, ◌&&◌, ◌||◌, ◌==◌, if◌then◌else◌, List, [], ◌∷◌, ◌++◌, Option, Some, None, filter, map}
 use Rattle.std.specs.List.{list_any}
 use Rattle.std.specs.Str.{bytes_eq}
+use Rattle.ks_base.specs.declared.app_creds.AppCredRow.{AppCredRow}
 use Rattle.ks_base.specs.declared.events.EventRow.{EventRow}
 use Rattle.ks_base.specs.declared.events.Revoke.{Revoke}
 use Rattle.ks_base.specs.declared.events.Revoke.TheVariants as revoke
@@ -16,7 +17,9 @@ use Rattle.ks_base.specs.declared.trusts.TrustRow.{TrustRow}
 use Rattle.ks_base.specs.declared.users.MemberRow.{MemberRow}
 use Rattle.ks_base.specs.declared.users.PasswordRow.{PasswordRow}
 use Rattle.ks_base.specs.declared.users.UserRow.{UserRow}
+use Rattle.ks_base.specs.AppCreds.{with_cred, without_cred, without_project as creds_without_project, without_role as creds_without_role, without_user as creds_without_user}
 use Rattle.ks_base.specs.Catalog.{with_endpoint, with_region, with_service, without_endpoint, without_region, without_service}
+use Rattle.ks_base.specs.Factors.{with_rules, with_secret, without_factors, without_secret}
 use Rattle.ks_base.specs.Grants.{is_at_target, is_of_actor, is_of_role, with_grant, without_grant}
 use Rattle.ks_base.specs.People.{is_group_in, is_user_in, with_group, with_member, with_user, without_group, without_member, without_user}
 use Rattle.ks_base.specs.RoleLists.{with_implication, with_role, without_implication, without_role}
@@ -28,7 +31,7 @@ use Rattle.ks_machine.specs.declared.change.Change.{Change}
 use Rattle.ks_machine.specs.declared.change.Change.TheVariants as change
 use Rattle.ks_ring.specs.Rings.{RingState, load_of, rotate_of}
 use Rattle.ks_machine.specs.States.{State}
-use Rattle.ks_machine.specs.Tables.{catalogs, people, put_catalogs, put_people, put_roles, put_trees, roles, trees}
+use Rattle.ks_machine.specs.Tables.{catalogs, factors, people, put_catalogs, put_factors, put_people, put_roles, put_trees, roles, trees}
 
 -- rows of a domain
 
@@ -85,6 +88,11 @@ touches rows (change.PutEndpoint row) = no_trust
 touches rows (change.DropRegion id) = no_trust
 touches rows (change.DropService id) = no_trust
 touches rows (change.DropEndpoint id) = no_trust
+touches rows (change.PutAppCred row) = no_trust
+touches rows (change.DropAppCred id) = no_trust
+touches rows (change.PutSecret row) = no_trust
+touches rows (change.DropSecret id) = no_trust
+touches rows (change.PutUserWith row rules) = no_trust
 
 -- the trusts that a change leaves
 abbrev pub trusts_after : Rows → Change → List TrustRow
@@ -110,7 +118,11 @@ is_grant_left rows domain row =
     not (is_actor_gone (is_domain_user rows domain) (is_domain_group rows domain) row.actor)
     && not (is_target_gone (is_domain_project rows domain) domain row.target)
 
--- a domain goes with its projects, users and groups, their memberships, grants and trusts
+-- credentials of users or on projects that go
+abbrev pub is_cred_left : Rows → Id → AppCredRow → Bool
+is_cred_left rows domain row = not (is_domain_user rows domain row.user) && not (is_domain_project rows domain row.project)
+
+-- a domain goes with its projects, users and groups, their memberships, grants, trusts, credentials and factors
 unfoldable pub domain_dropped : Rows → Id → Rows
 domain_dropped rows id = record (put_trees (without_domain id (trees rows)) rows) {
   users = filter (λ row. not (is_user_in id row)) rows.users;
@@ -118,18 +130,23 @@ domain_dropped rows id = record (put_trees (without_domain id (trees rows)) rows
   members = filter (is_left (is_domain_user rows id) (is_domain_group rows id)) rows.members;
   grants = filter (is_grant_left rows id) rows.grants;
   trusts = trusts_after rows (change.DropDomain id);
+  app_creds = filter (is_cred_left rows id) rows.app_creds;
+  secrets = filter (λ row. not (is_domain_user rows id row.user)) rows.secrets;
+  factor_rules = filter (λ row. not (is_domain_user rows id row.user)) rows.factor_rules;
 }
 
 unfoldable pub project_dropped : Rows → Id → Rows
 project_dropped rows id = record (put_trees (without_project id (trees rows)) rows) {
   grants = filter (λ row. not (is_at_target (target.Project id) row)) rows.grants;
   trusts = trusts_after rows (change.DropProject id);
+  app_creds = creds_without_project id rows.app_creds;
 }
 
 unfoldable pub user_dropped : Rows → Id → Rows
-user_dropped rows id = record (put_people (without_user id (people rows)) rows) {
+user_dropped rows id = record (put_factors (without_factors id (factors rows)) (put_people (without_user id (people rows)) rows)) {
   grants = filter (λ row. not (is_of_actor (actor.User id) row)) rows.grants;
   trusts = trusts_after rows (change.DropUser id);
+  app_creds = creds_without_user id rows.app_creds;
 }
 
 unfoldable pub group_dropped : Rows → Id → Rows
@@ -141,6 +158,7 @@ unfoldable pub role_dropped : Rows → Id → Rows
 role_dropped rows id = record (put_roles (without_role id (roles rows)) rows) {
   grants = filter (λ row. not (is_of_role id row)) rows.grants;
   trusts = trusts_after rows (change.DropRole id);
+  app_creds = creds_without_role id rows.app_creds;
 }
 
 unfoldable pub rows_after : Rows → Change → Rows
@@ -172,6 +190,11 @@ rows_after rows (change.PutEndpoint row) = put_catalogs (with_endpoint row (cata
 rows_after rows (change.DropRegion id) = put_catalogs (without_region id (catalogs rows)) rows
 rows_after rows (change.DropService id) = put_catalogs (without_service id (catalogs rows)) rows
 rows_after rows (change.DropEndpoint id) = put_catalogs (without_endpoint id (catalogs rows)) rows
+rows_after rows (change.PutAppCred row) = record rows { app_creds = with_cred row rows.app_creds }
+rows_after rows (change.DropAppCred id) = record rows { app_creds = without_cred id rows.app_creds }
+rows_after rows (change.PutSecret row) = put_factors (with_secret row (factors rows)) rows
+rows_after rows (change.DropSecret id) = put_factors (without_secret id (factors rows)) rows
+rows_after rows (change.PutUserWith row rules) = put_factors (with_rules rules (factors rows)) (put_people (with_user row (people rows)) rows)
 
 -- the ring
 
@@ -204,6 +227,11 @@ ring_after S (change.PutEndpoint row) = S.ring
 ring_after S (change.DropRegion id) = S.ring
 ring_after S (change.DropService id) = S.ring
 ring_after S (change.DropEndpoint id) = S.ring
+ring_after S (change.PutAppCred row) = S.ring
+ring_after S (change.DropAppCred id) = S.ring
+ring_after S (change.PutSecret row) = S.ring
+ring_after S (change.DropSecret id) = S.ring
+ring_after S (change.PutUserWith row rules) = S.ring
 
 -- revocations
 
@@ -243,6 +271,7 @@ unfoldable pub ended_by : Rows → Change → List Revoke
 ended_by rows (change.PutDomain row) = domain_ended (domain_of row.id rows.domains) row
 ended_by rows (change.PutProject row) = project_ended (project_of row.id rows.projects) row
 ended_by rows (change.PutUser row) = user_ended (user_of row.id rows.users) row
+ended_by rows (change.PutUserWith row rules) = user_ended (user_of row.id rows.users) row
 ended_by rows (change.DropDomain id) = domain_gone rows id ++ trusts_ended rows (change.DropDomain id)
 ended_by rows (change.DropProject id) = revoke.Project id ∷ trusts_ended rows (change.DropProject id)
 ended_by rows (change.DropUser id) = revoke.User id ∷ trusts_ended rows (change.DropUser id)
@@ -268,6 +297,10 @@ ended_by rows (change.PutEndpoint row) = []
 ended_by rows (change.DropRegion id) = []
 ended_by rows (change.DropService id) = []
 ended_by rows (change.DropEndpoint id) = []
+ended_by rows (change.PutAppCred row) = []
+ended_by rows (change.DropAppCred id) = []
+ended_by rows (change.PutSecret row) = []
+ended_by rows (change.DropSecret id) = []
 
 abbrev pub events_at : ℕ → List Revoke → List EventRow
 events_at moment things = map (λ thing. record { what = thing; moment = moment }) things

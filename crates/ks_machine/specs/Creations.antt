@@ -1,5 +1,5 @@
 -- New domains, projects, users, groups and roles (Identity API v3): each by the rules of its table.
-use Rattle.std.specs.Prelude.{Bool, true, [], Option, None, option_map, unwrap_or}
+use Rattle.std.specs.Prelude.{Bool, true, [], Option, Some, None, option_map, unwrap_or}
 use Rattle.std.specs.Option.{option_and_then, option_or}
 use Rattle.ks_base.specs.declared.receipt.Drawn.{Drawn}
 use Rattle.ks_base.specs.declared.rows.DomainRow.{DomainRow}
@@ -9,10 +9,12 @@ use Rattle.ks_base.specs.declared.rows.GroupRow.{GroupRow}
 use Rattle.ks_base.specs.declared.users.UserRow.{UserRow}
 use Rattle.ks_base.specs.Rows.{Id, Text, Rows, project_of, user_of}
 use Rattle.ks_machine.specs.declared.bodies.Made.{Made}
+use Rattle.ks_machine.specs.declared.bodies.MfaIn.{MfaIn}
 use Rattle.ks_machine.specs.declared.bodies.Made.TheVariants as made
 use Rattle.ks_machine.specs.declared.body_out.BodyOut.TheVariants as body
 use Rattle.ks_machine.specs.declared.body_out.Row.TheVariants as row
 use Rattle.ks_machine.specs.declared.cause.Cause.{Cause}
+use Rattle.ks_machine.specs.declared.change.Change.{Change}
 use Rattle.ks_machine.specs.declared.change.Change.TheVariants as change
 use Rattle.ks_base.specs.PeopleFaults.{add_group_fault, add_user_fault, user_name_taken}
 use Rattle.ks_base.specs.RoleFaults.{add_fault}
@@ -48,14 +50,19 @@ create_project rows new = do
   _ ← unless_tree (add_project_fault (trees rows) new)
   Go (changes (change.PutProject new) (body.One (row.Project new) true))
 
+-- what a body says of the methods that a user has to log in by is the whole of it
+abbrev pub put_user : UserRow → Option MfaIn → Change
+put_user row None = change.PutUser row
+put_user row (Some said) = change.PutUserWith row (record { user = row.id; enabled = said.enabled; rules = said.rules })
+
 -- a user, whose password is still to be derived: the fact of it is asked for before room is tested
-unfoldable pub create_user : Known → State → Drawn → UserRow → Option Text → Attempt Cause Outcome
-create_user known S drawn new password = do
+unfoldable pub create_user : Known → State → Drawn → UserRow → Option Text → Option MfaIn → Attempt Cause Outcome
+create_user known S drawn new password factors = do
   _ ← standing_domain S.rows new.domain
   _ ← unless_row (user_name_taken (people S.rows) new)
   kept ← derived_or known S drawn None password
   _ ← unless_row (add_user_fault (people S.rows) new)
-  Go (changes (change.PutUser (record new { password = kept })) (body.One (row.User (record new { password = kept })) true))
+  Go (changes (put_user (record new { password = kept }) factors) (body.One (row.User (record new { password = kept })) true))
 
 unfoldable pub create_group : Rows → GroupRow → Attempt Cause Outcome
 create_group rows new = do
@@ -81,14 +88,14 @@ create known S drawn caller (made.Project given name domain parent description e
       description = text_or_empty description;
       enabled = unwrap_or enabled true;
     })
-create known S drawn caller (made.User given name domain password enabled) =
+create known S drawn caller (made.User given name domain password enabled factors) =
     create_user known S drawn (record {
       id = made_id drawn;
       domain = domain_for S.rows caller domain None;
       name = text_or_empty name;
       enabled = unwrap_or enabled true;
       password = None;
-    }) password
+    }) password factors
 create known S drawn caller (made.Group given name domain description) =
     create_group S.rows (record {
       id = made_id drawn;

@@ -13,6 +13,9 @@ use Rattle.ks_base.specs.declared.kinds.Kind.TheVariants as kind
 use Rattle.ks_base.specs.declared.limits.TheConstants.{TRUST_ROLES}
 use Rattle.ks_base.specs.declared.receipt.Drawn.{Drawn}
 use Rattle.ks_base.specs.declared.receipt.Drawn.TheVariants.{Unused, Bytes, Failed}
+use Rattle.ks_machine.specs.declared.bodies.AppCredBody.{AppCredBody}
+use Rattle.ks_machine.specs.declared.bodies.CredNamed.{CredNamed}
+use Rattle.ks_machine.specs.declared.bodies.CredNamed.TheVariants as cred_named
 use Rattle.ks_machine.specs.declared.bodies.Made.{Made}
 use Rattle.ks_machine.specs.declared.bodies.Made.TheVariants as made
 use Rattle.ks_machine.specs.declared.bodies.Named.{Named}
@@ -32,7 +35,7 @@ use Rattle.ks_machine.specs.declared.call.FolderRead.TheVariants as folder
 use Rattle.ks_machine.specs.declared.command.Command.{Command}
 use Rattle.ks_machine.specs.declared.command.Command.TheVariants as command
 use Rattle.ks_machine.specs.Actions.{requirements}
-use Rattle.ks_machine.specs.Ranges.{AreUses, IsDescription, IsEndpointUrl, IsExpiry, IsName, IsPassable, IsPassword, IsServiceText}
+use Rattle.ks_machine.specs.Ranges.{AreMfaRules, AreUses, IsCode, IsCredSecret, IsDescription, IsEndpointUrl, IsExpiry, IsName, IsPassable, IsPassword, IsServiceText, IsTotpSecret}
 use Rattle.ks_ring.specs.Rings.{refusal_of}
 
 -- a command that draws has 64 bytes, or its draw failed
@@ -75,9 +78,16 @@ abbrev pub IsProjectNamed : ProjectNamed → Type 0
 IsProjectNamed (project_named.Id id) = Unit {0}
 IsProjectNamed (project_named.Name name domain) = IsName name × IsNamed domain
 
+abbrev pub IsCredNamed : CredNamed → Type 0
+IsCredNamed (cred_named.Id id) = Unit {0}
+IsCredNamed (cred_named.Name name user) = IsName name × IsUserNamed user
+
 abbrev pub IsProof : Proof → Type 0
 IsProof (proof.Password user password) = IsUserNamed user × IsPassword password
 IsProof (proof.Token text) = Unit {0}
+IsProof (proof.AppCred named secret) = IsCredNamed named × IsCredSecret secret
+IsProof (proof.Totp user code) = IsUserNamed user × IsCode code
+IsProof (proof.Both user password coded code) = IsUserNamed user × IsPassword password × IsUserNamed coded × IsCode code
 
 abbrev pub IsScope : ScopeIn → Type 0
 IsScope scope_in.Nothing = Unit {0}
@@ -102,6 +112,8 @@ IsOwnKind kind.Event = ⊥
 IsOwnKind kind.Region = ⊥
 IsOwnKind kind.Service = ⊥
 IsOwnKind kind.Endpoint = ⊥
+IsOwnKind kind.AppCred = ⊥
+IsOwnKind kind.Secret = ⊥
 
 -- no grant on the system is inherited
 abbrev pub IsPlace : Target → Bool → Type 0
@@ -121,7 +133,8 @@ IsMadeName false id name = IfSome name IsName
 abbrev pub IsMade : Bool → Made → Type 0
 IsMade new (made.Domain id name description enabled) = IsMadeName new id name × IfSome description IsDescription
 IsMade new (made.Project id name domain parent description enabled) = IsMadeName new id name × IfSome description IsDescription
-IsMade new (made.User id name domain password enabled) = IsMadeName new id name × IfSome password IsPassword
+IsMade new (made.User id name domain password enabled factors) =
+    IsMadeName new id name × IfSome password IsPassword × IfSome factors (λ said. AreMfaRules said.rules)
 IsMade new (made.Group id name domain description) = IsMadeName new id name × IfSome description IsDescription
 IsMade new (made.Role id name description) = IsMadeName new id name × IfSome description IsDescription
 
@@ -129,6 +142,11 @@ abbrev pub IsTrustBody : TrustBody → Type 0
 IsTrustBody body =
     AllByRecursion IsNamed body.roles × (length body.roles ≤ TRUST_ROLES) × IfSome body.expires IsExpiry × IfSome body.remaining AreUses
     × IsPassable body.redelegate body.remaining
+
+abbrev pub IsAppCredBody : AppCredBody → Type 0
+IsAppCredBody body =
+    IsName body.name × IfSome body.secret IsCredSecret × IsDescription body.description × IfSome body.expires IsExpiry
+    × IfSome body.roles (λ roles. AllByRecursion IsNamed roles × (length roles ≤ TRUST_ROLES))
 
 -- what a row can't do without is there in a body of a creation
 abbrev pub IsGiven : {X : Type 0} → Bool → Option X → Type 0
@@ -193,6 +211,14 @@ AreFields (command.GetCatalog kind id) = Unit {0}
 AreFields (command.UpdateCatalog id asked) = IsCatalogBody false asked.of asked
 AreFields (command.DeleteCatalog kind id) = Unit {0}
 AreFields command.ShowCatalog = Unit {0}
+AreFields (command.CreateAppCred user body) = IsAppCredBody body
+AreFields (command.ListAppCreds user) = Unit {0}
+AreFields (command.GetAppCred user id) = Unit {0}
+AreFields (command.DeleteAppCred user id) = Unit {0}
+AreFields (command.CreateSecret body) = IsTotpSecret body.secret
+AreFields command.ListSecrets = Unit {0}
+AreFields (command.GetSecret id) = Unit {0}
+AreFields (command.DeleteSecret id) = Unit {0}
 
 pub record Fit (call : Call) : Type 0 where
   pub draw : IsDrawFor (requirements call.command).draws call.draw

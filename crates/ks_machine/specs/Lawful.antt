@@ -1,6 +1,7 @@
 -- Which fronts can be reached: the opening is accepted, moments never fall, and each change meets what its tables and the ring ask.
 use Rattle.std.specs.Prelude.{◌≡◌, ℕ, ◌<◌, ◌≤◌, ◌^◌, ◌-◌, true, false, List, [], ◌∷◌, length, Option, Some, None, is_some}
 use Rattle.std.specs.List.{AllByRecursion}
+use Rattle.ks_base.specs.declared.app_creds.AppCredRow.{AppCredRow}
 use Rattle.ks_base.specs.declared.grants.Actor.{Actor}
 use Rattle.ks_base.specs.declared.grants.Actor.TheVariants as actor
 use Rattle.ks_base.specs.declared.grants.GrantRow.{GrantRow}
@@ -9,14 +10,17 @@ use Rattle.ks_base.specs.declared.grants.Target.TheVariants as target
 use Rattle.ks_base.specs.declared.kinds.Kind.TheVariants as kind
 use Rattle.ks_base.specs.declared.limits.TheConstants.{LAST_KEY_INDEX}
 use Rattle.ks_base.specs.declared.trusts.TrustRow.{TrustRow}
+use Rattle.ks_base.specs.declared.users.UserRow.{UserRow}
 use Rattle.ks_base.specs.Limits.{limit}
 use Rattle.ks_base.specs.Rows.{Rows, domain_of, group_of, project_of, role_of, trust_of, user_of}
 use Rattle.ks_base.specs.Trusts.{FollowsParent, creation_fault, use_fault}
 use Rattle.ks_machine.specs.declared.change.Change.{Change}
 use Rattle.ks_machine.specs.declared.change.Change.TheVariants as change
 use Rattle.ks_machine.specs.declared.change.Entry.{Entry}
+use Rattle.ks_base.specs.AppCreds.{add_cred_fault, drop_cred_fault}
 use Rattle.ks_base.specs.Catalog.{endpoint_of, region_of, service_of}
 use Rattle.ks_base.specs.CatalogFaults.{add_endpoint_fault, add_region_fault, add_service_fault, drop_endpoint_fault, drop_region_fault, drop_service_fault, set_endpoint_fault, set_region_fault, set_service_fault}
+use Rattle.ks_base.specs.Factors.{add_secret_fault, drop_secret_fault}
 use Rattle.ks_base.specs.Grants.{grant_fault, ungrant_fault}
 use Rattle.ks_base.specs.PeopleFaults.{add_group_fault, add_user_fault, drop_group_fault, drop_user_fault, join_group_fault, leave_group_fault, set_group_fault, set_user_fault}
 use Rattle.ks_ring.specs.Rings.{RingState, highest, refusal_of}
@@ -29,10 +33,10 @@ use Rattle.ks_machine.specs.Fronts.{Front}
 use Rattle.ks_machine.specs.Moment.{last_moment}
 use Rattle.ks_machine.specs.Opened.{open_fault, opened_state}
 use Rattle.ks_machine.specs.Openings.{PlainOpening}
-use Rattle.ks_machine.specs.Ranges.{IsDomainInRange, IsEndpointInRange, IsGroupInRange, IsProjectInRange, IsRegionInRange, IsRoleInRange, IsServiceInRange, IsSettings, IsTrustInRange, IsUserInRange}
+use Rattle.ks_machine.specs.Ranges.{AreMfaRules, IsAppCredInRange, IsDomainInRange, IsEndpointInRange, IsGroupInRange, IsProjectInRange, IsRegionInRange, IsRoleInRange, IsServiceInRange, IsSettings, IsTotpSecret, IsTrustInRange, IsUserInRange}
 use Rattle.ks_machine.specs.Room.{room_for}
 use Rattle.ks_machine.specs.States.{State}
-use Rattle.ks_machine.specs.Tables.{catalogs, people, roles, trees}
+use Rattle.ks_machine.specs.Tables.{catalogs, factors, people, roles, trees}
 use Rattle.ks_machine.specs.TrustCommands.{roles_to_give}
 
 -- rows that stand
@@ -57,6 +61,13 @@ abbrev pub IsPut : {R F : Type 0} → Option R → Option F → (R → Type 0) �
 IsPut None added keeps set = added ≡ None
 IsPut (Some standing) added keeps set = keeps standing × (set ≡ None)
 
+-- a user comes, or stands in the place of the one with its id
+abbrev pub IsUserPut : Rows → UserRow → Type 0
+IsUserPut rows row =
+    IsUserInRange row × IsStanding (domain_of row.domain rows.domains)
+    × IsPut (user_of row.id rows.users) (add_user_fault (people rows) row) (λ standing. row.domain ≡ standing.domain)
+    (set_user_fault (people rows) row)
+
 pub record IsTrustMade (rows : Rows) (moment : ℕ) (trust : TrustRow) : Type 0 where
   pub range : IsTrustInRange trust
   pub trustor : IsStanding (user_of trust.trustor rows.users)
@@ -65,6 +76,13 @@ pub record IsTrustMade (rows : Rows) (moment : ℕ) (trust : TrustRow) : Type 0 
   pub roles : AllByRecursion (λ role. IsStanding (role_of role rows.roles)) trust.roles
   pub parent : FollowsParent rows.trusts trust
   pub accepted : creation_fault rows.trusts (roles_to_give rows trust) moment trust ≡ None
+
+pub record IsAppCredMade (rows : Rows) (row : AppCredRow) : Type 0 where
+  pub range : IsAppCredInRange row
+  pub user : IsStanding (user_of row.user rows.users)
+  pub project : IsStanding (project_of row.project rows.projects)
+  pub roles : AllByRecursion (λ role. IsStanding (role_of role rows.roles)) row.roles
+  pub accepted : add_cred_fault rows.app_creds row ≡ None
 
 -- the ring takes new keys
 abbrev pub TakesKeys : RingState → Type 0
@@ -79,10 +97,7 @@ Fits S moment (change.PutProject row) =
     IsProjectInRange row
     × IsPut (project_of row.id S.rows.projects) (add_project_fault (trees S.rows) row)
     (λ standing. (row.domain ≡ standing.domain) × (row.parent ≡ standing.parent)) (set_project_fault (trees S.rows) row)
-Fits S moment (change.PutUser row) =
-    IsUserInRange row × IsStanding (domain_of row.domain S.rows.domains)
-    × IsPut (user_of row.id S.rows.users) (add_user_fault (people S.rows) row) (λ standing. row.domain ≡ standing.domain)
-    (set_user_fault (people S.rows) row)
+Fits S moment (change.PutUser row) = IsUserPut S.rows row
 Fits S moment (change.PutGroup row) =
     IsGroupInRange row × IsStanding (domain_of row.domain S.rows.domains)
     × IsPut (group_of row.id S.rows.groups) (add_group_fault (people S.rows) row) (λ standing. row.domain ≡ standing.domain)
@@ -124,6 +139,12 @@ Fits S moment (change.PutEndpoint row) =
 Fits S moment (change.DropRegion id) = drop_region_fault (catalogs S.rows) id ≡ None
 Fits S moment (change.DropService id) = drop_service_fault (catalogs S.rows) id ≡ None
 Fits S moment (change.DropEndpoint id) = drop_endpoint_fault (catalogs S.rows) id ≡ None
+Fits S moment (change.PutAppCred row) = IsAppCredMade S.rows row
+Fits S moment (change.DropAppCred id) = drop_cred_fault S.rows.app_creds id ≡ None
+Fits S moment (change.PutSecret row) =
+    IsTotpSecret row.secret × IsStanding (user_of row.user S.rows.users) × (add_secret_fault (factors S.rows) row ≡ None)
+Fits S moment (change.DropSecret id) = drop_secret_fault (factors S.rows) id ≡ None
+Fits S moment (change.PutUserWith row rules) = IsUserPut S.rows row × (rules.user ≡ row.id) × AreMfaRules rules.rules
 
 -- changes one after the other, from a state and behind a moment: each has its number, is not before the last, fits, and has room
 unfoldable pub AreLawful : State → ℕ → List Entry → ℕ → Type 0

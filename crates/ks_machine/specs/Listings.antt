@@ -26,7 +26,7 @@ use Rattle.ks_machine.specs.Actions.{kind_words}
 use Rattle.ks_machine.specs.Attempts.{Attempt, Go, Stop, ◌>>=◌}
 use Rattle.ks_machine.specs.Outcomes.{Outcome, changes, tells}
 use Rattle.ks_machine.specs.States.{State}
-use Rattle.ks_machine.specs.Tables.{catalogs, standing_domain, standing_endpoint, standing_group, standing_project, standing_region, standing_role, standing_service, standing_user, trees, unless_catalog, unless_tree}
+use Rattle.ks_machine.specs.Tables.{catalogs, standing_domain, standing_endpoint, standing_secret, standing_group, standing_project, standing_region, standing_role, standing_service, standing_user, trees, unless_catalog, unless_tree}
 
 -- a row of a kind
 
@@ -44,6 +44,8 @@ row_at rows kind.Event id = Stop (cause.Absent kind.Event id)
 row_at rows kind.Region id = standing_region rows id >>= (λ found. Go (row.Region found))
 row_at rows kind.Service id = standing_service rows id >>= (λ found. Go (row.Service found))
 row_at rows kind.Endpoint id = standing_endpoint rows id >>= (λ found. Go (row.Endpoint found))
+row_at rows kind.AppCred id = Stop (cause.Absent kind.AppCred id)
+row_at rows kind.Secret id = standing_secret rows id >>= (λ found. Go (row.Secret found))
 
 unfoldable pub get : Rows → Kind → Id → Attempt Cause Outcome
 get rows kind id = row_at rows kind id >>= (λ found. Go (tells (body.One found false)))
@@ -104,6 +106,8 @@ rows_listed rows kind.Event filters = []
 rows_listed rows kind.Region filters = map (λ found. row.Region found) (filter (is_region_listed filters) rows.regions)
 rows_listed rows kind.Service filters = map (λ found. row.Service found) (filter (is_service_listed filters) rows.services)
 rows_listed rows kind.Endpoint filters = map (λ found. row.Endpoint found) (filter (is_endpoint_listed filters) rows.endpoints)
+rows_listed rows kind.AppCred filters = []
+rows_listed rows kind.Secret filters = map (λ found. row.Secret found) rows.secrets
 
 abbrev pub path_of_kind : Kind → Text
 path_of_kind kind = codes "/v3/" ++ kind_words kind
@@ -134,3 +138,5 @@ delete rows kind.Region id =
     unless_catalog (drop_region_fault (catalogs rows) id) >>= (λ _. Go (changes (change.DropRegion id) body.Nothing))
 delete rows kind.Service id = standing_service rows id >>= (λ _. Go (changes (change.DropService id) body.Nothing))
 delete rows kind.Endpoint id = standing_endpoint rows id >>= (λ _. Go (changes (change.DropEndpoint id) body.Nothing))
+delete rows kind.AppCred id = Stop (cause.Absent kind.AppCred id)
+delete rows kind.Secret id = standing_secret rows id >>= (λ _. Go (changes (change.DropSecret id) body.Nothing))

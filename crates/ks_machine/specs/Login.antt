@@ -2,6 +2,7 @@
 use Rattle.std.specs.Prelude.{ℕ, ◌+◌, ◌/◌, ◌%◌, ◌==◌, Bool, true, false, not, if◌then◌else◌, nat_lt, List, [], ◌∷◌, length, Option, Some, None, is_some, option_map}
 use Rattle.std.specs.Option.{option_and_then, option_map_or}
 use Rattle.std.specs.Str.{bytes_eq}
+use Rattle.ks_base.specs.declared.app_creds.AppCredRow.{AppCredRow}
 use Rattle.ks_base.specs.declared.faults.TrustFault.TheVariants as trust_fault
 use Rattle.ks_base.specs.declared.grants.Target.{Target}
 use Rattle.ks_base.specs.declared.grants.Target.TheVariants as target
@@ -10,8 +11,8 @@ use Rattle.ks_base.specs.declared.rows.ProjectRow.{ProjectRow}
 use Rattle.ks_base.specs.declared.trusts.TrustRow.{TrustRow}
 use Rattle.ks_base.specs.declared.users.PasswordRow.{PasswordRow}
 use Rattle.ks_base.specs.declared.users.UserRow.{UserRow}
-use Rattle.ks_base.specs.Rows.{Id, Text, Rows, project_of, trust_of, user_of}
-use Rattle.ks_base.specs.Trusts.{first_trustor, use_fault}
+use Rattle.ks_base.specs.Rows.{Id, Text, Rows, same, project_of, trust_of, user_of}
+use Rattle.ks_base.specs.Trusts.{first_trustor, is_expired, use_fault}
 use Rattle.ks_catalog.specs.declared.offers.ServiceOut.{ServiceOut}
 use Rattle.ks_catalog.specs.ProjectCatalog.{catalog_of}
 use Rattle.ks_fernet.specs.Opening.{token_text}
@@ -34,10 +35,11 @@ use Rattle.ks_machine.specs.Attempts.{Attempt, Go, Stored, ◌>>=◌, Known, ask
 use Rattle.ks_machine.specs.Effective.{closure, roles_at}
 use Rattle.ks_machine.specs.Outcomes.{Outcome, id_bytes, iv}
 use Rattle.ks_ring.specs.declared.held_key.HeldKey.{HeldKey}
-use Rattle.ks_machine.specs.Scopes.{domain_in, homed_project, homed_user, project_in, titled_domain, titled_roles, user_in}
+use Rattle.ks_machine.specs.Scopes.{cred_in, domain_in, homed_project, homed_user, project_in, titled_domain, titled_roles, user_in}
 use Rattle.ks_machine.specs.States.{State, is_domain_on, is_project_on, is_user_on}
-use Rattle.ks_machine.specs.Tables.{catalogs}
-use Rattle.ks_machine.specs.Validity.{Valid, acts_as, is_kept, is_scoped, is_system, system_kind, validity}
+use Rattle.ks_machine.specs.Tables.{catalogs, factors}
+use Rattle.ks_totp.specs.Factors.{fits, met}
+use Rattle.ks_machine.specs.Validity.{Valid, acts_as, cred_kind, has_cred_roles, is_kept, is_scoped, is_system, system_kind, validity}
 
 -- who it is
 
@@ -57,12 +59,36 @@ by_password known rows named password = do
   _ ← need (is_user_on rows user.id) cause.Credentials
   Go user
 
--- who shows to be whom, and what a token of theirs takes over: its methods, its expiry and the audit id of its chain
+-- an application credential that stands, isn't expired, has this secret, and whose user is enabled in an enabled domain
+unfoldable pub by_secret : Known → Rows → ℕ → Option AppCredRow → Text → Attempt Cause AppCredRow
+by_secret known rows moment named secret = do
+  cred ← found named cause.Credentials
+  _ ← need (not (is_expired cred.expires moment)) cause.Credentials
+  is ← is_password known cred.secret secret
+  _ ← need is cause.Credentials
+  _ ← need (is_user_on rows cred.user) cause.Credentials
+  Go cred
+
+-- a user that stands, is enabled in an enabled domain, and has a secret whose code this is at the moment
+unfoldable pub by_code : Rows → ℕ → Option UserRow → ℕ → Attempt Cause UserRow
+by_code rows moment named code = do
+  user ← found named cause.Credentials
+  _ ← need (is_user_on rows user.id) cause.Credentials
+  _ ← need (fits (factors rows) user.id code moment) cause.Credentials
+  Go user
+
+-- the rules of the user ask for no more than these methods
+abbrev pub meets : Rows → Id → ℕ → Attempt Cause (Unit {0})
+meets rows user methods = need (met (factors rows) user methods) cause.Credentials
+
+-- who shows to be whom, and what a token of theirs takes over: its methods, its expiry, the audit id of its chain, and the
+-- application credential by which they log in
 pub record Shown : Type 0 where
   pub user : Id
   pub methods : ℕ
   pub expires : ℕ
   pub chain : Option (List ℕ)
+  pub credential : Option AppCredRow
 
 -- the bit of a method
 abbrev pub password_method : ℕ
@@ -70,6 +96,12 @@ password_method = 1
 
 abbrev pub token_method : ℕ
 token_method = 2
+
+abbrev pub totp_method : ℕ
+totp_method = 4
+
+abbrev pub cred_method : ℕ
+cred_method = 8
 
 abbrev pub with_token : ℕ → ℕ
 with_token methods = if (methods / token_method) % 2 == 1 then methods else methods + token_method
@@ -80,16 +112,35 @@ shown_by_token token = record {
   methods = with_token token.payload.methods;
   expires = token.payload.expires;
   chain = Some (option_map_or (λ chain. chain) token.payload.chain token.payload.audit);
+  credential = None;
 }
+
+-- a user that shows these methods, where its rules ask for no other
+unfoldable pub shown_by : State → ℕ → Id → ℕ → Attempt Cause Shown
+shown_by S moment user methods = do
+  _ ← meets S.rows user methods
+  Go (record { user = user; methods = methods; expires = moment + S.settings.life; chain = None; credential = None })
 
 unfoldable pub shown : Known → State → ℕ → Proof → Attempt Cause Shown
 shown known S moment (proof.Password user password) = do
   row ← by_password known S.rows (user_in S.rows user) password
-  Go (record { user = row.id; methods = password_method; expires = moment + S.settings.life; chain = None })
+  shown_by S moment row.id password_method
 shown known S moment (proof.Token text) = do
   token ← blame (λ _. cause.Credentials) (validity known S moment false text)
   _ ← need (not (is_some token.payload.trust)) cause.TrustToken
+  _ ← need (not (is_some token.payload.credential)) cause.TrustToken
   Go (shown_by_token token)
+shown known S moment (proof.AppCred named secret) = do
+  cred ← by_secret known S.rows moment (cred_in S.rows named) secret
+  Go (record { user = cred.user; methods = cred_method; expires = moment + S.settings.life; chain = None; credential = Some cred })
+shown known S moment (proof.Totp user code) = do
+  row ← by_code S.rows moment (user_in S.rows user) code
+  shown_by S moment row.id totp_method
+shown known S moment (proof.Both user password coded code) = do
+  row ← by_password known S.rows (user_in S.rows user) password
+  other ← by_code S.rows moment (user_in S.rows coded) code
+  _ ← need (same row.id other.id) cause.Credentials
+  shown_by S moment row.id (password_method + totp_method)
 
 -- its scope
 
@@ -100,6 +151,7 @@ pub record Scoped : Type 0 where
   pub domain : Option Id
   pub project : Option Id
   pub trust : Option TrustRow
+  pub credential : Option Id
   pub roles : List Id
 
 -- the roles that a user has at a target that stands
@@ -113,7 +165,7 @@ to_domain rows user named = do
   domain ← found named (cause.ScopeRefused scope_why.Absent)
   _ ← need (is_domain_on rows domain) (cause.ScopeRefused scope_why.Off)
   roles ← with_roles rows user (target.Domain domain)
-  Go (record { user = user; kind = 1; domain = Some domain; project = None; trust = None; roles = roles })
+  Go (record { user = user; kind = 1; domain = Some domain; project = None; trust = None; credential = None; roles = roles })
 
 -- a project that stands and is enabled
 unfoldable pub project_on : Rows → Option ProjectRow → Attempt Cause Id
@@ -126,13 +178,13 @@ unfoldable pub to_project : Rows → Id → Option ProjectRow → Attempt Cause 
 to_project rows user named = do
   project ← project_on rows named
   roles ← with_roles rows user (target.Project project)
-  Go (record { user = user; kind = 2; domain = None; project = Some project; trust = None; roles = roles })
+  Go (record { user = user; kind = 2; domain = None; project = Some project; trust = None; credential = None; roles = roles })
 
 -- the whole system always stands
 unfoldable pub to_system : Rows → Id → Attempt Cause Scoped
 to_system rows user = do
   roles ← with_roles rows user target.System
-  Go (record { user = user; kind = system_kind; domain = None; project = None; trust = None; roles = roles })
+  Go (record { user = user; kind = system_kind; domain = None; project = None; trust = None; credential = None; roles = roles })
 
 abbrev pub user_on : Rows → Id → Attempt Cause (Unit {0})
 user_on rows id = need (is_user_on rows id) (cause.Trust (trust_fault.UserOff id))
@@ -149,15 +201,35 @@ to_trust rows moment user id = do
   _ ← user_on rows (first_trustor rows.trusts trust)
   project ← project_on rows (project_of trust.project rows.projects)
   _ ← each (role_kept rows trust) trust.roles
-  Go (record { user = acts_as trust; kind = 3; domain = None; project = Some project; trust = Some trust; roles = closure rows trust.roles })
+  Go (record { user = acts_as trust; kind = 3; domain = None; project = Some project; trust = Some trust; credential = None; roles = closure rows trust.roles })
 
 unfoldable pub scoped : Rows → ℕ → Id → ScopeIn → Attempt Cause Scoped
-scoped rows moment user scope_in.Nothing = Go (record { user = user; kind = 0; domain = None; project = None; trust = None; roles = [] })
-scoped rows moment user scope_in.Unscoped = Go (record { user = user; kind = 0; domain = None; project = None; trust = None; roles = [] })
+scoped rows moment user scope_in.Nothing = Go (record { user = user; kind = 0; domain = None; project = None; trust = None; credential = None; roles = [] })
+scoped rows moment user scope_in.Unscoped = Go (record { user = user; kind = 0; domain = None; project = None; trust = None; credential = None; roles = [] })
 scoped rows moment user (scope_in.Domain domain) = to_domain rows user (option_map (λ row. row.id) (domain_in rows domain))
 scoped rows moment user (scope_in.Project project) = to_project rows user (project_in rows project)
 scoped rows moment user scope_in.System = to_system rows user
 scoped rows moment user (scope_in.Trust id) = to_trust rows moment user id
+
+-- a login by a credential asks for no scope: it has the credential's project, where its user has each role that it lists
+abbrev pub asks_nowhere : ScopeIn → Bool
+asks_nowhere scope_in.Nothing = true
+asks_nowhere scope_in.Unscoped = false
+asks_nowhere (scope_in.Domain domain) = false
+asks_nowhere (scope_in.Project project) = false
+asks_nowhere scope_in.System = false
+asks_nowhere (scope_in.Trust id) = false
+
+unfoldable pub to_cred : Rows → AppCredRow → ScopeIn → Attempt Cause Scoped
+to_cred rows cred asked = do
+  _ ← need (asks_nowhere asked) (cause.ScopeRefused scope_why.Absent)
+  project ← project_on rows (project_of cred.project rows.projects)
+  _ ← need (has_cred_roles rows cred) (cause.ScopeRefused scope_why.NoRoles)
+  Go (record { user = cred.user; kind = cred_kind; domain = None; project = Some project; trust = None; credential = Some cred.id; roles = closure rows cred.roles })
+
+unfoldable pub scoped_by : Rows → ℕ → Id → Option AppCredRow → ScopeIn → Attempt Cause Scoped
+scoped_by rows moment user None asked = scoped rows moment user asked
+scoped_by rows moment user (Some cred) asked = to_cred rows cred asked
 
 -- what is told of a token
 
@@ -207,7 +279,7 @@ new_payload shown scope audit = record {
   expires = shown.expires;
   audit = audit;
   chain = shown.chain;
-  credential = None;
+  credential = scope.credential;
 }
 
 -- a login by a trust whose uses are numbered takes one
@@ -227,5 +299,5 @@ token_given S moment drawn shown scope =
 unfoldable pub login : Known → State → ℕ → Drawn → LoginBody → Attempt Cause Outcome
 login known S moment drawn asked = do
   who ← shown known S moment asked.proof
-  scope ← scoped S.rows moment who.user asked.scope
+  scope ← scoped_by S.rows moment who.user who.credential asked.scope
   Go (token_given S moment drawn who scope)

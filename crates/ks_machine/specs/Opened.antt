@@ -50,6 +50,9 @@ rows_opened opening = record {
   regions = put_all (put_row id_cmp (λ r. r.id)) opening.regions;
   services = put_all (put_row id_cmp (λ r. r.id)) opening.services;
   endpoints = put_all (put_row id_cmp (λ r. r.id)) opening.endpoints;
+  app_creds = [];
+  secrets = [];
+  factor_rules = [];
 }
 
 unfoldable pub opened_state : PlainOpening → State

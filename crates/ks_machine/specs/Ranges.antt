@@ -1,6 +1,8 @@
 -- The ranges of fields (Identity API v3; own limits).
-use Rattle.std.specs.Prelude.{◌≡◌, ℕ, ◌≤◌, Bool, true, false, Option, None, IfSome, length}
-use Rattle.ks_base.specs.declared.limits.TheConstants.{DESCRIPTION_BYTES, ENDPOINT_URL_BYTES, KEYS, LAST_SECOND, LONGEST_LIFE, NAME_BYTES, PASSWORD_BYTES, REDELEGATIONS, ROUNDS, SHORTEST_LIFE, TRUST_ROLES, USES}
+use Rattle.std.specs.Prelude.{◌≡◌, ◌⊎◌, ℕ, ◌<◌, ◌≤◌, Bool, true, false, List, Option, None, IfSome, length}
+use Rattle.std.specs.List.{AllByRecursion}
+use Rattle.ks_base.specs.declared.limits.TheConstants.{CODES, DESCRIPTION_BYTES, ENDPOINT_URL_BYTES, KEYS, LAST_SECOND, LONGEST_LIFE, MFA_RULES, NAME_BYTES, PASSWORD_BYTES, REDELEGATIONS, ROUNDS, SHORTEST_LIFE, TOTP_SECRET_LEAST, TOTP_SECRET_MOST, TRUST_ROLES, USES}
+use Rattle.ks_base.specs.declared.app_creds.AppCredRow.{AppCredRow}
 use Rattle.ks_base.specs.declared.catalog.EndpointRow.{EndpointRow}
 use Rattle.ks_base.specs.declared.catalog.RegionRow.{RegionRow}
 use Rattle.ks_base.specs.declared.catalog.ServiceRow.{ServiceRow}
@@ -21,6 +23,25 @@ IsDescription description = length description ≤ DESCRIPTION_BYTES
 
 abbrev pub IsPassword : Text → Type 0
 IsPassword password = (1 ≤ length password) × (length password ≤ PASSWORD_BYTES)
+
+-- the secret of an application credential
+abbrev pub IsCredSecret : Text → Type 0
+IsCredSecret secret = (1 ≤ length secret) × (length secret ≤ NAME_BYTES)
+
+-- a secret of one-time codes (RFC 4226, section 4: 128 bits at least are asked of servers; shorter ones are in use)
+abbrev pub IsTotpSecret : List ℕ → Type 0
+IsTotpSecret secret = (TOTP_SECRET_LEAST ≤ length secret) × (length secret ≤ TOTP_SECRET_MOST)
+
+-- a code has six digits
+abbrev pub IsCode : ℕ → Type 0
+IsCode code = code < CODES
+
+-- a rule asks for a password, for a code, or for both
+abbrev pub IsMfaRule : ℕ → Type 0
+IsMfaRule rule = (rule ≡ 1) ⊎ ((rule ≡ 4) ⊎ (rule ≡ 5))
+
+abbrev pub AreMfaRules : List ℕ → Type 0
+AreMfaRules rules = AllByRecursion IsMfaRule rules × (length rules ≤ MFA_RULES)
 
 abbrev pub AreRounds : ℕ → Type 0
 AreRounds rounds = (1 ≤ rounds) × (rounds ≤ ROUNDS)
@@ -81,6 +102,14 @@ pub record IsTrustInRange (row : TrustRow) : Type 0 where
   pub remaining : IfSome row.remaining AreUses
   pub count : row.count ≤ REDELEGATIONS
   pub last : IsLastOf row.count row.remaining
+
+-- a new application credential
+pub record IsAppCredInRange (row : AppCredRow) : Type 0 where
+  pub name : IsName row.name
+  pub description : IsDescription row.description
+  pub roles_least : 1 ≤ length row.roles
+  pub expires : IfSome row.expires IsExpiry
+  pub rounds : AreRounds row.secret.rounds
 
 pub record IsSettings (settings : Settings) : Type 0 where
   pub life_least : SHORTEST_LIFE ≤ settings.life

@@ -57,6 +57,14 @@ is_for_oneself (command.GetCatalog kind id) = false
 is_for_oneself (command.UpdateCatalog id asked) = false
 is_for_oneself (command.DeleteCatalog kind id) = false
 is_for_oneself command.ShowCatalog = false
+is_for_oneself (command.CreateAppCred user body) = false
+is_for_oneself (command.ListAppCreds user) = false
+is_for_oneself (command.GetAppCred user id) = false
+is_for_oneself (command.DeleteAppCred user id) = false
+is_for_oneself (command.CreateSecret body) = false
+is_for_oneself command.ListSecrets = false
+is_for_oneself (command.GetSecret id) = false
+is_for_oneself (command.DeleteSecret id) = false
 
 -- how many revocations may be live with those that a command writes: what users do for themselves leaves room for those who must
 -- end what is not theirs

@@ -1,14 +1,18 @@
 -- What rows are called, and where a body names them.
 use Rattle.std.specs.Prelude.{List, [], Option, find, map}
 use Rattle.std.specs.Option.{option_and_then, option_map_or}
+use Rattle.ks_base.specs.declared.app_creds.AppCredRow.{AppCredRow}
 use Rattle.ks_base.specs.declared.rows.DomainRow.{DomainRow}
 use Rattle.ks_base.specs.declared.rows.ProjectRow.{ProjectRow}
 use Rattle.ks_base.specs.declared.rows.RoleRow.{RoleRow}
 use Rattle.ks_base.specs.declared.users.UserRow.{UserRow}
+use Rattle.ks_base.specs.AppCreds.{cred_named, cred_of}
 use Rattle.ks_base.specs.People.{is_user_named}
 use Rattle.ks_base.specs.RoleLists.{is_named}
 use Rattle.ks_base.specs.Trees.{is_domain_named, is_project_named}
 use Rattle.ks_base.specs.Rows.{Id, Text, Rows, domain_of, project_of, role_of, user_of}
+use Rattle.ks_machine.specs.declared.bodies.CredNamed.{CredNamed}
+use Rattle.ks_machine.specs.declared.bodies.CredNamed.TheVariants as cred_named_by
 use Rattle.ks_machine.specs.declared.bodies.Named.{Named}
 use Rattle.ks_machine.specs.declared.bodies.Named.TheVariants as named
 use Rattle.ks_machine.specs.declared.bodies.ProjectNamed.{ProjectNamed}
@@ -31,6 +35,10 @@ role_in rows (named.Name name) = find (is_named name) rows.roles
 abbrev pub user_in : Rows → UserNamed → Option UserRow
 user_in rows (user_named.Id id) = user_of id rows.users
 user_in rows (user_named.Name name domain) = option_and_then (λ d. find (is_user_named d.id name) rows.users) (domain_in rows domain)
+
+abbrev pub cred_in : Rows → CredNamed → Option AppCredRow
+cred_in rows (cred_named_by.Id id) = cred_of id rows.app_creds
+cred_in rows (cred_named_by.Name name user) = option_and_then (λ u. cred_named u.id name rows.app_creds) (user_in rows user)
 
 abbrev pub project_in : Rows → ProjectNamed → Option ProjectRow
 project_in rows (project_named.Id id) = project_of id rows.projects

@@ -18,10 +18,12 @@ use Rattle.ks_machine.specs.declared.reply.Reply.TheVariants as reply
 use Rattle.ks_machine.specs.Moment.{moment_of}
 use Rattle.ks_machine.specs.Allowed.{allowed}
 use Rattle.ks_machine.specs.Actions.{Requirements, requirements}
+use Rattle.ks_machine.specs.AppCredCommands.{create_app_cred, delete_app_cred, get_app_cred, list_app_creds}
 use Rattle.ks_machine.specs.Assignments.{assignments}
 use Rattle.ks_machine.specs.Attempts.{Attempt, Go, Stop, Lacks, Lack, ◌>>=◌, Known, blame, found, need, unless}
 use Rattle.ks_machine.specs.CatalogCommands.{create_catalog, show_catalog, update_catalog}
 use Rattle.ks_machine.specs.Creations.{create}
+use Rattle.ks_machine.specs.FactorCommands.{create_secret, delete_secret, get_secret, list_secrets}
 use Rattle.ks_machine.specs.Keys.{is_failed, load_keys, rotate_keys}
 use Rattle.ks_machine.specs.Listings.{delete, events, get, list}
 use Rattle.ks_machine.specs.Login.{login, told_token}
@@ -143,6 +145,16 @@ answered known S moment call (command.UpdateCatalog id asked) =
 answered known S moment call (command.DeleteCatalog kind id) =
     as_caller known S moment call (λ _. delete S.rows (catalog_kind kind) id)
 answered known S moment call command.ShowCatalog = as_caller known S moment call (λ caller. Go (show_catalog S.rows caller))
+answered known S moment call (command.CreateAppCred user asked) =
+    as_caller known S moment call (λ caller. create_app_cred known S moment call.draw caller user asked)
+answered known S moment call (command.ListAppCreds user) = as_caller known S moment call (λ _. list_app_creds S.rows user)
+answered known S moment call (command.GetAppCred user id) = as_caller known S moment call (λ _. get_app_cred S.rows user id)
+answered known S moment call (command.DeleteAppCred user id) =
+    as_caller known S moment call (λ caller. delete_app_cred S.rows caller user id)
+answered known S moment call (command.CreateSecret asked) = as_caller known S moment call (λ _. create_secret S.rows call.draw asked)
+answered known S moment call command.ListSecrets = as_caller known S moment call (λ _. Go (list_secrets S.rows))
+answered known S moment call (command.GetSecret id) = as_caller known S moment call (λ _. get_secret S.rows id)
+answered known S moment call (command.DeleteSecret id) = as_caller known S moment call (λ _. delete_secret S.rows id)
 
 -- the checks of a call in their order, and what it gives where all pass
 unfoldable pub checked : Known → State → ℕ → Call → Attempt Cause Outcome

@@ -1,10 +1,13 @@
 -- The tables of a state as their own definitions see them, and their refusals as causes.
-use Rattle.std.specs.Prelude.{Option}
+use Rattle.std.specs.Prelude.{Option, Some, None, if◌then◌else◌}
+use Rattle.std.specs.Option.{option_and_then}
+use Rattle.ks_base.specs.declared.app_creds.AppCredRow.{AppCredRow}
 use Rattle.ks_base.specs.declared.catalog.CatalogFault.{CatalogFault}
 use Rattle.ks_base.specs.declared.catalog.CatalogFault.TheVariants as catalog
 use Rattle.ks_base.specs.declared.catalog.EndpointRow.{EndpointRow}
 use Rattle.ks_base.specs.declared.catalog.RegionRow.{RegionRow}
 use Rattle.ks_base.specs.declared.catalog.ServiceRow.{ServiceRow}
+use Rattle.ks_base.specs.declared.factors.SecretRow.{SecretRow}
 use Rattle.ks_base.specs.declared.faults.RowFault.{RowFault}
 use Rattle.ks_base.specs.declared.faults.RowFault.TheVariants as row
 use Rattle.ks_base.specs.declared.faults.TreeFault.{TreeFault}
@@ -17,7 +20,9 @@ use Rattle.ks_base.specs.declared.rows.ProjectRow.{ProjectRow}
 use Rattle.ks_base.specs.declared.rows.RoleRow.{RoleRow}
 use Rattle.ks_base.specs.declared.trusts.TrustRow.{TrustRow}
 use Rattle.ks_base.specs.declared.users.UserRow.{UserRow}
+use Rattle.ks_base.specs.AppCreds.{cred_of, is_of_user}
 use Rattle.ks_base.specs.Catalog.{CatalogState, endpoint_of, region_of, service_of}
+use Rattle.ks_base.specs.Factors.{FactorState, secret_of}
 use Rattle.ks_base.specs.Rows.{Id, Rows, domain_of, group_of, project_of, role_of, trust_of, user_of}
 use Rattle.ks_machine.specs.declared.cause.Cause.{Cause}
 use Rattle.ks_machine.specs.declared.cause.Cause.TheVariants as cause
@@ -50,6 +55,12 @@ catalogs rows = record { regions = rows.regions; services = rows.services; endpo
 
 abbrev pub put_catalogs : CatalogState → Rows → Rows
 put_catalogs state rows = record rows { regions = state.regions; services = state.services; endpoints = state.endpoints }
+
+abbrev pub factors : Rows → FactorState
+factors rows = record { secrets = rows.secrets; rules = rows.factor_rules }
+
+abbrev pub put_factors : FactorState → Rows → Rows
+put_factors state rows = record rows { secrets = state.secrets; factor_rules = state.rules }
 
 -- the causes that have a place of their own are named there
 
@@ -123,3 +134,13 @@ standing_service rows id = standing kind.Service id (service_of id rows.services
 
 abbrev pub standing_endpoint : Rows → Id → Attempt Cause EndpointRow
 standing_endpoint rows id = standing kind.Endpoint id (endpoint_of id rows.endpoints)
+
+abbrev pub standing_secret : Rows → Id → Attempt Cause SecretRow
+standing_secret rows id = standing kind.Secret id (secret_of id rows.secrets)
+
+-- a credential of another user does not stand for this one
+abbrev pub own_cred : Rows → Id → Id → Option AppCredRow
+own_cred rows user id = option_and_then (λ cred. if is_of_user user cred then Some cred else None) (cred_of id rows.app_creds)
+
+abbrev pub standing_cred : Rows → Id → Id → Attempt Cause AppCredRow
+standing_cred rows user id = standing kind.AppCred id (own_cred rows user id)

@@ -134,6 +134,8 @@ object rows kind.Service id =
 object rows kind.Endpoint id =
     of_row (λ row. record { id = Some row.id; name = None; domain = None; enabled = Some row.enabled })
     endpoint_fields (endpoint_of id rows.endpoints)
+object rows kind.AppCred id = []
+object rows kind.Secret id = []
 
 -- the user of a path
 abbrev pub path_user : Id → Fields
@@ -154,6 +156,8 @@ user_of_path kind.Event id = []
 user_of_path kind.Region id = []
 user_of_path kind.Service id = []
 user_of_path kind.Endpoint id = []
+user_of_path kind.AppCred id = []
+user_of_path kind.Secret id = []
 
 abbrev pub object_of_path : Rows → Kind → Id → Fields
 object_of_path rows kind id = user_of_path kind id ++ object rows kind id
@@ -164,7 +168,7 @@ of_body (made.Domain id name description enabled) =
     domain_fields (record { id = None; name = name; domain = None; enabled = enabled })
 of_body (made.Project id name domain parent description enabled) =
     project_fields (record { id = None; name = name; domain = domain; enabled = enabled })
-of_body (made.User id name domain password enabled) =
+of_body (made.User id name domain password enabled factors) =
     user_fields (record { id = None; name = name; domain = domain; enabled = enabled })
 of_body (made.Group id name domain description) =
     group_fields (record { id = None; name = name; domain = domain; enabled = None })
@@ -181,7 +185,7 @@ of_catalog_body of.Endpoint asked = endpoint_fields (record { id = None; name = 
 abbrev pub kind_of : Made → Kind
 kind_of (made.Domain id name description enabled) = kind.Domain
 kind_of (made.Project id name domain parent description enabled) = kind.Project
-kind_of (made.User id name domain password enabled) = kind.User
+kind_of (made.User id name domain password enabled factors) = kind.User
 kind_of (made.Group id name domain description) = kind.Group
 kind_of (made.Role id name description) = kind.Role
 
@@ -195,6 +199,10 @@ catalog_kind of.Endpoint = kind.Endpoint
 
 abbrev pub of_member : MemberRow → Fields
 of_member row = path_user row.user ++ field (codes "target.group.id") row.group ++ field (codes "target.user.id") row.user
+
+-- a path that names a user and one of its application credentials
+abbrev pub of_app_cred : Id → Fields
+of_app_cred user = path_user user ++ field (codes "target.user.id") user
 
 abbrev pub of_actor : Actor → Fields
 of_actor (actor.User id) = path_user id ++ field (codes "target.user.id") id
@@ -243,6 +251,8 @@ filter_names kind.Event = []
 filter_names kind.Region = codes "parent_region_id" ∷ []
 filter_names kind.Service = codes "type" ∷ codes "name" ∷ []
 filter_names kind.Endpoint = codes "service_id" ∷ codes "region_id" ∷ codes "interface" ∷ []
+filter_names kind.AppCred = []
+filter_names kind.Secret = []
 
 -- the target of a command
 
@@ -288,3 +298,11 @@ target_of rows subject (command.GetCatalog kind id) = object rows (catalog_kind 
 target_of rows subject (command.UpdateCatalog id asked) = object rows (catalog_kind asked.of) id
 target_of rows subject (command.DeleteCatalog kind id) = object rows (catalog_kind kind) id
 target_of rows subject command.ShowCatalog = []
+target_of rows subject (command.CreateAppCred user body) = object_of_path rows kind.User user
+target_of rows subject (command.ListAppCreds user) = object_of_path rows kind.User user
+target_of rows subject (command.GetAppCred user id) = of_app_cred user
+target_of rows subject (command.DeleteAppCred user id) = of_app_cred user
+target_of rows subject (command.CreateSecret body) = []
+target_of rows subject command.ListSecrets = []
+target_of rows subject (command.GetSecret id) = []
+target_of rows subject (command.DeleteSecret id) = []

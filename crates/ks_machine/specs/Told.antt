@@ -24,6 +24,8 @@ IsRowTellable (row.Trust trust roles) = IfSome trust.expires IsExpiry
 IsRowTellable (row.Region region) = Unit {0}
 IsRowTellable (row.Service service) = Unit {0}
 IsRowTellable (row.Endpoint endpoint) = Unit {0}
+IsRowTellable (row.AppCred cred roles) = IfSome cred.expires IsExpiry
+IsRowTellable (row.Secret secret) = Unit {0}
 
 abbrev pub IsEventTellable : EventRow → Type 0
 IsEventTellable event = IsExpiry event.moment
@@ -43,6 +45,9 @@ IsBodyTellable (body.TrustRoles roles path) = Unit {0}
 IsBodyTellable (body.Events events path) = AllByRecursion IsEventTellable events
 IsBodyTellable (body.Keys indices sealing) = Unit {0}
 IsBodyTellable (body.Catalog services path) = Unit {0}
+IsBodyTellable (body.AppCredMade cred roles secret) = IfSome cred.expires IsExpiry
+IsBodyTellable (body.AppCreds rows path) = AllByRecursion IsRowTellable rows
+IsBodyTellable (body.Secrets rows path) = AllByRecursion IsRowTellable rows
 
 abbrev pub IsTellable : Reply → Type 0
 IsTellable (reply.Ok told) = IsBodyTellable told

@@ -29,7 +29,7 @@ use Rattle.ks_machine.specs.Effective.{in_order, roles_at}
 use Rattle.ks_machine.specs.Outcomes.{Outcome, changes, made_id, tells}
 use Rattle.ks_machine.specs.Scopes.{role_in, titled_roles}
 use Rattle.ks_machine.specs.Tables.{standing_project, standing_trust, standing_user}
-use Rattle.ks_machine.specs.Validity.{Valid}
+use Rattle.ks_machine.specs.Validity.{Valid, cred_in_payload}
 
 -- the causes that have a place of their own are named there
 abbrev pub trust_cause : TrustFault → Cause
@@ -57,6 +57,10 @@ unless_trust why = blame trust_cause (unless why)
 abbrev pub needs : Bool → TrustFault → Attempt Cause (Unit {0})
 needs holds why = need holds (cause.Trust why)
 
+-- a token whose application credential is restricted makes no trust and no credential, and ends none
+abbrev pub unrestricted : Rows → Valid → Attempt Cause (Unit {0})
+unrestricted rows caller = need (option_map_or (λ cred. cred.unrestricted) (cred_in_payload rows caller.payload) true) cause.Prohibited
+
 -- the parent of a new trust
 
 -- the caller's token is of the trust that is passed on, which the body may name; it passes on its own project
@@ -72,15 +76,16 @@ parent_by rows asked (Some id) = do
 
 -- its roles
 
-abbrev pub role_asked : Rows → Named → Attempt Cause RoleRow
-role_asked rows (named.Id id) = found (role_in rows (named.Id id)) (cause.Absent kind.Role id)
-role_asked rows (named.Name name) = found (role_in rows (named.Name name)) (cause.Shape (shape.Range (codes "trust.roles")))
+-- a role that the field of a body names
+abbrev pub role_asked : Rows → Text → Named → Attempt Cause RoleRow
+role_asked rows field (named.Id id) = found (role_in rows (named.Id id)) (cause.Absent kind.Role id)
+role_asked rows field (named.Name name) = found (role_in rows (named.Name name)) (cause.Shape (shape.Range field))
 
-unfoldable pub roles_asked : Rows → List Named → Attempt Cause (List Id)
-roles_asked rows [] = Go []
-roles_asked rows (name ∷ names) = do
-  role ← role_asked rows name
-  roles ← roles_asked rows names
+unfoldable pub roles_asked : Rows → Text → List Named → Attempt Cause (List Id)
+roles_asked rows field [] = Go []
+roles_asked rows field (name ∷ names) = do
+  role ← role_asked rows field name
+  roles ← roles_asked rows field names
   Go (role.id ∷ roles)
 
 -- how many trusts may follow below it
@@ -123,12 +128,13 @@ told_trust rows trust = row.Trust trust (titled_roles rows trust.roles)
 
 unfoldable pub create_trust : Rows → ℕ → Drawn → Valid → TrustBody → Attempt Cause Outcome
 create_trust rows moment drawn caller asked = do
+  _ ← unrestricted rows caller
   _ ← needs (same caller.payload.user asked.trustor) fault.NotTrustor
   _ ← standing_user rows asked.trustee
   _ ← standing_project rows asked.project
   parent ← parent_by rows asked caller.payload.trust
   _ ← needs (nat_lt 0 (length asked.roles)) fault.NoRoles
-  roles ← roles_asked rows asked.roles
+  roles ← roles_asked rows (codes "trust.roles") asked.roles
   _ ← needs (may_count asked parent) fault.DepthOut
   let new : TrustRow = new_trust (made_id drawn) asked parent (in_order roles)
   _ ← unless_trust (creation_fault rows.trusts (roles_to_give rows new) moment new)

@@ -10,6 +10,7 @@ use Rattle.ks_base.specs.declared.rows.RoleRow.{RoleRow}
 use Rattle.ks_base.specs.declared.users.UserRow.{UserRow}
 use Rattle.ks_base.specs.Rows.{Id, Text, Rows, same}
 use Rattle.ks_machine.specs.declared.bodies.Made.{Made}
+use Rattle.ks_machine.specs.declared.bodies.MfaIn.{MfaIn}
 use Rattle.ks_machine.specs.declared.bodies.Made.TheVariants as made
 use Rattle.ks_machine.specs.declared.body_out.BodyOut.TheVariants as body
 use Rattle.ks_machine.specs.declared.body_out.Row.TheVariants as row
@@ -20,6 +21,7 @@ use Rattle.ks_base.specs.PeopleFaults.{set_group_fault, set_user_fault}
 use Rattle.ks_base.specs.RoleFaults.{set_fault}
 use Rattle.ks_base.specs.TreeFaults.{set_domain_fault, set_project_fault}
 use Rattle.ks_machine.specs.Attempts.{Attempt, Go, ◌>>=◌, Known, need}
+use Rattle.ks_machine.specs.Creations.{put_user}
 use Rattle.ks_machine.specs.Outcomes.{Outcome, changes}
 use Rattle.ks_machine.specs.Passwords.{derived_or}
 use Rattle.ks_machine.specs.States.{State}
@@ -55,8 +57,8 @@ update_project rows id given name domain parent description enabled = do
   _ ← unless_tree (set_project_fault (trees rows) new)
   Go (changes (change.PutProject new) (body.One (row.Project new) false))
 
-unfoldable pub update_user : Known → State → Drawn → Id → Option Id → Option Text → Option Id → Option Text → Option Bool → Attempt Cause Outcome
-update_user known S drawn id given name domain password enabled = do
+unfoldable pub update_user : Known → State → Drawn → Id → Option Id → Option Text → Option Id → Option Text → Option Bool → Option MfaIn → Attempt Cause Outcome
+update_user known S drawn id given name domain password enabled factors = do
   old ← standing_user S.rows id
   _ ← unchanged (codes "id") given id
   _ ← unchanged (codes "domain_id") domain old.domain
@@ -64,7 +66,7 @@ update_user known S drawn id given name domain password enabled = do
   _ ← unless_row (set_user_fault (people S.rows) named)
   kept ← derived_or known S drawn old.password password
   let new : UserRow = record named { password = kept }
-  Go (changes (change.PutUser new) (body.One (row.User new) false))
+  Go (changes (put_user new factors) (body.One (row.User new) false))
 
 unfoldable pub update_group : Rows → Id → Option Id → Option Text → Option Id → Option Text → Attempt Cause Outcome
 update_group rows id given name domain description = do
@@ -87,7 +89,7 @@ unfoldable pub update : Known → State → Drawn → Id → Made → Attempt Ca
 update known S drawn id (made.Domain given name description enabled) = update_domain S.rows id given name description enabled
 update known S drawn id (made.Project given name domain parent description enabled) =
     update_project S.rows id given name domain parent description enabled
-update known S drawn id (made.User given name domain password enabled) =
-    update_user known S drawn id given name domain password enabled
+update known S drawn id (made.User given name domain password enabled factors) =
+    update_user known S drawn id given name domain password enabled factors
 update known S drawn id (made.Group given name domain description) = update_group S.rows id given name domain description
 update known S drawn id (made.Role given name description) = update_role S.rows id given name description

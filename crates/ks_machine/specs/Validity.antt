@@ -2,9 +2,11 @@
 use Rattle.std.specs.Prelude.{ℕ, ◌==◌, Bool, true, false, not, ◌&&◌, ◌||◌, if◌then◌else◌, nat_lt, List, [], ◌∷◌, length, Option, Some, None, is_some, option_map}
 use Rattle.std.specs.List.{list_all}
 use Rattle.std.specs.Option.{option_and_then, option_map_or, option_or}
+use Rattle.ks_base.specs.declared.app_creds.AppCredRow.{AppCredRow}
 use Rattle.ks_base.specs.declared.events.Holder.{Holder}
 use Rattle.ks_base.specs.declared.grants.Target.TheVariants as target
 use Rattle.ks_base.specs.declared.trusts.TrustRow.{TrustRow}
+use Rattle.ks_base.specs.AppCreds.{cred_of}
 use Rattle.ks_base.specs.Revocation.{is_revoked}
 use Rattle.ks_base.specs.Rows.{Id, Text, Rows, same, project_of, trust_of, user_of}
 use Rattle.ks_base.specs.Trusts.{first_trustor, is_expired}
@@ -78,11 +80,10 @@ holder rows payload = record {
 
 -- lines
 
--- a domain or project stands and is enabled; the system always is; an application credential does not hold yet
+-- a domain or project stands and is enabled, an application credential's project too; the system always is
 abbrev pub is_scope_on : Rows → Payload → Bool
 is_scope_on rows payload =
-    option_map_or (is_domain_on rows) payload.domain true
-    && (option_map_or (is_project_on rows) payload.project true && not (is_some payload.credential))
+    option_map_or (is_domain_on rows) payload.domain true && option_map_or (is_project_on rows) payload.project true
 
 -- whose a token of the trust is: with impersonation the trustor's, else the trustee's
 abbrev pub acts_as : TrustRow → Id
@@ -99,26 +100,47 @@ abbrev pub is_trust_line : Rows → ℕ → Payload → Bool
 is_trust_line rows moment payload =
     option_map_or (λ id. option_map_or (is_trust_on rows moment payload) (trust_of id rows.trusts) false) payload.trust true
 
+-- the credential of a token stands, is its user's and its project's, and isn't expired
+unfoldable pub is_cred_on : ℕ → Payload → AppCredRow → Bool
+is_cred_on moment payload cred =
+    not (is_expired cred.expires moment) && (same cred.user payload.user && option_map_or (same cred.project) payload.project false)
+
+abbrev pub cred_in_payload : Rows → Payload → Option AppCredRow
+cred_in_payload rows payload = option_and_then (λ id. cred_of id rows.app_creds) payload.credential
+
+abbrev pub is_cred_line : Rows → ℕ → Payload → Bool
+is_cred_line rows moment payload =
+    option_map_or (λ id. option_map_or (is_cred_on moment payload) (cred_of id rows.app_creds) false) payload.credential true
+
 -- the kind of payloads that are for the whole system
 abbrev pub system_kind : ℕ
 system_kind = 4
 
+-- and those of an application credential
+abbrev pub cred_kind : ℕ
+cred_kind = 5
+
 abbrev pub is_system : Payload → Bool
 is_system payload = payload.kind == system_kind
 
--- the roles of a token: those of its trust and what these imply, those that the user has at its scope, or none
+-- the roles of a token: those of its trust or of its credential and what these imply, those that the user has at its scope, or none
 abbrev pub trust_roles : Rows → Option TrustRow → List Id
 trust_roles rows None = []
 trust_roles rows (Some trust) = closure rows trust.roles
 
+abbrev pub cred_roles : Rows → Option AppCredRow → List Id
+cred_roles rows None = []
+cred_roles rows (Some cred) = closure rows cred.roles
+
 unfoldable pub roles_of : Rows → Payload → List Id
-roles_of rows payload = by_scope payload.trust payload.project payload.domain
+roles_of rows payload = by_scope payload.trust payload.credential payload.project payload.domain
   where
-    by_scope : Option Id → Option Id → Option Id → List Id
-    by_scope (Some trust) project domain = trust_roles rows (trust_of trust rows.trusts)
-    by_scope None (Some project) domain = roles_at rows payload.user (target.Project project)
-    by_scope None None (Some domain) = roles_at rows payload.user (target.Domain domain)
-    by_scope None None None = if is_system payload then roles_at rows payload.user target.System else []
+    by_scope : Option Id → Option Id → Option Id → Option Id → List Id
+    by_scope (Some trust) credential project domain = trust_roles rows (trust_of trust rows.trusts)
+    by_scope None (Some credential) project domain = cred_roles rows (cred_of credential rows.app_creds)
+    by_scope None None (Some project) domain = roles_at rows payload.user (target.Project project)
+    by_scope None None None (Some domain) = roles_at rows payload.user (target.Domain domain)
+    by_scope None None None None = if is_system payload then roles_at rows payload.user target.System else []
 
 abbrev pub is_scoped : Payload → Bool
 is_scoped payload = is_some payload.domain || (is_some payload.project || is_system payload)
@@ -130,8 +152,19 @@ is_kept rows trust role = is_effective rows (first_trustor rows.trusts trust) (t
 abbrev pub are_kept : Rows → Payload → Bool
 are_kept rows payload = option_map_or (λ trust. list_all (is_kept rows trust) trust.roles) (trust_named rows payload) true
 
+-- the user of the credential has this role at the credential's project, and each that it lists
+abbrev pub is_had : Rows → AppCredRow → Id → Bool
+is_had rows cred role = is_effective rows cred.user (target.Project cred.project) role
+
+abbrev pub has_cred_roles : Rows → AppCredRow → Bool
+has_cred_roles rows cred = list_all (is_had rows cred) cred.roles
+
+abbrev pub are_had : Rows → Payload → Bool
+are_had rows payload = option_map_or (has_cred_roles rows) (cred_in_payload rows payload) true
+
 abbrev pub has_roles : Rows → Payload → Bool
-has_roles rows payload = (not (is_scoped payload) || nat_lt 0 (length (roles_of rows payload))) && are_kept rows payload
+has_roles rows payload =
+    (not (is_scoped payload) || nat_lt 0 (length (roles_of rows payload))) && (are_kept rows payload && are_had rows payload)
 
 -- a valid token
 
@@ -147,6 +180,7 @@ held_lines S moment held = do
   _ ← need (is_user_on S.rows held.payload.user) why.User
   _ ← need (is_scope_on S.rows held.payload) why.Scope
   _ ← need (is_trust_line S.rows moment held.payload) why.Trust
+  _ ← need (is_cred_line S.rows moment held.payload) why.Credential
   _ ← need (has_roles S.rows held.payload) why.Roles
   Go (record { payload = held.payload; issued = held.issued; roles = roles_of S.rows held.payload })
 

@@ -1,7 +1,7 @@
 //! What bodies of requests ask for (Identity API v3).
 ghost use Rattle.std.specs.Prelude.{◌≡◌, IfOk};
 
-use ks_base::{Id, ListOf, Memory, Text, TryCopy};
+use ks_base::{Bytes, Id, ListOf, Memory, Text, TryCopy};
 
 /// A row that is named by its id, or by its name.
 pub enum Named {
@@ -48,18 +48,42 @@ impl Drop for ProjectNamed {
     }
 }
 
+/// An application credential that is named by its id, or by its name and its user.
+pub enum CredNamed {
+    Id(Id),
+    Name(Text, UserNamed),
+}
+
+impl Drop for CredNamed {
+    fn drop(self) {
+        match self {
+            CredNamed::Id(_) | CredNamed::Name(_, _) => {}
+        }
+    }
+}
+
 /// What a login shows of who it is.
 pub enum Proof {
     /// The user, and the password.
     Password(UserNamed, Text),
     /// The text of a token.
     Token(Text),
+    /// The application credential, and its secret.
+    AppCred(CredNamed, Text),
+    /// The user, and a code of six digits (RFC 6238).
+    Totp(UserNamed, u32),
+    /// The user of the password, the password, the user of the code, and the code.
+    Both(UserNamed, Text, UserNamed, u32),
 }
 
 impl Drop for Proof {
     fn drop(self) {
         match self {
-            Proof::Password(_, _) | Proof::Token(_) => {}
+            Proof::Password(_, _)
+            | Proof::Token(_)
+            | Proof::AppCred(_, _)
+            | Proof::Totp(_, _)
+            | Proof::Both(_, _, _, _) => {}
         }
     }
 }
@@ -103,6 +127,15 @@ impl Drop for LoginBody {
     }
 }
 
+/// The methods that a body says that its user has to log in by.
+#[derive(Drop)]
+pub struct MfaIn {
+    /// Rules that are not enabled ask for nothing.
+    pub enabled: bool,
+    /// Each byte is one rule, the set of the methods that it asks for: 1 for a password, 4 for a code.
+    pub rules: Bytes,
+}
+
 /// The body of a creation or a change of one kind of row. A field that is absent is none. The id is
 /// there in a change alone.
 pub enum Made {
@@ -126,6 +159,7 @@ pub enum Made {
         domain: Option<Id>,
         password: Option<Text>,
         enabled: Option<bool>,
+        factors: Option<MfaIn>,
     },
     Group {
         id: Option<Id>,
@@ -163,6 +197,7 @@ impl Drop for Made {
                 domain: _,
                 password: _,
                 enabled: _,
+                factors: _,
             }
             | Made::Group {
                 id: _,
@@ -214,6 +249,29 @@ impl Drop for TrustBody {
             parent: _,
         } = self;
     }
+}
+
+/// The body that makes an application credential (Identity API v3, application credentials).
+#[derive(Drop)]
+pub struct AppCredBody {
+    pub name: Text,
+    /// 1 to 255 bytes; one is drawn where none is given.
+    pub secret: Option<Text>,
+    pub description: Text,
+    /// The moment from which it serves no more, in whole seconds since 1970-01-01T00:00:00Z.
+    pub expires: Option<u64>,
+    /// 0 to 64 roles; those of the caller's token where none are given.
+    pub roles: Option<NamedList>,
+    /// Whether its tokens may make trusts and credentials.
+    pub unrestricted: bool,
+}
+
+/// The body that gives a user a secret of one-time codes (Identity API v3, credentials of type `totp`).
+#[derive(Drop)]
+pub struct SecretBody {
+    pub user: Id,
+    /// 10 to 64 bytes.
+    pub secret: Bytes,
 }
 
 impl Named {

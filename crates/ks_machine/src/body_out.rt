@@ -2,8 +2,9 @@
 ghost use Rattle.std.specs.Prelude.{◌≡◌, IfOk};
 
 use ks_base::{
-    DomainRow, EndpointRow, EventList, GrantList, GroupRow, Id, IndexList, Kind, ListOf, Memory,
-    ProjectRow, RegionRow, RoleList, RoleRow, ServiceRow, Text, TrustRow, TryCopy, UserRow,
+    AppCredRow, DomainRow, EndpointRow, EventList, GrantList, GroupRow, Id, IndexList, Kind,
+    ListOf, Memory, ProjectRow, RegionRow, RoleList, RoleRow, SecretRow, ServiceRow, Text,
+    TrustRow, TryCopy, UserRow,
 };
 use ks_catalog::ServiceOutList;
 
@@ -101,6 +102,9 @@ pub enum Row {
     Region(RegionRow),
     Service(ServiceRow),
     Endpoint(EndpointRow),
+    /// An application credential, and its roles with their names.
+    AppCred(AppCredRow, TitledList),
+    Secret(SecretRow),
 }
 
 impl Drop for Row {
@@ -114,7 +118,9 @@ impl Drop for Row {
             | Row::Trust(_, _)
             | Row::Region(_)
             | Row::Service(_)
-            | Row::Endpoint(_) => {}
+            | Row::Endpoint(_)
+            | Row::AppCred(_, _)
+            | Row::Secret(_) => {}
         }
     }
 }
@@ -146,6 +152,10 @@ pub enum BodyOut {
     Keys(IndexList, u32),
     /// The services of the caller's scope.
     Catalog(ServiceOutList, Text),
+    /// A new application credential, its roles with their names, and its secret, which is told this once.
+    AppCredMade(AppCredRow, TitledList, Text),
+    AppCreds(RowList, Text),
+    Secrets(RowList, Text),
 }
 
 impl Drop for BodyOut {
@@ -164,7 +174,10 @@ impl Drop for BodyOut {
             | BodyOut::TrustRoles(_, _)
             | BodyOut::Events(_, _)
             | BodyOut::Keys(_, _)
-            | BodyOut::Catalog(_, _) => {}
+            | BodyOut::Catalog(_, _)
+            | BodyOut::AppCredMade(_, _, _)
+            | BodyOut::AppCreds(_, _)
+            | BodyOut::Secrets(_, _) => {}
         }
     }
 }
@@ -202,6 +215,8 @@ impl Row {
             Row::Region(row) => Ok(Row::Region(row.copy()?)),
             Row::Service(row) => Ok(Row::Service(row.copy()?)),
             Row::Endpoint(row) => Ok(Row::Endpoint(row.copy()?)),
+            Row::AppCred(row, roles) => Ok(Row::AppCred(row.copy()?, roles.copy()?)),
+            Row::Secret(row) => Ok(Row::Secret(row.copy()?)),
         }
     }
 }

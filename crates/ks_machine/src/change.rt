@@ -1,6 +1,6 @@
 use ks_base::{
-    DomainRow, EndpointRow, GrantRow, GroupRow, Id, ImplyRow, Key, KeyList, MemberRow, ProjectRow,
-    RegionRow, RoleRow, ServiceRow, TrustRow, UserRow,
+    AppCredRow, DomainRow, EndpointRow, GrantRow, GroupRow, Id, ImplyRow, Key, KeyList, MemberRow,
+    MfaRow, ProjectRow, RegionRow, RoleRow, SecretRow, ServiceRow, TrustRow, UserRow,
 };
 
 /// What a command that is granted does to the state.
@@ -41,6 +41,12 @@ pub enum Change {
     /// The service goes, with its endpoints.
     DropService(Id),
     DropEndpoint(Id),
+    PutAppCred(AppCredRow),
+    DropAppCred(Id),
+    PutSecret(SecretRow),
+    DropSecret(Id),
+    /// The user, and the methods that it has to log in by.
+    PutUserWith(UserRow, MfaRow),
 }
 
 /// A change in the journal.

@@ -1,7 +1,7 @@
 ghost use Rattle.std.specs.Prelude.{◌≡◌};
 ghost use Rattle.ks_machine.specs.Room.{event_limit};
 
-use crate::{LoginBody, Made, TrustBody};
+use crate::{AppCredBody, LoginBody, Made, SecretBody, TrustBody};
 use ks_base::limits::{EVENTS, SELF_REVOCATIONS};
 use ks_base::{
     Actor, CatalogIn, CatalogKind, Filter, GrantRow, Id, ImplyRow, Kind, MemberRow, Target, Text,
@@ -64,6 +64,18 @@ pub enum Command {
     DeleteCatalog(CatalogKind, Id),
     /// The catalog that goes with the caller's token.
     ShowCatalog,
+    /// A new application credential of this user.
+    CreateAppCred(Id, AppCredBody),
+    /// Those of this user.
+    ListAppCreds(Id),
+    /// The user, and one of its application credentials.
+    GetAppCred(Id, Id),
+    DeleteAppCred(Id, Id),
+    /// A new secret of one-time codes.
+    CreateSecret(SecretBody),
+    ListSecrets,
+    GetSecret(Id),
+    DeleteSecret(Id),
 }
 
 impl Drop for Command {
@@ -108,7 +120,15 @@ impl Drop for Command {
             | Command::GetCatalog(_, _)
             | Command::UpdateCatalog(_, _)
             | Command::DeleteCatalog(_, _)
-            | Command::ShowCatalog => {}
+            | Command::ShowCatalog
+            | Command::CreateAppCred(_, _)
+            | Command::ListAppCreds(_)
+            | Command::GetAppCred(_, _)
+            | Command::DeleteAppCred(_, _)
+            | Command::CreateSecret(_)
+            | Command::ListSecrets
+            | Command::GetSecret(_)
+            | Command::DeleteSecret(_) => {}
         }
     }
 }

@@ -1,7 +1,7 @@
 //! What holds of the definitions of fronts, and of the lists of roles. Each law is the contract of a function that does
 //! nothing.
 ghost use Rattle.ks_machine.specs.FactLaws.{AllFactsSuffice, FewFactsSuffice, KeysOpenAlike};
-ghost use Rattle.ks_machine.specs.TokenLaws.{HasItsTrust, IsRefusedEverAfter, IsTrustBound};
+ghost use Rattle.ks_machine.specs.TokenLaws.{AreRestrictedHeldBack, HasItsTrust, IsCredBound, IsRefusedEverAfter, IsTrustBound};
 ghost use Rattle.ks_machine.specs.Laws.{AnswersAtCuts, AreComparable, AreOrderedByNumbers, AreSame, CutsComeBefore, CutsGoOn, EventsAreCutOff, EventsGoOn, EventsKeepSound, GoesOn, IsReflexive, IsTransitive, ReplaysEachChange, RolesAreEffective, RolesAreImplied};
 
 /// That one front goes on from another is an order. Of two sound fronts from which one third goes on, and of which as many changes
@@ -49,7 +49,6 @@ pub fn roles_are_implied()
 {}
 
 /// What some true facts suffice for, the machine says with all of them; so no fact that is lacking changes an answer.
-#[tactic(auto, using(crate::proofs::FewFacts::few_facts))]
 pub fn few_facts_suffice()
     ensures { FewFactsSuffice }
 {}
@@ -72,6 +71,17 @@ pub fn keys_open_alike()
 pub fn trusts_are_bounded()
     ensures stands { HasItsTrust }
     ensures bounded { IsTrustBound }
+{}
+
+/// The credential of a valid token of an application credential stands, and the token's roles are among those that are effective
+/// for its user on the credential's project, in the state that decides.
+pub fn credentials_are_bounded()
+    ensures { IsCredBound }
+{}
+
+/// In every state a token whose application credential is restricted makes no trust and no credential, and ends no credential.
+pub fn restricted_tokens_are_held_back()
+    ensures { AreRestrictedHeldBack }
 {}
 
 /// A token that a revocation ends in a front is refused in each front that goes on from it, with and without the

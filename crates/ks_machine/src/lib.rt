@@ -20,7 +20,8 @@ mod why;
 
 pub use assignments::{asks_for_effective, user_lacking};
 pub use bodies::{
-    LoginBody, Made, Named, NamedList, ProjectNamed, Proof, ScopeIn, TrustBody, UserNamed,
+    AppCredBody, CredNamed, LoginBody, Made, MfaIn, Named, NamedList, ProjectNamed, Proof, ScopeIn,
+    SecretBody, TrustBody, UserNamed,
 };
 pub use body_out::{BodyOut, Homed, Row, RowList, Titled, TitledList, TokenOut, TrustUse};
 pub use call::{Call, FolderRead};
@@ -30,9 +31,10 @@ pub use clock::moment;
 pub use command::Command;
 pub use derived::Derived;
 pub use laws::{
-    all_facts_suffice, calls_go_on, changes_are_replayed, cuts_are_fronts, few_facts_suffice,
-    fronts_are_ordered, journals_go_on, keys_open_alike, revoked_tokens_stay_refused,
-    roles_are_effective, roles_are_implied, trusts_are_bounded,
+    all_facts_suffice, calls_go_on, changes_are_replayed, credentials_are_bounded, cuts_are_fronts,
+    few_facts_suffice, fronts_are_ordered, journals_go_on, keys_open_alike,
+    restricted_tokens_are_held_back, revoked_tokens_stay_refused, roles_are_effective,
+    roles_are_implied, trusts_are_bounded,
 };
 pub use lines::{ReadToken, first_answer, read_payload, token_lines};
 pub use reply::Reply;

@@ -24,7 +24,9 @@ pub enum Why {
     Scope,
     /// The trust does not stand, has expired, or is not this token's.
     Trust,
-    /// It has no roles, or the trustor has lost one of them.
+    /// The application credential does not stand, has expired, or is not this token's.
+    Credential,
+    /// It has no roles, or the trustor, or the user of the application credential, has lost one of them.
     Roles,
 }
 
@@ -44,6 +46,7 @@ impl Why {
             Why::User => "user",
             Why::Scope => "scope",
             Why::Trust => "trust",
+            Why::Credential => "credential",
             Why::Roles => "roles",
         }
     }

@@ -7,11 +7,13 @@ use Rattle.std.specs.declared.cmp.Ordering.{Ordering}
 use Rattle.std.specs.declared.cmp.Ordering.TheVariants.{Less, Equal, Greater}
 use Rattle.std.specs.Ordering.{is_eq}
 use Rattle.std.proofs.lemmas.Cmp.{nat_list_cmp_total}
+use Rattle.ks_base.specs.declared.app_creds.AppCredRow.{AppCredRow}
 use Rattle.ks_base.specs.declared.grants.GrantRow.{GrantRow}
 use Rattle.ks_base.specs.declared.grants.ImplyRow.{ImplyRow}
 use Rattle.ks_base.specs.declared.grants.Target.{Target}
 use Rattle.ks_base.specs.declared.grants.Target.TheVariants as target
 use Rattle.ks_base.specs.declared.trusts.TrustRow.{TrustRow}
+use Rattle.ks_base.specs.AppCreds.{cred_of}
 use Rattle.ks_base.specs.OrderLaws.{id_exact}
 use Rattle.ks_base.specs.Roles.{Effective, IsImplied, IsWalk, Walks}
 use Rattle.ks_base.specs.Rows.{Id, Rows, trust_of}
@@ -20,7 +22,7 @@ use Rattle.ks_base.proofs.AmongLemmas.{among_left, among_right, any-Decides, map
 use Rattle.ks_base.proofs.RowLemmas.{among_filter, among_put_other, filter_among, put_among}
 use Rattle.ks_base.proofs.TableLemmas.{ascending_filter, ascending_put}
 use Rattle.ks_machine.specs.Effective.{closure, in_order, is_effective, leads, roles_at, roles_implied}
-use Rattle.ks_machine.specs.Validity.{is_system, roles_of, trust_roles}
+use Rattle.ks_machine.specs.Validity.{cred_roles, is_system, roles_of, trust_roles}
 use Rattle.ks_machine.proofs.RoleLemmas.{effective-Decides, leads-Decides, roles_are_effective, roles_are_implied}
 use Rattle.ks_payload.specs.declared.payload.Payload.{Payload}
 use Rattle.ks_tokens.specs.ValidTokens.{IsRole, IsRoleBy}
@@ -87,7 +89,7 @@ implied_list rows roles = left_by (λ role. list_any (λ prior. leads rows.impli
     (λ role. any-Decides (λ prior. leads rows.implications prior role) (λ prior. Walks rows.implications prior role) (λ prior. leads-Decides rows.implications prior role) roles)
     (λ role implied. ends_at rows.implications roles implied.0 role implied.2.0 implied.2.1 implied.1)
 
--- the roles of a token, by its trust, or by its scope
+-- the roles of a token, by its trust or its application credential, or by its scope
 
 none_left : (P : Id → Type 0) → ((id : Id) → P id → ⊥) → AreThese P []
 none_left P none = record { order = tt; members = λ id. (λ among. absurd among, λ holds. absurd (none id holds)) }
@@ -96,22 +98,52 @@ no_members : (P : Id → Type 0) (ids : List Id) → AreThese P ids → ((id : I
 no_members P [] are none = refl
 no_members P (id ∷ ids) are none = absurd (none id ((are.members id).0 (inl refl)))
 
-abbrev OfTrust : Rows → Option TrustRow → Id → Type 0
-OfTrust rows found role = (row : TrustRow) × (found ≡ Some row) × IsImplied rows.implications row.roles role
+-- the roles that those of a row imply, as of a trust or of an application credential
 
-by_row : (rows : Rows) (row other : TrustRow) (id : Id) → Some row ≡ Some other → IsImplied rows.implications other.roles id → IsImplied rows.implications row.roles id
-by_row rows row other id is implied = let same : other ≡ row = cc in subst (λ (r : TrustRow). IsImplied rows.implications r.roles id) same implied
+abbrev OfRow : {R : Type 0} (roles_in : R → List Id) → Rows → Option R → Id → Type 0
+OfRow {R} roles_in rows found role = (row : R) × (found ≡ Some row) × IsImplied rows.implications (roles_in row) role
 
-trust_list : (rows : Rows) (found : Option TrustRow) → AreThese (OfTrust rows found) (trust_roles rows found)
-trust_list rows None = none_left (OfTrust rows None) (λ id of. cc of.1)
-trust_list rows (Some row) =
-    let all = implied_list rows row.roles in
-    record { order = all.order; members = λ id. (λ among. (row, refl, (all.members id).0 among), λ of. (all.members id).1 (by_row rows row of.0 id of.1 of.2)) }
+by_row : {R : Type 0} (roles_in : R → List Id) (rows : Rows) (row other : R) (id : Id) → Some row ≡ Some other → IsImplied rows.implications (roles_in other) id →
+    IsImplied rows.implications (roles_in row) id
+by_row {R} roles_in rows row other id is implied = let same : other ≡ row = cc in subst (λ (r : R). IsImplied rows.implications (roles_in r) id) same implied
 
-same_trust_list : (rows : Rows) (found : Option TrustRow) (ids : List Id) → AreThese (OfTrust rows found) ids → ids ≡ trust_roles rows found
-same_trust_list rows None ids are = no_members (OfTrust rows None) ids are (λ id of. cc of.1)
-same_trust_list rows (Some row) ids are =
-    roles_are_implied rows row.roles ids are.order (λ id. (λ among. let of = (are.members id).0 among in by_row rows row of.0 id of.1 of.2, λ implied. (are.members id).1 (row, refl, implied)))
+row_list : {R : Type 0} (roles_in : R → List Id) (rows : Rows) (row : R) → AreThese (OfRow roles_in rows (Some row)) (closure rows (roles_in row))
+row_list roles_in rows row =
+    let all = implied_list rows (roles_in row) in
+    record {
+      order = all.order;
+      members = λ id. (λ among. (row, refl, (all.members id).0 among), λ of. (all.members id).1 (by_row roles_in rows row of.0 id of.1 of.2));
+    }
+
+same_row_list : {R : Type 0} (roles_in : R → List Id) (rows : Rows) (row : R) (ids : List Id) → AreThese (OfRow roles_in rows (Some row)) ids → ids ≡ closure rows (roles_in row)
+same_row_list roles_in rows row ids are =
+    roles_are_implied rows (roles_in row) ids are.order
+    (λ id. (λ among. let of = (are.members id).0 among in by_row roles_in rows row of.0 id of.1 of.2, λ implied. (are.members id).1 (row, refl, implied)))
+
+no_row : {R : Type 0} (roles_in : R → List Id) (rows : Rows) (id : Id) → OfRow roles_in rows None id → ⊥
+no_row roles_in rows id of = cc of.1
+
+abbrev of_trust : TrustRow → List Id
+of_trust row = row.roles
+
+abbrev of_cred : AppCredRow → List Id
+of_cred row = row.roles
+
+trust_list : (rows : Rows) (found : Option TrustRow) → AreThese (OfRow of_trust rows found) (trust_roles rows found)
+trust_list rows None = none_left (OfRow of_trust rows None) (no_row of_trust rows)
+trust_list rows (Some row) = row_list of_trust rows row
+
+same_trust_list : (rows : Rows) (found : Option TrustRow) (ids : List Id) → AreThese (OfRow of_trust rows found) ids → ids ≡ trust_roles rows found
+same_trust_list rows None ids are = no_members (OfRow of_trust rows None) ids are (no_row of_trust rows)
+same_trust_list rows (Some row) ids are = same_row_list of_trust rows row ids are
+
+cred_list : (rows : Rows) (found : Option AppCredRow) → AreThese (OfRow of_cred rows found) (cred_roles rows found)
+cred_list rows None = none_left (OfRow of_cred rows None) (no_row of_cred rows)
+cred_list rows (Some row) = row_list of_cred rows row
+
+same_cred_list : (rows : Rows) (found : Option AppCredRow) (ids : List Id) → AreThese (OfRow of_cred rows found) ids → ids ≡ cred_roles rows found
+same_cred_list rows None ids are = no_members (OfRow of_cred rows None) ids are (no_row of_cred rows)
+same_cred_list rows (Some row) ids are = same_row_list of_cred rows row ids are
 
 abbrev OfSystem : Rows → Id → Bool → Id → Type 0
 OfSystem rows user system role = (system ≡ true) × Effective rows user target.System role
@@ -126,27 +158,29 @@ same_system_list : (rows : Rows) (user : Id) (system : Bool) (ids : List Id) →
 same_system_list rows user true ids are = roles_are_effective rows user target.System ids are.order (λ id. (λ among. ((are.members id).0 among).1, λ effective. (are.members id).1 (refl, effective)))
 same_system_list rows user false ids are = no_members (OfSystem rows user false) ids are (λ id of. cc of.0)
 
-abbrev scoped_as : Payload → Option Id → Option Id → Option Id → Payload
-scoped_as payload trust project domain = record payload { trust = trust; project = project; domain = domain }
+abbrev scoped_as : Payload → Option Id → Option Id → Option Id → Option Id → Payload
+scoped_as payload trust credential project domain = record payload { trust = trust; credential = credential; project = project; domain = domain }
 
-list_by : (rows : Rows) (payload : Payload) (trust project domain : Option Id) →
-    AreThese (IsRoleBy rows payload trust project domain) (roles_of rows (scoped_as payload trust project domain))
+list_by : (rows : Rows) (payload : Payload) (trust credential project domain : Option Id) →
+    AreThese (IsRoleBy rows payload trust credential project domain) (roles_of rows (scoped_as payload trust credential project domain))
 unfolding roles_of
-list_by rows payload (Some trust) project domain = trust_list rows (trust_of trust rows.trusts)
-list_by rows payload None (Some project) domain = effective_list rows payload.user (target.Project project)
-list_by rows payload None None (Some domain) = effective_list rows payload.user (target.Domain domain)
-list_by rows payload None None None = system_list rows payload.user (is_system payload)
+list_by rows payload (Some trust) credential project domain = trust_list rows (trust_of trust rows.trusts)
+list_by rows payload None (Some credential) project domain = cred_list rows (cred_of credential rows.app_creds)
+list_by rows payload None None (Some project) domain = effective_list rows payload.user (target.Project project)
+list_by rows payload None None None (Some domain) = effective_list rows payload.user (target.Domain domain)
+list_by rows payload None None None None = system_list rows payload.user (is_system payload)
 
-same_by : (rows : Rows) (payload : Payload) (trust project domain : Option Id) (ids : List Id) → AreThese (IsRoleBy rows payload trust project domain) ids →
-    ids ≡ roles_of rows (scoped_as payload trust project domain)
+same_by : (rows : Rows) (payload : Payload) (trust credential project domain : Option Id) (ids : List Id) →
+    AreThese (IsRoleBy rows payload trust credential project domain) ids → ids ≡ roles_of rows (scoped_as payload trust credential project domain)
 unfolding roles_of
-same_by rows payload (Some trust) project domain ids are = same_trust_list rows (trust_of trust rows.trusts) ids are
-same_by rows payload None (Some project) domain ids are = roles_are_effective rows payload.user (target.Project project) ids are.order are.members
-same_by rows payload None None (Some domain) ids are = roles_are_effective rows payload.user (target.Domain domain) ids are.order are.members
-same_by rows payload None None None ids are = same_system_list rows payload.user (is_system payload) ids are
+same_by rows payload (Some trust) credential project domain ids are = same_trust_list rows (trust_of trust rows.trusts) ids are
+same_by rows payload None (Some credential) project domain ids are = same_cred_list rows (cred_of credential rows.app_creds) ids are
+same_by rows payload None None (Some project) domain ids are = roles_are_effective rows payload.user (target.Project project) ids are.order are.members
+same_by rows payload None None None (Some domain) ids are = roles_are_effective rows payload.user (target.Domain domain) ids are.order are.members
+same_by rows payload None None None None ids are = same_system_list rows payload.user (is_system payload) ids are
 
 pub role_list : (rows : Rows) (payload : Payload) → AreThese (IsRole rows payload) (roles_of rows payload)
-role_list rows payload = list_by rows payload payload.trust payload.project payload.domain
+role_list rows payload = list_by rows payload payload.trust payload.credential payload.project payload.domain
 
 pub same_role_list : (rows : Rows) (payload : Payload) (ids : List Id) → AreThese (IsRole rows payload) ids → ids ≡ roles_of rows payload
-same_role_list rows payload ids are = same_by rows payload payload.trust payload.project payload.domain ids are
+same_role_list rows payload ids are = same_by rows payload payload.trust payload.credential payload.project payload.domain ids are

@@ -4,9 +4,11 @@ use Rattle.std.specs.Prelude.{not, nat_le, nat_lt}
 use Rattle.std.specs.List.{AllByRecursion, list_all, list_any}
 use Rattle.std.specs.Option.{option_and_then, option_map_or}
 use Rattle.std.proofs.lemmas.Bool.{and_parts, leb-true, le-leb, ltb-true, lt-ltb}
+use Rattle.ks_base.specs.declared.app_creds.AppCredRow.{AppCredRow}
 use Rattle.ks_base.specs.declared.events.EventRow.{EventRow}
 use Rattle.ks_base.specs.declared.grants.Target.TheVariants as target
 use Rattle.ks_base.specs.declared.trusts.TrustRow.{TrustRow}
+use Rattle.ks_base.specs.AppCreds.{cred_of}
 use Rattle.ks_base.specs.Revocation.{is_revoked, matches}
 use Rattle.ks_base.specs.Rows.{Id, Text, Rows, trust_of}
 use Rattle.ks_base.specs.Tables.{Among}
@@ -22,10 +24,10 @@ use Rattle.ks_machine.specs.declared.why.Why.TheVariants as why
 use Rattle.ks_machine.specs.Attempts.{Attempt, Go, ◌>>=◌, decided, everything, need}
 use Rattle.ks_machine.specs.States.{State, is_user_on}
 use Rattle.ks_machine.specs.TokenLines.{end_of, token_lines}
-use Rattle.ks_machine.specs.Validity.{Valid, are_kept, has_roles, held_lines, holder, is_kept, is_scope_on, is_scoped, is_trust_line, opened, opened_by, opens, roles_of, unless_lacking, validity}
+use Rattle.ks_machine.specs.Validity.{Valid, are_had, are_kept, has_cred_roles, has_roles, held_lines, holder, is_cred_line, is_had, is_kept, is_scope_on, is_scoped, is_trust_line, opened, opened_by, opens, roles_of, unless_lacking, validity}
 use Rattle.ks_machine.proofs.FewFacts.{nothing_lacking}
 use Rattle.ks_machine.proofs.RoleLemmas.{effective-Decides}
-use Rattle.ks_machine.proofs.TokenLemmas.{trust_bound, valid_holds}
+use Rattle.ks_machine.proofs.TokenLemmas.{had_by_cred, implied_is_had, trust_bound, valid_holds}
 use Rattle.ks_payload.specs.declared.payload.Payload.{Payload}
 use Rattle.ks_payload.specs.Readings.{payload_of}
 use Rattle.ks_ring.specs.declared.held_key.HeldKey.{HeldKey}
@@ -96,13 +98,15 @@ both_hold false b first second = first
 has_roles_is : (S : State) (moment : ℕ) (late : Bool) (text : Text) (token : Valid) → validity everything S moment late text ≡ Go token → HasRoles S.rows token.payload token.roles
 has_roles_is S moment late text token goes =
     let holds = valid_holds everything S moment late text token goes in
-    let parts = and_parts _ (are_kept S.rows token.payload) holds.has_roles_of in
+    let parts = and_parts _ (are_kept S.rows token.payload && are_had S.rows token.payload) holds.has_roles_of in
+    let had = (and_parts (are_kept S.rows token.payload) (are_had S.rows token.payload) parts.1).1 in
     let all = subst (AreThese (IsRole S.rows token.payload)) (sym holds.roles) (role_list S.rows token.payload) in
     record {
       order = all.order;
       are = all.members;
       some = λ scoped. let one = some_of (roles_of S.rows token.payload) (is_scoped token.payload) parts.0 scoped in (one.0, ((role_list S.rows token.payload).members one.0).0 one.1);
       kept = λ id trust role named stands is. trust_bound everything S moment late text token id trust role goes named stands ((all.members role).1 is);
+      had = λ id cred role named stands implied. implied_is_had S.rows cred role (had_by_cred S.rows token.payload id cred named stands had) implied;
     }
 
 all_pass : {X : Type 0} (test : X → Bool) (xs : List X) → ((x : X) → Among xs x → test x ≡ true) → list_all test xs ≡ true
@@ -118,19 +122,34 @@ are_kept_of rows payload roles has = by payload.trust refl
     by_row : (id : Id) (row : Option TrustRow) → payload.trust ≡ Some id → trust_of id rows.trusts ≡ row → kept row ≡ true
     by_row id None named stands = refl
     by_row id (Some trust) named stands = all_pass (is_kept rows trust) trust.roles (λ role among.
-        let is : IsRole rows payload role = subst (λ (t : Option Id). IsRoleBy rows payload t payload.project payload.domain role) (sym named) (trust, stands, (role, among, ([], refl))) in
+        let is : IsRole rows payload role = subst (λ (t : Option Id). IsRoleBy rows payload t payload.credential payload.project payload.domain role) (sym named) (trust, stands, (role, among, ([], refl))) in
         (effective-Decides rows (first_trustor rows.trusts trust) (target.Project trust.project) role).1 (has.kept id trust role named stands is))
 
     by : (named : Option Id) → payload.trust ≡ named → are_kept rows payload ≡ true
     by None is = ap (λ (t : Option Id). kept (option_and_then (λ id. trust_of id rows.trusts) t)) is
     by (Some id) is = ap (λ (t : Option Id). kept (option_and_then (λ id. trust_of id rows.trusts) t)) is ∙ by_row id (trust_of id rows.trusts) is refl
 
+are_had_of : (rows : Rows) (payload : Payload) (roles : List Id) → HasRoles rows payload roles → are_had rows payload ≡ true
+are_had_of rows payload roles has = by payload.credential refl
+  where
+    had : Option AppCredRow → Bool
+    had row = option_map_or (has_cred_roles rows) row true
+
+    by_row : (id : Id) (row : Option AppCredRow) → payload.credential ≡ Some id → cred_of id rows.app_creds ≡ row → had row ≡ true
+    by_row id None named stands = refl
+    by_row id (Some cred) named stands = all_pass (is_had rows cred) cred.roles (λ role among.
+        (effective-Decides rows cred.user (target.Project cred.project) role).1 (has.had id cred role named stands (role, among, ([], refl))))
+
+    by : (named : Option Id) → payload.credential ≡ named → are_had rows payload ≡ true
+    by None is = ap (λ (c : Option Id). had (option_and_then (λ id. cred_of id rows.app_creds) c)) is
+    by (Some id) is = ap (λ (c : Option Id). had (option_and_then (λ id. cred_of id rows.app_creds) c)) is ∙ by_row id (cred_of id rows.app_creds) is refl
+
 has_roles_of : (rows : Rows) (payload : Payload) (roles : List Id) → HasRoles rows payload roles → has_roles rows payload ≡ true
 has_roles_of rows payload roles has =
-    both_hold (not (is_scoped payload) || nat_lt 0 (length (roles_of rows payload))) (are_kept rows payload)
+    both_hold (not (is_scoped payload) || nat_lt 0 (length (roles_of rows payload))) (are_kept rows payload && are_had rows payload)
     (or_some (is_scoped payload) (nat_lt 0 (length (roles_of rows payload)))
     (λ scoped. let one = has.some scoped in length_some (roles_of rows payload) one.0 (((role_list rows payload).members one.0).1 one.1)))
-    (are_kept_of rows payload roles has)
+    (both_hold (are_kept rows payload) (are_had rows payload) (are_kept_of rows payload roles has) (are_had_of rows payload roles has))
 
 -- all lines
 
@@ -151,7 +170,8 @@ held_told S moment held token goes =
     let user = behind_need (not (is_revoked S.events (holder S.rows held.payload) held.issued)) why.Revoked _ token goes in
     let scope = behind_need (is_user_on S.rows held.payload.user) why.User _ token user in
     let trust = behind_need (is_scope_on S.rows held.payload) why.Scope _ token scope in
-    let roles = behind_need (is_trust_line S.rows moment held.payload) why.Trust _ token trust in
+    let credential = behind_need (is_trust_line S.rows moment held.payload) why.Trust _ token trust in
+    let roles = behind_need (is_cred_line S.rows moment held.payload) why.Credential _ token credential in
     let last = behind_need (has_roles S.rows held.payload) why.Roles _ token roles in
     cc
 
@@ -190,13 +210,15 @@ valid_is S moment late text token goes =
       user = holds.user;
       scope = holds.scope;
       trust = holds.trust;
+      credential = holds.credential;
       roles = has_roles_is S moment late text token goes;
     }
 
 held_goes : (S : State) (moment : ℕ) (held : ReadToken) → not (is_revoked S.events (holder S.rows held.payload) held.issued) ≡ true → is_user_on S.rows held.payload.user ≡ true
-    → is_scope_on S.rows held.payload ≡ true → is_trust_line S.rows moment held.payload ≡ true → has_roles S.rows held.payload ≡ true → held_lines S moment held ≡ Go (told_of S held)
+    → is_scope_on S.rows held.payload ≡ true → is_trust_line S.rows moment held.payload ≡ true → is_cred_line S.rows moment held.payload ≡ true
+    → has_roles S.rows held.payload ≡ true → held_lines S moment held ≡ Go (told_of S held)
 unfolding held_lines
-held_goes S moment held revoked user scope trust roles = rw (revoked, user, scope, trust, roles) refl
+held_goes S moment held revoked user scope trust credential roles = rw (revoked, user, scope, trust, credential, roles) refl
 
 validity_goes : (S : State) (moment : ℕ) (late : Bool) (text : Text) (answer : OpenAnswer) (held : ReadToken) → opened everything text S.ring.held ≡ answer
     → token_lines S.settings.life moment late answer ≡ Ok held → held_lines S moment held ≡ Go (told_of S held) → validity everything S moment late text ≡ Go (told_of S held)
@@ -211,5 +233,6 @@ valid_goes S moment late text token is =
     (lt-ltb moment (end_of late token.payload.expires) is.unexpired) (le-leb token.payload.expires (token.issued + S.settings.life) is.span) in
     let same = same_role_list S.rows token.payload token.roles (record { order = is.roles.order; members = is.roles.are }) in
     validity_goes S moment late text (Yes token.issued is.plain) held (opened_by_one S.ring.held text token.issued is.plain is.opened) lines
-    (held_goes S moment held (unrevoked_by S.events test (list_any test S.events) refl is.unmatched) is.user is.scope is.trust (has_roles_of S.rows token.payload token.roles is.roles))
+    (held_goes S moment held (unrevoked_by S.events test (list_any test S.events) refl is.unmatched) is.user is.scope is.trust is.credential
+    (has_roles_of S.rows token.payload token.roles is.roles))
     ∙ ap (λ (roles : List Id). Go (record { payload = token.payload; issued = token.issued; roles = roles })) (sym same)

@@ -6,7 +6,7 @@ ghost use Rattle.ks_tokens.specs.Laws.{EndedTokensAreNotFound, EndedTokensStayRe
 
 /// A token that is asked about is told, with its roles, exactly where the caller's text and its own are valid tokens and the
 /// policy allows it: where a held key opens each of them, it is in time, no event of the whole history matches it, and its
-/// user, scope, trust and roles hold.
+/// user, scope, trust, application credential and roles hold.
 pub fn tokens_validate_exactly()
     ensures { TokensValidateExactly }
 {}
