@@ -10,13 +10,17 @@ defaults =
     record { name = codes "default"; text = codes "rule:admin_required" } ∷
     record { name = codes "identity:check_token"; text = codes "rule:admin_required or rule:service_role or rule:token_subject" } ∷
     record { name = codes "identity:check_user_in_group"; text = codes "rule:admin_or_owner" } ∷
+    record { name = codes "identity:create_application_credential"; text = codes "rule:owner" } ∷
     record { name = codes "identity:create_trust"; text = codes "@" } ∷
+    record { name = codes "identity:delete_application_credential"; text = codes "rule:admin_or_owner" } ∷
     record { name = codes "identity:delete_trust"; text = codes "rule:admin_required or user_id:%(target.trust.trustor_user_id)s" } ∷
+    record { name = codes "identity:get_application_credential"; text = codes "rule:admin_or_owner" } ∷
     record { name = codes "identity:get_domain"; text = codes "rule:admin_required or user_domain_id:%(target.domain.id)s" } ∷
     record { name = codes "identity:get_project"; text = codes "rule:admin_required or project_id:%(target.project.id)s" } ∷
     record { name = codes "identity:get_region"; text = codes "@" } ∷
     record { name = codes "identity:get_trust"; text = codes "rule:admin_required or rule:trust_party" } ∷
     record { name = codes "identity:get_user"; text = codes "rule:admin_or_owner" } ∷
+    record { name = codes "identity:list_application_credentials"; text = codes "rule:admin_or_owner" } ∷
     record { name = codes "identity:list_groups_for_user"; text = codes "rule:admin_or_owner" } ∷
     record { name = codes "identity:list_regions"; text = codes "@" } ∷
     record { name = codes "identity:list_revoke_events"; text = codes "rule:admin_required or rule:service_role" } ∷

@@ -8,7 +8,7 @@ pub struct DefaultRule {
 }
 
 /// In the order of the names. A row stands here and in `defaults` of `specs/Defaults.antt`.
-static DEFAULTS: [DefaultRule; 23] = [
+static DEFAULTS: [DefaultRule; 27] = [
     DefaultRule {
         name: "admin_or_owner",
         text: "rule:admin_required or rule:owner",
@@ -30,12 +30,24 @@ static DEFAULTS: [DefaultRule; 23] = [
         text: "rule:admin_or_owner",
     },
     DefaultRule {
+        name: "identity:create_application_credential",
+        text: "rule:owner",
+    },
+    DefaultRule {
         name: "identity:create_trust",
         text: "@",
     },
     DefaultRule {
+        name: "identity:delete_application_credential",
+        text: "rule:admin_or_owner",
+    },
+    DefaultRule {
         name: "identity:delete_trust",
         text: "rule:admin_required or user_id:%(target.trust.trustor_user_id)s",
+    },
+    DefaultRule {
+        name: "identity:get_application_credential",
+        text: "rule:admin_or_owner",
     },
     DefaultRule {
         name: "identity:get_domain",
@@ -55,6 +67,10 @@ static DEFAULTS: [DefaultRule; 23] = [
     },
     DefaultRule {
         name: "identity:get_user",
+        text: "rule:admin_or_owner",
+    },
+    DefaultRule {
+        name: "identity:list_application_credentials",
         text: "rule:admin_or_owner",
     },
     DefaultRule {

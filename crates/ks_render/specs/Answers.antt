@@ -38,6 +38,9 @@ status_of_granted (body_out.TrustRoles roles path) = 200
 status_of_granted (body_out.Events events path) = 200
 status_of_granted (body_out.Keys held primary) = 200
 status_of_granted (body_out.Catalog services path) = 200
+status_of_granted (body_out.AppCredMade cred roles secret) = 201
+status_of_granted (body_out.AppCreds rows path) = 200
+status_of_granted (body_out.Secrets rows path) = 200
 
 abbrev pub status_of : Reply → ℕ
 status_of (reply.Ok granted) = status_of_granted granted
@@ -69,6 +72,9 @@ granted_fields (body_out.TrustRoles roles path) = body_fields
 granted_fields (body_out.Events events path) = body_fields
 granted_fields (body_out.Keys held primary) = body_fields
 granted_fields (body_out.Catalog services path) = body_fields
+granted_fields (body_out.AppCredMade cred roles secret) = body_fields
+granted_fields (body_out.AppCreds rows path) = body_fields
+granted_fields (body_out.Secrets rows path) = body_fields
 
 abbrev pub first_fields : Reply → List Named
 first_fields (reply.Ok granted) = granted_fields granted
@@ -138,6 +144,9 @@ told_fields (body_out.TrustRoles roles path) = []
 told_fields (body_out.Events events path) = []
 told_fields (body_out.Keys held primary) = []
 told_fields (body_out.Catalog services path) = []
+told_fields (body_out.AppCredMade cred roles secret) = []
+told_fields (body_out.AppCreds rows path) = []
+told_fields (body_out.Secrets rows path) = []
 
 abbrev pub own_fields : Reply → List ℕ → List Named
 own_fields (reply.Ok granted) url = told_fields granted

@@ -10,6 +10,7 @@ use Rattle.ks_machine.specs.declared.body_out.BodyOut.TheVariants as body_out
 use Rattle.ks_machine.specs.declared.reply.Reply.{Reply}
 use Rattle.ks_machine.specs.declared.reply.Reply.TheVariants as reply
 use Rattle.ks_render.specs.Catalog.{service_told}
+use Rattle.ks_render.specs.Credentials.{app_cred_made}
 use Rattle.ks_render.specs.Errors.{refused_body}
 use Rattle.ks_render.specs.Events.{event_value}
 use Rattle.ks_render.specs.Grants.{assignment_value}
@@ -35,6 +36,9 @@ granted_body (body_out.TrustRoles roles path) url = Some (links_then_rows (codes
 granted_body (body_out.Events events path) url = Some (rows_then_links (codes "events") (map event_value events) url path)
 granted_body (body_out.Keys held primary) url = Some (keys_body held primary)
 granted_body (body_out.Catalog services path) url = Some (rows_then_links (codes "catalog") (map service_told services) url path)
+granted_body (body_out.AppCredMade cred roles secret) url = Some (app_cred_made url cred roles secret)
+granted_body (body_out.AppCreds rows path) url = Some (rows_then_links (codes "application_credentials") (map (row_value url) rows) url path)
+granted_body (body_out.Secrets rows path) url = Some (rows_then_links (codes "credentials") (map (row_value url) rows) url path)
 
 abbrev pub body_of : Reply → List ℕ → Option Data
 body_of (reply.Ok granted) url = granted_body granted url

@@ -1,6 +1,8 @@
--- A token and a catalog whose bodies are known byte for byte.
+-- A token, a catalog and credentials whose bodies are known byte for byte.
 use Rattle.std.specs.Prelude.{ℕ, List, [], ◌∷◌, Some, None, true, false, codes}
+use Rattle.ks_base.specs.declared.app_creds.AppCredRow.{AppCredRow}
 use Rattle.ks_base.specs.declared.catalog.Interface.TheVariants as interface
+use Rattle.ks_base.specs.declared.factors.SecretRow.{SecretRow}
 use Rattle.ks_catalog.specs.declared.offers.EndpointOut.{EndpointOut}
 use Rattle.ks_catalog.specs.declared.offers.ServiceOut.{ServiceOut}
 use Rattle.ks_machine.specs.declared.body_out.Titled.{Titled}
@@ -42,3 +44,28 @@ plain_endpoint = record {
 -- a service with one endpoint, without a region
 abbrev pub plain_catalog : List ServiceOut
 plain_catalog = record { id = codes "50000000000000000000000000000001"; kind = codes "compute"; name = codes "nova"; endpoints = plain_endpoint ∷ [] } ∷ []
+
+-- an application credential with one role
+abbrev pub plain_cred : AppCredRow
+plain_cred = record {
+  id = codes "c0000000000000000000000000000001";
+  user = codes "00112233445566778899aabbccddeeff";
+  project = codes "a0000000000000000000000000000001";
+  name = codes "backup";
+  description = codes "each night";
+  roles = codes "b0000000000000000000000000000001" ∷ [];
+  secret = record { salt = []; rounds = 0; digest = [] };
+  expires = Some 499_166_400;
+  unrestricted = false;
+}
+
+abbrev pub plain_roles : List Titled
+plain_roles = titled (codes "b0000000000000000000000000000001") (codes "member") ∷ []
+
+-- the secret of RFC 4226, appendix D
+abbrev pub plain_secret : SecretRow
+plain_secret = record {
+  id = codes "d0000000000000000000000000000001";
+  user = codes "00112233445566778899aabbccddeeff";
+  secret = codes "12345678901234567890";
+}

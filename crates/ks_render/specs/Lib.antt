@@ -5,6 +5,7 @@ pub mod Versions
 pub mod Named
 pub mod Tokens
 pub mod Catalog
+pub mod Credentials
 pub mod Rows
 pub mod Grants
 pub mod Events

@@ -39,6 +39,8 @@ many_body kind.Event rows url path = rows_then_links (codes "events") rows url p
 many_body kind.Region rows url path = links_then_rows (codes "regions") rows url path
 many_body kind.Service rows url path = links_then_rows (codes "services") rows url path
 many_body kind.Endpoint rows url path = rows_then_links (codes "endpoints") rows url path
+many_body kind.AppCred rows url path = rows_then_links (codes "application_credentials") rows url path
+many_body kind.Secret rows url path = rows_then_links (codes "credentials") rows url path
 
 -- {"role_inference": {"implies": .., "prior_role": ..}}
 unfoldable pub inference_body : Data → Titled → Data

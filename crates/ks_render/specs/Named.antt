@@ -25,6 +25,10 @@ homed_value homed =
     ∷ (codes "id", string homed.id)
     ∷ (codes "name", string homed.name) ∷ [])
 
--- {"self": URL, PLACE and ID}: where an object stands
+-- {"self": LINK}: where an object stands
+unfoldable pub link_value : List ℕ → Data
+link_value link = object_of ((codes "self", string link) ∷ [])
+
+-- the link is of the URL, PLACE and ID
 unfoldable pub self_value : List ℕ → List ℕ → List ℕ → Data
-self_value url place id = object_of ((codes "self", string (url ++ (place ++ id))) ∷ [])
+self_value url place id = link_value (url ++ (place ++ id))

@@ -1,5 +1,5 @@
 -- What is told of rows.
-use Rattle.std.specs.Prelude.{ℕ, false, List, [], ◌∷◌, codes}
+use Rattle.std.specs.Prelude.{ℕ, false, List, [], ◌∷◌, None, codes}
 use Rattle.serde_json.specs.Data.{Data, null, boolean, number, unsigned, string}
 use Rattle.ks_base.specs.declared.rows.DomainRow.{DomainRow}
 use Rattle.ks_base.specs.declared.rows.GroupRow.{GroupRow}
@@ -10,9 +10,9 @@ use Rattle.ks_base.specs.declared.users.UserRow.{UserRow}
 use Rattle.ks_machine.specs.declared.body_out.Row.{Row}
 use Rattle.ks_machine.specs.declared.body_out.Row.TheVariants as rows
 use Rattle.ks_machine.specs.declared.body_out.Titled.{Titled}
-use Rattle.ks_time.specs.TimeTexts.{time_text}
 use Rattle.ks_render.specs.Catalog.{endpoint_value, region_value, service_value}
-use Rattle.ks_render.specs.Values.{object_of, or_null}
+use Rattle.ks_render.specs.Credentials.{app_cred_value, secret_value}
+use Rattle.ks_render.specs.Values.{moment_value, object_of, or_null}
 use Rattle.ks_render.specs.Named.{self_value, titles_value}
 
 unfoldable pub domain_value : List ℕ → DomainRow → Data
@@ -67,10 +67,6 @@ role_value url row =
     ∷ (codes "links", self_value url (codes "/v3/roles/") row.id)
     ∷ (codes "name", string row.name) ∷ [])
 
--- the text of a moment
-abbrev pub moment_value : ℕ → Data
-moment_value moment = string (time_text moment)
-
 abbrev pub count_value : ℕ → Data
 count_value count = number (unsigned count)
 
@@ -102,6 +98,8 @@ row_value url (rows.Trust trust roles) = trust_value url trust roles
 row_value url (rows.Region region) = region_value url region
 row_value url (rows.Service service) = service_value url service
 row_value url (rows.Endpoint endpoint) = endpoint_value url endpoint
+row_value url (rows.AppCred cred roles) = app_cred_value url cred roles None
+row_value url (rows.Secret secret) = secret_value url secret
 
 -- the name of a row that is told alone
 unfoldable pub row_name : Row → List ℕ
@@ -114,6 +112,8 @@ row_name (rows.Trust trust roles) = codes "trust"
 row_name (rows.Region region) = codes "region"
 row_name (rows.Service service) = codes "service"
 row_name (rows.Endpoint endpoint) = codes "endpoint"
+row_name (rows.AppCred cred roles) = codes "application_credential"
+row_name (rows.Secret secret) = codes "credential"
 
 -- {KIND: ..}
 unfoldable pub one_body : List ℕ → Row → Data

@@ -1,6 +1,7 @@
 -- Values of JSON made of their parts.
 use Rattle.std.specs.Prelude.{ℕ, List, [], ◌∷◌, Option, Some, None}
-use Rattle.serde_json.specs.Data.{Data, null, array, object, Items, no_items, item, Members, no_members, member}
+use Rattle.serde_json.specs.Data.{Data, null, array, object, string, Items, no_items, item, Members, no_members, member}
+use Rattle.ks_time.specs.TimeTexts.{time_text}
 
 -- a value under its name in an object
 abbrev pub Entry : Type 0
@@ -31,3 +32,7 @@ entry_of name told (Some x) = (name, told x) ∷ []
 abbrev pub or_null : {A : Type 0} → (A → Data) → Option A → Data
 or_null told None = null
 or_null told (Some x) = told x
+
+-- the text of a moment
+abbrev pub moment_value : ℕ → Data
+moment_value moment = string (time_text moment)

@@ -6,6 +6,7 @@ ghost use Rattle.ks_render.specs.Bodies.{body_of, granted_body, text_of, tokens_
 ghost use Rattle.ks_render.specs.Errors.{bad_body};
 ghost use Rattle.ks_render.specs.steps.Writing.{Lists};
 
+use crate::credentials::write_app_cred_made;
 use crate::errors::{write_bad, write_refused};
 use crate::listings::{
     write_inference, write_inferences, write_keys, write_links_then_rows, write_many,
@@ -70,6 +71,9 @@ fn granted_room(granted: &BodyOut) -> usize {
         BodyOut::Events(events, _) => room_for(events.as_slice().len()),
         BodyOut::Keys(_, _) => ROOM,
         BodyOut::Catalog(services, _) => room_for(catalog_size(services)),
+        BodyOut::AppCredMade(_, roles, _) => room_for(roles.as_slice().len()),
+        BodyOut::AppCreds(rows, _) => room_for(rows.as_slice().len()),
+        BodyOut::Secrets(rows, _) => room_for(rows.as_slice().len()),
     }
 }
 
@@ -116,6 +120,15 @@ fn write_granted(
         BodyOut::Keys(held, primary) => write_keys(out, held, *primary, url, link),
         BodyOut::Catalog(services, path) => {
             write_rows_then_links(out, "catalog", services, url, path, link)
+        }
+        BodyOut::AppCredMade(cred, roles, secret) => {
+            write_app_cred_made(out, cred, roles, secret, url, link)
+        }
+        BodyOut::AppCreds(rows, path) => {
+            write_rows_then_links(out, "application_credentials", rows, url, path, link)
+        }
+        BodyOut::Secrets(rows, path) => {
+            write_rows_then_links(out, "credentials", rows, url, path, link)
         }
     }
 }

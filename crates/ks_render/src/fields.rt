@@ -80,6 +80,9 @@ fn granted_fields(alloc: Global, granted: &BodyOut) -> Result<FieldList, Memory>
         BodyOut::Events(_, _) => body_fields(alloc),
         BodyOut::Keys(_, _) => body_fields(alloc),
         BodyOut::Catalog(_, _) => body_fields(alloc),
+        BodyOut::AppCredMade(_, _, _) => body_fields(alloc),
+        BodyOut::AppCreds(_, _) => body_fields(alloc),
+        BodyOut::Secrets(_, _) => body_fields(alloc),
     }
 }
 
@@ -186,6 +189,9 @@ fn push_told(fields: &mut FieldList, alloc: Global, granted: &BodyOut) -> Result
         BodyOut::Events(_, _) => Ok(()),
         BodyOut::Keys(_, _) => Ok(()),
         BodyOut::Catalog(_, _) => Ok(()),
+        BodyOut::AppCredMade(_, _, _) => Ok(()),
+        BodyOut::AppCreds(_, _) => Ok(()),
+        BodyOut::Secrets(_, _) => Ok(()),
     }
 }
 

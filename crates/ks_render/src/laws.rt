@@ -5,9 +5,12 @@ ghost use Rattle.ks_http.specs.Responses.{head_of, content, memory_response};
 ghost use Rattle.ks_machine.specs.declared.reply.Reply.{Reply as AnyReply};
 ghost use Rattle.ks_machine.specs.declared.reply.Reply.TheVariants.{Refused};
 ghost use Rattle.ks_machine.specs.declared.cause.Cause.TheVariants.{Credentials, Memory};
+ghost use Rattle.ks_machine.specs.declared.body_out.Row.TheVariants.{AppCred, Secret};
 ghost use Rattle.ks_render.specs.Catalog.{services_told};
+ghost use Rattle.ks_render.specs.Credentials.{app_cred_made};
 ghost use Rattle.ks_render.specs.Errors.{refused_body};
-ghost use Rattle.ks_render.specs.Examples.{plain_catalog, plain_login};
+ghost use Rattle.ks_render.specs.Examples.{plain_catalog, plain_cred, plain_login, plain_roles, plain_secret};
+ghost use Rattle.ks_render.specs.Rows.{one_body};
 ghost use Rattle.ks_render.specs.Tokens.{token_body};
 ghost use Rattle.ks_render.specs.Versions.{version_body};
 ghost use Rattle.ks_render.specs.Answers.{response_of, wire};
@@ -37,6 +40,20 @@ pub fn token_document()
 pub fn catalog_document()
     ensures { compact_text (services_told plain_catalog)
         ≡ codes "[{\"endpoints\":[{\"id\":\"e0000000000000000000000000000001\",\"interface\":\"public\",\"region\":null,\"region_id\":null,\"url\":\"http://c:8774/a0000000000000000000000000000001\"}],\"id\":\"50000000000000000000000000000001\",\"name\":\"nova\",\"type\":\"compute\"}]" }
+{}
+
+/// An application credential, byte for byte: the reply that makes it tells its secret, and each later one all but that.
+pub fn app_cred_document()
+    ensures made { compact_text (app_cred_made (codes "http://127.0.0.1:5000") plain_cred plain_roles (codes "s3cret"))
+        ≡ codes "{\"application_credential\":{\"description\":\"each night\",\"expires_at\":\"1985-10-26T09:20:00.000000Z\",\"id\":\"c0000000000000000000000000000001\",\"links\":{\"self\":\"http://127.0.0.1:5000/v3/users/00112233445566778899aabbccddeeff/application_credentials/c0000000000000000000000000000001\"},\"name\":\"backup\",\"project_id\":\"a0000000000000000000000000000001\",\"roles\":[{\"id\":\"b0000000000000000000000000000001\",\"name\":\"member\"}],\"secret\":\"s3cret\",\"unrestricted\":false,\"user_id\":\"00112233445566778899aabbccddeeff\"}}" }
+    ensures shown { compact_text (one_body (codes "http://127.0.0.1:5000") (AppCred plain_cred plain_roles))
+        ≡ codes "{\"application_credential\":{\"description\":\"each night\",\"expires_at\":\"1985-10-26T09:20:00.000000Z\",\"id\":\"c0000000000000000000000000000001\",\"links\":{\"self\":\"http://127.0.0.1:5000/v3/users/00112233445566778899aabbccddeeff/application_credentials/c0000000000000000000000000000001\"},\"name\":\"backup\",\"project_id\":\"a0000000000000000000000000000001\",\"roles\":[{\"id\":\"b0000000000000000000000000000001\",\"name\":\"member\"}],\"unrestricted\":false,\"user_id\":\"00112233445566778899aabbccddeeff\"}}" }
+{}
+
+/// A secret of one-time codes, byte for byte.
+pub fn secret_document()
+    ensures { compact_text (one_body (codes "http://127.0.0.1:5000") (Secret plain_secret))
+        ≡ codes "{\"credential\":{\"blob\":\"GEZDGNBVGY3TQOJQGEZDGNBVGY3TQOJQ\",\"id\":\"d0000000000000000000000000000001\",\"links\":{\"self\":\"http://127.0.0.1:5000/v3/credentials/d0000000000000000000000000000001\"},\"project_id\":null,\"type\":\"totp\",\"user_id\":\"00112233445566778899aabbccddeeff\"}}" }
 {}
 
 /// Want of memory is told in one way, by the reply and where there is no memory for any response.

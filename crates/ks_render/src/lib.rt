@@ -3,6 +3,7 @@
 
 mod bodies;
 mod catalog;
+mod credentials;
 mod errors;
 mod events;
 mod fields;
@@ -20,8 +21,8 @@ mod version;
 mod writing;
 
 pub use laws::{
-    catalog_document, head_has_no_body, memory_ends_the_connection, token_document,
-    unauthorized_document, version_document,
+    app_cred_document, catalog_document, head_has_no_body, memory_ends_the_connection,
+    secret_document, token_document, unauthorized_document, version_document,
 };
 pub use names::{keys_name, kind_name, tree_name, trust_name};
 pub use responses::{render, render_bad};

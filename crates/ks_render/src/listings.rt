@@ -118,6 +118,10 @@ pub fn write_many(
         Kind::Region => write_links_then_rows(out, "regions", rows, url, path, link),
         Kind::Service => write_links_then_rows(out, "services", rows, url, path, link),
         Kind::Endpoint => write_rows_then_links(out, "endpoints", rows, url, path, link),
+        Kind::AppCred => {
+            write_rows_then_links(out, "application_credentials", rows, url, path, link)
+        }
+        Kind::Secret => write_rows_then_links(out, "credentials", rows, url, path, link),
     }
 }
 

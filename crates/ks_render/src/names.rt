@@ -22,6 +22,8 @@ pub fn kind_name(kind: Kind) -> &'static str
         Kind::Region => "region",
         Kind::Service => "service",
         Kind::Endpoint => "endpoint",
+        Kind::AppCred => "appcred",
+        Kind::Secret => "secret",
     }
 }
 

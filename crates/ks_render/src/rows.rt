@@ -5,6 +5,7 @@ ghost use Rattle.ks_render.specs.Rows.{domain_value, group_value, one_body, proj
 ghost use Rattle.ks_render.specs.steps.Writing.{Enters, Tells};
 
 use crate::catalog::{write_endpoint, write_region, write_service};
+use crate::credentials::{write_app_cred, write_secret};
 use crate::named::write_titles;
 use crate::tell::Tell;
 use crate::writing::{
@@ -147,6 +148,8 @@ fn write_row(out: &mut Writer, row: &Row, url: &Text, link: &mut String) -> Resu
         Row::Region(row) => write_region(out, row, url, link),
         Row::Service(row) => write_service(out, row, url, link),
         Row::Endpoint(row) => write_endpoint(out, row, url, link),
+        Row::AppCred(row, roles) => write_app_cred(out, row, roles, None, url, link),
+        Row::Secret(row) => write_secret(out, row, url, link),
     }
 }
 
@@ -165,6 +168,8 @@ fn row_name(row: &Row) -> &'static str
         Row::Region(_) => "region",
         Row::Service(_) => "service",
         Row::Endpoint(_) => "endpoint",
+        Row::AppCred(_, _) => "application_credential",
+        Row::Secret(_) => "credential",
     }
 }
 

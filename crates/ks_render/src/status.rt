@@ -31,6 +31,9 @@ fn status_of_granted(granted: &BodyOut) -> u16
         BodyOut::Events(_, _) => 200,
         BodyOut::Keys(_, _) => 200,
         BodyOut::Catalog(_, _) => 200,
+        BodyOut::AppCredMade(_, _, _) => 201,
+        BodyOut::AppCreds(_, _) => 200,
+        BodyOut::Secrets(_, _) => 200,
     }
 }
 

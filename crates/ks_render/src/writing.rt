@@ -1,11 +1,12 @@
 //! The entries of objects.
 ghost use Rattle.std.specs.Prelude.{◌≡◌, ◌≤◌, [], ◌∷◌, ◌++◌, codes, IfSome, OnOk, string_bytes};
+ghost use Rattle.std.specs.Option.{option_copied};
 ghost use Rattle.serde_json.specs.Data.{boolean, null, number, string, unsigned};
 ghost use Rattle.ks_time.specs.TimeTexts.{time_text};
 ghost use Rattle.ks_machine.specs.Ranges.{IsExpiry};
-ghost use Rattle.ks_render.specs.Values.{or_null};
-ghost use Rattle.ks_render.specs.Named.{id_value, self_value};
-ghost use Rattle.ks_render.specs.Rows.{count_value, moment_value};
+ghost use Rattle.ks_render.specs.Values.{entry_of, moment_value, or_null};
+ghost use Rattle.ks_render.specs.Named.{id_value, link_value, self_value};
+ghost use Rattle.ks_render.specs.Rows.{count_value};
 ghost use Rattle.ks_render.specs.steps.Writing.{Enters, Tells};
 
 use json::Writer;
@@ -39,6 +40,16 @@ pub fn write_text(out: &mut Writer, name: &str, text: &Text) -> Result<(), Alloc
     ensures { OnOk result (Enters out.old out.new ((name.now, string text.now) ∷ [])) }
 {
     write_str(out, name, text.as_str())
+}
+
+/// Writes a text, if there is one.
+pub fn write_given(out: &mut Writer, name: &str, text: Option<&Text>) -> Result<(), AllocError>
+    ensures { OnOk result (Enters out.old out.new (entry_of name.now string (option_copied text.entry))) }
+{
+    match text {
+        Some(text) => write_text(out, name, text),
+        None => Ok(()),
+    }
 }
 
 pub fn write_id(out: &mut Writer, name: &str, id: &Id) -> Result<(), AllocError>
@@ -132,6 +143,16 @@ fn make_link(link: &mut String, url: &Text, place: &str, id: &Id) -> Result<(), 
     push_id(link, id)
 }
 
+/// Writes a link under the name `links`.
+pub fn write_link(out: &mut Writer, link: &str) -> Result<(), AllocError>
+    ensures { OnOk result (Enters out.old out.new ((codes "links", link_value link.now) ∷ [])) }
+{
+    out.key("links")?;
+    out.begin_object()?;
+    write_str(out, "self", link)?;
+    out.end_object()
+}
+
 /// Writes under the name `links` where an object stands.
 pub fn write_self(
     out: &mut Writer,
@@ -143,8 +164,5 @@ pub fn write_self(
     ensures { OnOk result (Enters out.old out.new ((codes "links", self_value url.now place.now id.now) ∷ [])) }
 {
     make_link(link, url, place, id)?;
-    out.key("links")?;
-    out.begin_object()?;
-    write_str(out, "self", link.as_str())?;
-    out.end_object()
+    write_link(out, link.as_str())
 }

@@ -18,7 +18,7 @@ use Rattle.ks_routes.specs.declared.action.Action.{Action}
 use Rattle.ks_routes.specs.declared.action.Action.TheVariants as action
 use Rattle.ks_routes.specs.declared.routed.Routed.{Routed}
 use Rattle.ks_routes.specs.declared.routed.Routed.TheVariants as routed
-use Rattle.ks_routes.specs.Asked.{asked, catalog_by, grant_in, grants_in, id_at, implication_in, kind_of, login_by, made_by, member_in, over, password_by, read_by, token_lacking, trust_by, unless_lacking, with_id}
+use Rattle.ks_routes.specs.Asked.{app_cred_by, asked, catalog_by, grant_in, grants_in, id_at, implication_in, kind_of, login_by, made_by, member_in, over, pair_in, password_by, read_by, secret_by, token_lacking, trust_by, unless_lacking, with_id}
 use Rattle.ks_routes.specs.Queries.{allows_expired, assignment_filters, filter_in}
 
 abbrev pub is_own : Routed → Bool
@@ -55,24 +55,48 @@ own_login (body.Login login) = refl
 own_login (body.Made made) = refl
 own_login (body.Password original password) = refl
 own_login (body.Trust trust) = refl
+own_login (body.AppCred cred) = refl
+own_login (body.Secret secret) = refl
 
 own_made : (asks : Made → Command) (b : BodyIn) → is_own (made_by asks b) ≡ true
 own_made asks (body.Login login) = refl
 own_made asks (body.Made made) = refl
 own_made asks (body.Password original password) = refl
 own_made asks (body.Trust trust) = refl
+own_made asks (body.AppCred cred) = refl
+own_made asks (body.Secret secret) = refl
 
 own_password : (user : Id) (b : BodyIn) → is_own (password_by user b) ≡ true
 own_password user (body.Login login) = refl
 own_password user (body.Made made) = refl
 own_password user (body.Password original password) = refl
 own_password user (body.Trust trust) = refl
+own_password user (body.AppCred cred) = refl
+own_password user (body.Secret secret) = refl
 
 own_trust : (b : BodyIn) → is_own (trust_by b) ≡ true
 own_trust (body.Login login) = refl
 own_trust (body.Made made) = refl
 own_trust (body.Password original password) = refl
 own_trust (body.Trust trust) = refl
+own_trust (body.AppCred cred) = refl
+own_trust (body.Secret secret) = refl
+
+own_app_cred : (user : Id) (b : BodyIn) → is_own (app_cred_by user b) ≡ true
+own_app_cred user (body.Login login) = refl
+own_app_cred user (body.Made made) = refl
+own_app_cred user (body.Password original password) = refl
+own_app_cred user (body.Trust trust) = refl
+own_app_cred user (body.AppCred cred) = refl
+own_app_cred user (body.Secret secret) = refl
+
+own_secret : (b : BodyIn) → is_own (secret_by b) ≡ true
+own_secret (body.Login login) = refl
+own_secret (body.Made made) = refl
+own_secret (body.Password original password) = refl
+own_secret (body.Trust trust) = refl
+own_secret (body.AppCred cred) = refl
+own_secret (body.Secret secret) = refl
 
 own_catalog : (asks : CatalogIn → Command) (row : CatalogIn) → is_own (catalog_by asks row) ≡ true
 own_catalog asks row = refl
@@ -127,3 +151,13 @@ asked_own (action.UpdateCatalog kind) ids request =
     (λ a. own_read (catalog_by (λ row. command.UpdateCatalog a row)) (catalog_body_of kind false request.body) (own_catalog (λ row. command.UpdateCatalog a row)))
 asked_own (action.DeleteCatalog kind) ids request = own_over (id_at ids 0) (λ a. command.DeleteCatalog kind a)
 asked_own action.ShowCatalog ids request = refl
+asked_own action.CreateAppCred ids request =
+    own_with (id_at ids 0) (λ user. read_by (app_cred_by user) (body_of form.AppCred request.body))
+    (λ user. own_read (app_cred_by user) (body_of form.AppCred request.body) (own_app_cred user))
+asked_own action.ListAppCreds ids request = own_over (id_at ids 0) (λ user. command.ListAppCreds user)
+asked_own action.GetAppCred ids request = own_over (pair_in ids) (λ pair. command.GetAppCred pair.0 pair.1)
+asked_own action.DeleteAppCred ids request = own_over (pair_in ids) (λ pair. command.DeleteAppCred pair.0 pair.1)
+asked_own action.CreateSecret ids request = own_read secret_by (body_of form.Secret request.body) own_secret
+asked_own action.ListSecrets ids request = refl
+asked_own action.GetSecret ids request = own_over (id_at ids 0) (λ a. command.GetSecret a)
+asked_own action.DeleteSecret ids request = own_over (id_at ids 0) (λ a. command.DeleteSecret a)

@@ -30,7 +30,7 @@ use Rattle.ks_routes.specs.declared.action.RowKind.TheVariants as row_kind
 use Rattle.ks_routes.specs.declared.action.TargetKind.{TargetKind}
 use Rattle.ks_routes.specs.declared.action.TargetKind.TheVariants as target_kind
 use Rattle.ks_routes.specs.declared.routed.Routed.{Routed}
-use Rattle.ks_routes.specs.Asked.{actor_of, asked, both, catalog_by, grant_in, grants_in, id_at, ids_in, implication_in, kind_of, login_by, made_by, member_in, password_by, read_by, target_ids, target_of, token_lacking, trust_by}
+use Rattle.ks_routes.specs.Asked.{actor_of, app_cred_by, asked, both, catalog_by, grant_in, grants_in, id_at, ids_in, implication_in, kind_of, login_by, made_by, member_in, pair_in, password_by, read_by, secret_by, target_ids, target_of, token_lacking, trust_by}
 use Rattle.ks_routes.specs.Patterns.{segments}
 use Rattle.ks_routes.specs.Queries.{allows_expired, assignment_filters, filter_in}
 use Rattle.ks_routes.specs.Ranges.{CommandsAreInRange}
@@ -55,6 +55,8 @@ login_in (body.Login login) is = is
 login_in (body.Made made) is = tt
 login_in (body.Password original password) is = tt
 login_in (body.Trust trust) is = tt
+login_in (body.AppCred cred) is = tt
+login_in (body.Secret secret) is = tt
 
 made_in : (asks : Made → Command) (k : RowKind) (new : Bool) → ((made : Made) → IsMade new made → AreFields (asks made))
     → (b : BodyIn) → IsBodyFor (form.Made (kind_of k) new) b → IsInRange (made_by asks b)
@@ -62,18 +64,40 @@ made_in asks k new on (body.Made made) is = on made is.1
 made_in asks k new on (body.Login login) is = tt
 made_in asks k new on (body.Password original password) is = tt
 made_in asks k new on (body.Trust trust) is = tt
+made_in asks k new on (body.AppCred cred) is = tt
+made_in asks k new on (body.Secret secret) is = tt
 
 password_in : (user : Id) (b : BodyIn) → IsBodyFor form.Password b → IsInRange (password_by user b)
 password_in user (body.Password original password) is = is
 password_in user (body.Login login) is = tt
 password_in user (body.Made made) is = tt
 password_in user (body.Trust trust) is = tt
+password_in user (body.AppCred cred) is = tt
+password_in user (body.Secret secret) is = tt
 
 trust_in : (b : BodyIn) → IsBodyFor form.Trust b → IsInRange (trust_by b)
 trust_in (body.Trust trust) is = is
 trust_in (body.Login login) is = tt
 trust_in (body.Made made) is = tt
 trust_in (body.Password original password) is = tt
+trust_in (body.AppCred cred) is = tt
+trust_in (body.Secret secret) is = tt
+
+app_cred_in : (user : Id) (b : BodyIn) → IsBodyFor form.AppCred b → IsInRange (app_cred_by user b)
+app_cred_in user (body.AppCred cred) is = is
+app_cred_in user (body.Login login) is = tt
+app_cred_in user (body.Made made) is = tt
+app_cred_in user (body.Password original password) is = tt
+app_cred_in user (body.Trust trust) is = tt
+app_cred_in user (body.Secret secret) is = tt
+
+secret_in : (b : BodyIn) → IsBodyFor form.Secret b → IsInRange (secret_by b)
+secret_in (body.Secret secret) is = is
+secret_in (body.Login login) is = tt
+secret_in (body.Made made) is = tt
+secret_in (body.Password original password) is = tt
+secret_in (body.Trust trust) is = tt
+secret_in (body.AppCred cred) is = tt
 
 -- the row is of the kind that it names
 named_kind : (kind : CatalogKind) (new : Bool) (row : CatalogIn) → IsCatalogFor kind new row → IsCatalogBody new row.of row
@@ -197,6 +221,15 @@ asked_in (action.UpdateCatalog kind) ids request is =
     catalog_in (λ row. command.UpdateCatalog a row) kind false (λ row are. are) request.body (catalog_body_of kind false request.body) refl)
 asked_in (action.DeleteCatalog kind) ids request is = plain_holds AreFields (id_at ids 0) (λ a. command.DeleteCatalog kind a) (λ a. tt)
 asked_in action.ShowCatalog ids request is = tt
+asked_in action.CreateAppCred ids request is =
+    with_holds AreFields (id_at ids 0) _ (λ user. read_in (app_cred_by user) form.AppCred request.body (body_of form.AppCred request.body) refl (app_cred_in user))
+asked_in action.ListAppCreds ids request is = plain_holds AreFields (id_at ids 0) (λ user. command.ListAppCreds user) (λ user. tt)
+asked_in action.GetAppCred ids request is = plain_holds AreFields (pair_in ids) (λ pair. command.GetAppCred pair.0 pair.1) (λ pair. tt)
+asked_in action.DeleteAppCred ids request is = plain_holds AreFields (pair_in ids) (λ pair. command.DeleteAppCred pair.0 pair.1) (λ pair. tt)
+asked_in action.CreateSecret ids request is = read_in secret_by form.Secret request.body (body_of form.Secret request.body) refl secret_in
+asked_in action.ListSecrets ids request is = tt
+asked_in action.GetSecret ids request is = plain_holds AreFields (id_at ids 0) (λ a. command.GetSecret a) (λ a. tt)
+asked_in action.DeleteSecret ids request is = plain_holds AreFields (id_at ids 0) (λ a. command.DeleteSecret a) (λ a. tt)
 
 -- the rows of the table
 

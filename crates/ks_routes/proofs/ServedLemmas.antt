@@ -11,18 +11,22 @@ use Rattle.ks_base.specs.Rows.{Id, Text}
 use Rattle.ks_base.specs.Ids.{is_id}
 use Rattle.ks_base.specs.Results.{◌>>=◌}
 use Rattle.ks_http.specs.declared.request.Request.{Request}
+use Rattle.ks_machine.specs.declared.bodies.AppCredBody.{AppCredBody}
 use Rattle.ks_machine.specs.declared.bodies.LoginBody.{LoginBody}
 use Rattle.ks_machine.specs.declared.bodies.Made.{Made}
+use Rattle.ks_machine.specs.declared.bodies.SecretBody.{SecretBody}
 use Rattle.ks_machine.specs.declared.bodies.TrustBody.{TrustBody}
 use Rattle.ks_machine.specs.declared.command.Command.{Command}
 use Rattle.ks_machine.specs.declared.command.Command.TheVariants as command
 use Rattle.ks_machine.specs.Assignments.{user_lacking}
+use Rattle.ks_shape.specs.AppCreds.{app_cred_of}
 use Rattle.ks_shape.specs.Bodies.{body_of, catalog_body_of, document, form_of, password_of, whole_document}
 use Rattle.ks_shape.specs.Fields.{needed as needed_field}
 use Rattle.ks_shape.specs.Logins.{login_of}
 use Rattle.ks_shape.specs.Places.{names}
 use Rattle.ks_base.specs.Results.{found as found_or}
 use Rattle.ks_shape.specs.Rows.{made_of}
+use Rattle.ks_shape.specs.Secrets.{secret_of}
 use Rattle.ks_shape.specs.Trusts.{trust_of}
 use Rattle.ks_shape.specs.Types.{password_text}
 use Rattle.ks_shape.specs.declared.form.BodyIn.TheVariants as body
@@ -35,7 +39,7 @@ use Rattle.ks_routes.specs.declared.action.TargetKind.{TargetKind}
 use Rattle.ks_routes.specs.declared.action.TargetKind.TheVariants as target_kind
 use Rattle.ks_routes.specs.declared.routed.Routed.{Routed}
 use Rattle.ks_routes.specs.declared.routed.Routed.TheVariants as routed
-use Rattle.ks_routes.specs.Asked.{asked, catalog_by, ids_in, kind_of, login_by, made_by, password_by, read_by, target_ids, token_lacking, trust_by, unless_lacking}
+use Rattle.ks_routes.specs.Asked.{app_cred_by, asked, catalog_by, ids_in, kind_of, login_by, made_by, password_by, read_by, secret_by, target_ids, token_lacking, trust_by, unless_lacking}
 use Rattle.ks_routes.specs.Patterns.{Part, literal, id, fits, takes}
 use Rattle.ks_routes.specs.Queries.{allows_expired, assignment_filters, filter_in}
 use Rattle.ks_routes.specs.Tables.{Row}
@@ -97,6 +101,14 @@ needed (action.GetCatalog kind) = 1
 needed (action.UpdateCatalog kind) = 1
 needed (action.DeleteCatalog kind) = 1
 needed action.ShowCatalog = 0
+needed action.CreateAppCred = 1
+needed action.ListAppCreds = 1
+needed action.GetAppCred = 2
+needed action.DeleteAppCred = 2
+needed action.CreateSecret = 0
+needed action.ListSecrets = 0
+needed action.GetSecret = 1
+needed action.DeleteSecret = 1
 
 -- bodies that are read have their form
 
@@ -141,6 +153,25 @@ served_trust : (d : Option Data) → is_served (read_by trust_by (found_or d fau
 unfolding form_of
 served_trust (Some value) = read_trust (trust_of (whole_document value))
 served_trust None = refl
+
+read_app_cred : (user : Id) (r : Result AppCredBody ShapeFault) → is_served (read_by (app_cred_by user) (r >>= (λ cred. Ok (body.AppCred cred)))) ≡ true
+read_app_cred user (Ok cred) = refl
+read_app_cred user (Err fault) = refl
+
+served_app_cred : (user : Id) (d : Option Data)
+    → is_served (read_by (app_cred_by user) (found_or d fault.NotJson >>= (λ value. form_of form.AppCred (whole_document value)))) ≡ true
+unfolding form_of
+served_app_cred user (Some value) = read_app_cred user (app_cred_of (whole_document value))
+served_app_cred user None = refl
+
+read_secret : (r : Result SecretBody ShapeFault) → is_served (read_by secret_by (r >>= (λ secret. Ok (body.Secret secret)))) ≡ true
+read_secret (Ok secret) = refl
+read_secret (Err fault) = refl
+
+served_secret : (d : Option Data) → is_served (read_by secret_by (found_or d fault.NotJson >>= (λ value. form_of form.Secret (whole_document value)))) ≡ true
+unfolding form_of
+served_secret (Some value) = read_secret (secret_of (whole_document value))
+served_secret None = refl
 
 served_catalog : (asks : CatalogIn → Command) (r : Result CatalogIn ShapeFault) → is_served (read_by (catalog_by asks) r) ≡ true
 served_catalog asks (Ok row) = refl
@@ -275,6 +306,22 @@ asked_served (action.UpdateCatalog kind) (a ∷ ids) request le = served_catalog
 asked_served (action.DeleteCatalog kind) [] request le = absurd (omega (arith, le))
 asked_served (action.DeleteCatalog kind) (a ∷ ids) request le = refl
 asked_served action.ShowCatalog ids request le = refl
+asked_served action.CreateAppCred [] request le = absurd (omega (arith, le))
+asked_served action.CreateAppCred (a ∷ ids) request le = served_app_cred a (document request.body)
+asked_served action.ListAppCreds [] request le = absurd (omega (arith, le))
+asked_served action.ListAppCreds (a ∷ ids) request le = refl
+asked_served action.GetAppCred [] request le = absurd (omega (arith, le))
+asked_served action.GetAppCred (a ∷ []) request le = absurd (omega (arith, le))
+asked_served action.GetAppCred (a ∷ b ∷ ids) request le = refl
+asked_served action.DeleteAppCred [] request le = absurd (omega (arith, le))
+asked_served action.DeleteAppCred (a ∷ []) request le = absurd (omega (arith, le))
+asked_served action.DeleteAppCred (a ∷ b ∷ ids) request le = refl
+asked_served action.CreateSecret ids request le = served_secret (document request.body)
+asked_served action.ListSecrets ids request le = refl
+asked_served action.GetSecret [] request le = absurd (omega (arith, le))
+asked_served action.GetSecret (a ∷ ids) request le = refl
+asked_served action.DeleteSecret [] request le = absurd (omega (arith, le))
+asked_served action.DeleteSecret (a ∷ ids) request le = refl
 
 -- how many ids a pattern has
 

@@ -18,7 +18,7 @@ use Rattle.ks_shape.specs.declared.form.Form.TheVariants as form
 use Rattle.ks_routes.specs.declared.action.Action.{Action}
 use Rattle.ks_routes.specs.declared.action.Action.TheVariants as action
 use Rattle.ks_routes.specs.declared.routed.Routed.{Routed}
-use Rattle.ks_routes.specs.Asked.{asked, catalog_by, grant_in, grants_in, id_at, ids_in, implication_in, kind_of, login_by, made_by, member_in, password_by, read_by, token_lacking, trust_by, unless_lacking}
+use Rattle.ks_routes.specs.Asked.{app_cred_by, asked, catalog_by, grant_in, grants_in, id_at, ids_in, implication_in, kind_of, login_by, made_by, member_in, pair_in, password_by, read_by, secret_by, token_lacking, trust_by, unless_lacking}
 use Rattle.ks_routes.specs.Patterns.{segments}
 use Rattle.ks_routes.specs.Queries.{allows_expired, assignment_filters, filter_in}
 use Rattle.ks_routes.specs.Ranges.{CommandsAreWhole}
@@ -39,12 +39,16 @@ login_whole subject (body.Login login) = refl
 login_whole subject (body.Made made) = tt
 login_whole subject (body.Password original password) = tt
 login_whole subject (body.Trust trust) = tt
+login_whole subject (body.AppCred cred) = tt
+login_whole subject (body.Secret secret) = tt
 
 made_whole : (subject : Option Text) (asks : Made → Command) → ((made : Made) → IsWhole subject (asks made)) → (b : BodyIn) → IfCommand (IsWhole subject) (made_by asks b)
 made_whole subject asks is (body.Made made) = is made
 made_whole subject asks is (body.Login login) = tt
 made_whole subject asks is (body.Password original password) = tt
 made_whole subject asks is (body.Trust trust) = tt
+made_whole subject asks is (body.AppCred cred) = tt
+made_whole subject asks is (body.Secret secret) = tt
 
 password_whole : (subject : Option Text) (user : Id) (b : BodyIn) → IfCommand (IsWhole subject) (password_by user b)
 unfolding requirements lacking_of
@@ -52,6 +56,8 @@ password_whole subject user (body.Password original password) = refl
 password_whole subject user (body.Login login) = tt
 password_whole subject user (body.Made made) = tt
 password_whole subject user (body.Trust trust) = tt
+password_whole subject user (body.AppCred cred) = tt
+password_whole subject user (body.Secret secret) = tt
 
 trust_whole : (subject : Option Text) (b : BodyIn) → IfCommand (IsWhole subject) (trust_by b)
 unfolding requirements lacking_of
@@ -59,6 +65,26 @@ trust_whole subject (body.Trust trust) = refl
 trust_whole subject (body.Login login) = tt
 trust_whole subject (body.Made made) = tt
 trust_whole subject (body.Password original password) = tt
+trust_whole subject (body.AppCred cred) = tt
+trust_whole subject (body.Secret secret) = tt
+
+app_cred_whole : (subject : Option Text) (user : Id) (b : BodyIn) → IfCommand (IsWhole subject) (app_cred_by user b)
+unfolding requirements lacking_of
+app_cred_whole subject user (body.AppCred cred) = refl
+app_cred_whole subject user (body.Login login) = tt
+app_cred_whole subject user (body.Made made) = tt
+app_cred_whole subject user (body.Password original password) = tt
+app_cred_whole subject user (body.Trust trust) = tt
+app_cred_whole subject user (body.Secret secret) = tt
+
+secret_whole : (subject : Option Text) (b : BodyIn) → IfCommand (IsWhole subject) (secret_by b)
+unfolding requirements lacking_of
+secret_whole subject (body.Secret secret) = refl
+secret_whole subject (body.Login login) = tt
+secret_whole subject (body.Made made) = tt
+secret_whole subject (body.Password original password) = tt
+secret_whole subject (body.Trust trust) = tt
+secret_whole subject (body.AppCred cred) = tt
 
 catalog_whole : (subject : Option Text) (asks : CatalogIn → Command) → ((row : CatalogIn) → IsWhole subject (asks row)) → (row : CatalogIn)
     → IfCommand (IsWhole subject) (catalog_by asks row)
@@ -129,6 +155,16 @@ asked_whole (action.UpdateCatalog kind) ids request =
     (catalog_whole request.subject (λ row. command.UpdateCatalog a row) (λ row. refl)))
 asked_whole (action.DeleteCatalog kind) ids request = plain_holds (IsWhole request.subject) (id_at ids 0) (λ a. command.DeleteCatalog kind a) (λ a. refl)
 asked_whole action.ShowCatalog ids request = refl
+asked_whole action.CreateAppCred ids request =
+    with_holds (IsWhole request.subject) (id_at ids 0) _ (λ user.
+    read_holds (IsWhole request.subject) (app_cred_by user) (body_of form.AppCred request.body) (app_cred_whole request.subject user))
+asked_whole action.ListAppCreds ids request = plain_holds (IsWhole request.subject) (id_at ids 0) (λ user. command.ListAppCreds user) (λ user. refl)
+asked_whole action.GetAppCred ids request = plain_holds (IsWhole request.subject) (pair_in ids) (λ pair. command.GetAppCred pair.0 pair.1) (λ pair. refl)
+asked_whole action.DeleteAppCred ids request = plain_holds (IsWhole request.subject) (pair_in ids) (λ pair. command.DeleteAppCred pair.0 pair.1) (λ pair. refl)
+asked_whole action.CreateSecret ids request = read_holds (IsWhole request.subject) secret_by (body_of form.Secret request.body) (secret_whole request.subject)
+asked_whole action.ListSecrets ids request = refl
+asked_whole action.GetSecret ids request = plain_holds (IsWhole request.subject) (id_at ids 0) (λ a. command.GetSecret a) (λ a. refl)
+asked_whole action.DeleteSecret ids request = plain_holds (IsWhole request.subject) (id_at ids 0) (λ a. command.DeleteSecret a) (λ a. refl)
 
 answered_whole : (row : Row Action) (asks : Option Action) (request : Request) → IfCommand (IsWhole request.subject) (answered row.pattern row.methods asks request)
 answered_whole row (Some asks) request = asked_whole asks (ids_in row.pattern (segments request.path)) request

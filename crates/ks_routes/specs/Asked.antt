@@ -73,11 +73,14 @@ both (Some a) (Some b) = Some (a, b)
 both (Some a) None = None
 both None b = None
 
+abbrev pub pair_in : List Id → Option (Id × Id)
+pair_in ids = both (id_at ids 0) (id_at ids 1)
+
 abbrev pub member_in : List Id → Option MemberRow
-member_in ids = option_map (λ pair. record { group = pair.0; user = pair.1 }) (both (id_at ids 0) (id_at ids 1))
+member_in ids = option_map (λ pair. record { group = pair.0; user = pair.1 }) (pair_in ids)
 
 abbrev pub implication_in : List Id → Option ImplyRow
-implication_in ids = option_map (λ pair. record { prior = pair.0; implied = pair.1 }) (both (id_at ids 0) (id_at ids 1))
+implication_in ids = option_map (λ pair. record { prior = pair.0; implied = pair.1 }) (pair_in ids)
 
 -- grants: the target stands before the actor, and the role behind both; the whole system has no id
 
@@ -145,24 +148,48 @@ login_by (body.Login login) = routed.Command (command.Login login)
 login_by (body.Made made) = routed.NoRoute
 login_by (body.Password original password) = routed.NoRoute
 login_by (body.Trust trust) = routed.NoRoute
+login_by (body.AppCred cred) = routed.NoRoute
+login_by (body.Secret secret) = routed.NoRoute
 
 abbrev pub made_by : (Made → Command) → BodyIn → Routed
 made_by asks (body.Made made) = routed.Command (asks made)
 made_by asks (body.Login login) = routed.NoRoute
 made_by asks (body.Password original password) = routed.NoRoute
 made_by asks (body.Trust trust) = routed.NoRoute
+made_by asks (body.AppCred cred) = routed.NoRoute
+made_by asks (body.Secret secret) = routed.NoRoute
 
 abbrev pub password_by : Id → BodyIn → Routed
 password_by user (body.Password original password) = routed.Command (command.ChangePassword user original password)
 password_by user (body.Login login) = routed.NoRoute
 password_by user (body.Made made) = routed.NoRoute
 password_by user (body.Trust trust) = routed.NoRoute
+password_by user (body.AppCred cred) = routed.NoRoute
+password_by user (body.Secret secret) = routed.NoRoute
 
 abbrev pub trust_by : BodyIn → Routed
 trust_by (body.Trust trust) = routed.Command (command.CreateTrust trust)
 trust_by (body.Login login) = routed.NoRoute
 trust_by (body.Made made) = routed.NoRoute
 trust_by (body.Password original password) = routed.NoRoute
+trust_by (body.AppCred cred) = routed.NoRoute
+trust_by (body.Secret secret) = routed.NoRoute
+
+abbrev pub app_cred_by : Id → BodyIn → Routed
+app_cred_by user (body.AppCred cred) = routed.Command (command.CreateAppCred user cred)
+app_cred_by user (body.Login login) = routed.NoRoute
+app_cred_by user (body.Made made) = routed.NoRoute
+app_cred_by user (body.Password original password) = routed.NoRoute
+app_cred_by user (body.Trust trust) = routed.NoRoute
+app_cred_by user (body.Secret secret) = routed.NoRoute
+
+abbrev pub secret_by : BodyIn → Routed
+secret_by (body.Secret secret) = routed.Command (command.CreateSecret secret)
+secret_by (body.Login login) = routed.NoRoute
+secret_by (body.Made made) = routed.NoRoute
+secret_by (body.Password original password) = routed.NoRoute
+secret_by (body.Trust trust) = routed.NoRoute
+secret_by (body.AppCred cred) = routed.NoRoute
 
 -- a command over a row of the catalog
 abbrev pub catalog_by : (CatalogIn → Command) → CatalogIn → Routed
@@ -216,3 +243,11 @@ asked (action.UpdateCatalog kind) ids request =
     with_id (id_at ids 0) (λ a. read_by (catalog_by (λ row. command.UpdateCatalog a row)) (catalog_body_of kind false request.body))
 asked (action.DeleteCatalog kind) ids request = over (id_at ids 0) (λ a. command.DeleteCatalog kind a)
 asked action.ShowCatalog ids request = routed.Command command.ShowCatalog
+asked action.CreateAppCred ids request = with_id (id_at ids 0) (λ user. read_by (app_cred_by user) (body_of form.AppCred request.body))
+asked action.ListAppCreds ids request = over (id_at ids 0) (λ user. command.ListAppCreds user)
+asked action.GetAppCred ids request = over (pair_in ids) (λ pair. command.GetAppCred pair.0 pair.1)
+asked action.DeleteAppCred ids request = over (pair_in ids) (λ pair. command.DeleteAppCred pair.0 pair.1)
+asked action.CreateSecret ids request = read_by secret_by (body_of form.Secret request.body)
+asked action.ListSecrets ids request = routed.Command command.ListSecrets
+asked action.GetSecret ids request = over (id_at ids 0) (λ a. command.GetSecret a)
+asked action.DeleteSecret ids request = over (id_at ids 0) (λ a. command.DeleteSecret a)

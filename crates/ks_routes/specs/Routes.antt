@@ -77,6 +77,10 @@ table =
     row (codes "/v3/endpoints/{endpoint}") (one_of_catalog catalog_kind.Endpoint) ∷
     row (codes "/v3/users/{user}/password") (record none { post = Some action.ChangePassword }) ∷
     row (codes "/v3/users/{user}/groups") (record none { get = Some action.GroupsOf }) ∷
+    row (codes "/v3/users/{user}/application_credentials") (record none { get = Some action.ListAppCreds; post = Some action.CreateAppCred }) ∷
+    row (codes "/v3/users/{user}/application_credentials/{credential}") (record none { get = Some action.GetAppCred; delete = Some action.DeleteAppCred }) ∷
+    row (codes "/v3/credentials") (record none { get = Some action.ListSecrets; post = Some action.CreateSecret }) ∷
+    row (codes "/v3/credentials/{credential}") (record none { get = Some action.GetSecret; delete = Some action.DeleteSecret }) ∷
     row (codes "/v3/groups/{group}/users") (record none { get = Some action.MembersOf }) ∷
     row (codes "/v3/groups/{group}/users/{user}") (record none { head = Some action.IsIn; put = Some action.Join; delete = Some action.Leave }) ∷
     row (codes "/v3/roles/{role}/implies") (record none { get = Some action.Implied }) ∷

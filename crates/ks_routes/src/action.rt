@@ -80,6 +80,14 @@ pub enum Action {
     UpdateCatalog(CatalogKind),
     DeleteCatalog(CatalogKind),
     ShowCatalog,
+    CreateAppCred,
+    ListAppCreds,
+    GetAppCred,
+    DeleteAppCred,
+    CreateSecret,
+    ListSecrets,
+    GetSecret,
+    DeleteSecret,
 }
 
 impl RowKind {

@@ -5,7 +5,7 @@ ghost use Rattle.ks_machine.specs.declared.command.Command.TheVariants as comman
 ghost use Rattle.ks_machine.specs.Targets.{catalog_kind, filter_names};
 ghost use Rattle.ks_shape.specs.Bodies.{body_of, catalog_body_of};
 ghost use Rattle.ks_shape.specs.declared.form.Form.TheVariants as forms;
-ghost use Rattle.ks_routes.specs.Asked.{about_token, actor_of, asked, assignments_by, both, catalog_by, grant_in, grants_in, implication_in, kind_of, login_by, made_by, member_in, password_by, read_by, routed_over, target_ids, target_of, token_lacking, trust_by, unless_lacking};
+ghost use Rattle.ks_routes.specs.Asked.{about_token, actor_of, app_cred_by, asked, assignments_by, both, catalog_by, grant_in, grants_in, implication_in, kind_of, login_by, made_by, member_in, pair_in, password_by, read_by, routed_over, secret_by, target_ids, target_of, token_lacking, trust_by, unless_lacking};
 ghost use Rattle.ks_routes.specs.Queries.{allows_expired, assignment_filters as assignment_names, filter_in, trust_filters as trust_names};
 ghost use Rattle.ks_routes.specs.steps.Reading.{IsAsked, unread_of};
 ghost use Rattle.ks_routes.specs.Routes.{Answers};
@@ -64,17 +64,24 @@ fn both<A: Drop, B: Drop>(first: Option<A>, second: Option<B>) -> Option<(A, B)>
     }
 }
 
+/// The two ids of a path.
+fn pair(ids: &Captured) -> Option<(Id, Id)>
+    ensures { result ≡ pair_in ids.now }
+{
+    both(ids.at(0), ids.at(1))
+}
+
 fn member(ids: &Captured) -> Option<MemberRow>
     ensures { result ≡ member_in ids.now }
 {
-    let (group, user) = both(ids.at(0), ids.at(1))?;
+    let (group, user) = pair(ids)?;
     Some(MemberRow { group, user })
 }
 
 fn implication(ids: &Captured) -> Option<ImplyRow>
     ensures { result ≡ implication_in ids.now }
 {
-    let (prior, implied) = both(ids.at(0), ids.at(1))?;
+    let (prior, implied) = pair(ids)?;
     Some(ImplyRow { prior, implied })
 }
 
@@ -127,7 +134,13 @@ fn login(alloc: Global, request: &Request) -> Routed
 {
     match read_body(alloc, Form::Login, request.body.as_slice()) {
         Ok(BodyIn::Login(login)) => Routed::Command(Command::Login(login)),
-        Ok(BodyIn::Made(_) | BodyIn::Password(_, _) | BodyIn::Trust(_)) => Routed::NoRoute,
+        Ok(
+            BodyIn::Made(_)
+            | BodyIn::Password(_, _)
+            | BodyIn::Trust(_)
+            | BodyIn::AppCred(_)
+            | BodyIn::Secret(_),
+        ) => Routed::NoRoute,
         Err(refusal) => unread(refusal),
     }
 }
@@ -141,7 +154,13 @@ fn create(alloc: Global, kind: RowKind, request: &Request) -> Routed
         request.body.as_slice(),
     ) {
         Ok(BodyIn::Made(made)) => Routed::Command(Command::Create(made)),
-        Ok(BodyIn::Login(_) | BodyIn::Password(_, _) | BodyIn::Trust(_)) => Routed::NoRoute,
+        Ok(
+            BodyIn::Login(_)
+            | BodyIn::Password(_, _)
+            | BodyIn::Trust(_)
+            | BodyIn::AppCred(_)
+            | BodyIn::Secret(_),
+        ) => Routed::NoRoute,
         Err(refusal) => unread(refusal),
     }
 }
@@ -155,7 +174,13 @@ fn update(alloc: Global, kind: RowKind, id: Id, request: &Request) -> Routed
         request.body.as_slice(),
     ) {
         Ok(BodyIn::Made(made)) => Routed::Command(Command::Update(id, made)),
-        Ok(BodyIn::Login(_) | BodyIn::Password(_, _) | BodyIn::Trust(_)) => Routed::NoRoute,
+        Ok(
+            BodyIn::Login(_)
+            | BodyIn::Password(_, _)
+            | BodyIn::Trust(_)
+            | BodyIn::AppCred(_)
+            | BodyIn::Secret(_),
+        ) => Routed::NoRoute,
         Err(refusal) => unread(refusal),
     }
 }
@@ -167,7 +192,13 @@ fn change_password(alloc: Global, user: Id, request: &Request) -> Routed
         Ok(BodyIn::Password(original, password)) => {
             Routed::Command(Command::ChangePassword(user, original, password))
         }
-        Ok(BodyIn::Login(_) | BodyIn::Made(_) | BodyIn::Trust(_)) => Routed::NoRoute,
+        Ok(
+            BodyIn::Login(_)
+            | BodyIn::Made(_)
+            | BodyIn::Trust(_)
+            | BodyIn::AppCred(_)
+            | BodyIn::Secret(_),
+        ) => Routed::NoRoute,
         Err(refusal) => unread(refusal),
     }
 }
@@ -177,7 +208,45 @@ fn create_trust(alloc: Global, request: &Request) -> Routed
 {
     match read_body(alloc, Form::Trust, request.body.as_slice()) {
         Ok(BodyIn::Trust(trust)) => Routed::Command(Command::CreateTrust(trust)),
-        Ok(BodyIn::Login(_) | BodyIn::Made(_) | BodyIn::Password(_, _)) => Routed::NoRoute,
+        Ok(
+            BodyIn::Login(_)
+            | BodyIn::Made(_)
+            | BodyIn::Password(_, _)
+            | BodyIn::AppCred(_)
+            | BodyIn::Secret(_),
+        ) => Routed::NoRoute,
+        Err(refusal) => unread(refusal),
+    }
+}
+
+fn create_app_cred(alloc: Global, user: Id, request: &Request) -> Routed
+    ensures { Answers (read_by (app_cred_by user) (body_of forms.AppCred request.now.body)) result }
+{
+    match read_body(alloc, Form::AppCred, request.body.as_slice()) {
+        Ok(BodyIn::AppCred(cred)) => Routed::Command(Command::CreateAppCred(user, cred)),
+        Ok(
+            BodyIn::Login(_)
+            | BodyIn::Made(_)
+            | BodyIn::Password(_, _)
+            | BodyIn::Trust(_)
+            | BodyIn::Secret(_),
+        ) => Routed::NoRoute,
+        Err(refusal) => unread(refusal),
+    }
+}
+
+fn create_secret(alloc: Global, request: &Request) -> Routed
+    ensures { Answers (read_by secret_by (body_of forms.Secret request.now.body)) result }
+{
+    match read_body(alloc, Form::Secret, request.body.as_slice()) {
+        Ok(BodyIn::Secret(secret)) => Routed::Command(Command::CreateSecret(secret)),
+        Ok(
+            BodyIn::Login(_)
+            | BodyIn::Made(_)
+            | BodyIn::Password(_, _)
+            | BodyIn::Trust(_)
+            | BodyIn::AppCred(_),
+        ) => Routed::NoRoute,
         Err(refusal) => unread(refusal),
     }
 }
@@ -357,6 +426,19 @@ impl Action {
                 over(ids.at(0).map(|id| Command::DeleteCatalog(kind, id)))
             }
             Action::ShowCatalog => Routed::Command(Command::ShowCatalog),
+            Action::CreateAppCred => match ids.at(0) {
+                Some(user) => create_app_cred(alloc, user, request),
+                None => Routed::NoRoute,
+            },
+            Action::ListAppCreds => over(ids.at(0).map(|user| Command::ListAppCreds(user))),
+            Action::GetAppCred => over(pair(ids).map(|(user, id)| Command::GetAppCred(user, id))),
+            Action::DeleteAppCred => {
+                over(pair(ids).map(|(user, id)| Command::DeleteAppCred(user, id)))
+            }
+            Action::CreateSecret => create_secret(alloc, request),
+            Action::ListSecrets => Routed::Command(Command::ListSecrets),
+            Action::GetSecret => over(ids.at(0).map(|id| Command::GetSecret(id))),
+            Action::DeleteSecret => over(ids.at(0).map(|id| Command::DeleteSecret(id))),
         }
     }
 }

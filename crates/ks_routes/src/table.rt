@@ -77,7 +77,7 @@ const INHERITED_DOMAIN_GROUP: Place = Place {
     inherited: true,
 };
 
-static TABLE: [Route<Action>; 51] = [
+static TABLE: [Route<Action>; 55] = [
     Route {
         pattern: "/v3",
         methods: Methods {
@@ -256,6 +256,38 @@ static TABLE: [Route<Action>; 51] = [
         pattern: "/v3/users/{user}/groups",
         methods: Methods {
             get: Some(Action::GroupsOf),
+            ..NONE
+        },
+    },
+    Route {
+        pattern: "/v3/users/{user}/application_credentials",
+        methods: Methods {
+            get: Some(Action::ListAppCreds),
+            post: Some(Action::CreateAppCred),
+            ..NONE
+        },
+    },
+    Route {
+        pattern: "/v3/users/{user}/application_credentials/{credential}",
+        methods: Methods {
+            get: Some(Action::GetAppCred),
+            delete: Some(Action::DeleteAppCred),
+            ..NONE
+        },
+    },
+    Route {
+        pattern: "/v3/credentials",
+        methods: Methods {
+            get: Some(Action::ListSecrets),
+            post: Some(Action::CreateSecret),
+            ..NONE
+        },
+    },
+    Route {
+        pattern: "/v3/credentials/{credential}",
+        methods: Methods {
+            get: Some(Action::GetSecret),
+            delete: Some(Action::DeleteSecret),
             ..NONE
         },
     },

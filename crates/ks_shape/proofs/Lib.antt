@@ -1,11 +1,15 @@
+pub mod Base32Lemmas
 pub mod CatalogLemmas
 pub mod DocumentLemmas
+pub mod FactorLemmas
 pub mod IdLemmas
 pub mod ListLemmas
+pub mod MethodLemmas
 pub mod MomentLemmas
 pub mod NameLemmas
 pub mod PlaceLemmas
 pub mod PropertyLemmas
 pub mod RangeLemmas
 pub mod RefusalLemmas
+pub mod SecretLemmas
 pub mod TimeLemmas

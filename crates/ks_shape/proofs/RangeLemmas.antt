@@ -1,12 +1,11 @@
 -- What is read of a body is in range.
-use Rattle.std.proofs.Common.{◌≡◌, ℕ, suc, ◌≤◌, Bool, true, false, List, length, Option, Some, None, Ok, Err, refl, ap, arith}
-use Rattle.std.specs.Prelude.{Result, IfOk, IfSome, codes, if◌then◌else◌, is_some, nat_le, not, option_and_then, ◌&&◌, ◌-◌, ◌^◌}
+use Rattle.std.proofs.Common.{◌≡◌, ℕ, ◌≤◌, Bool, true, false, List, [], length, Option, Some, None, Ok, Err, refl, arith}
+use Rattle.std.specs.Prelude.{Result, IfOk, IfSome, codes, if◌then◌else◌, is_some, not, option_and_then, unwrap_or, ◌&&◌, ◌-◌, ◌^◌}
 use Rattle.std.specs.Int.{IsInRange, is_in_range}
 use Rattle.std.specs.List.{AllByRecursion}
 use Rattle.std.specs.Str.{bytes_eq}
-use Rattle.std.proofs.lemmas.Bool.Decides.{nat_tests}
-use Rattle.serde_json.specs.Data.{Data, Items, no_items, item}
-use Rattle.serde_json.specs.Find.{as_array, as_number, as_object, as_u64}
+use Rattle.serde_json.specs.Data.{Data, Items}
+use Rattle.serde_json.specs.Find.{as_number, as_object, as_u64}
 use Rattle.ks_base.specs.declared.kinds.Kind.{Kind}
 use Rattle.ks_base.specs.declared.kinds.Kind.TheVariants as kind
 use Rattle.ks_base.specs.declared.limits.TheConstants.{DESCRIPTION_BYTES, NAME_BYTES, PASSWORD_BYTES, TRUST_ROLES, USES}
@@ -14,12 +13,16 @@ use Rattle.ks_base.specs.declared.shapes.ShapeFault.{ShapeFault}
 use Rattle.ks_base.specs.declared.shapes.ShapeFault.TheVariants as fault
 use Rattle.ks_base.specs.Rows.{Id, Text}
 use Rattle.ks_base.specs.Results.{◌>>=◌, found, need}
+use Rattle.ks_machine.specs.declared.bodies.AppCredBody.{AppCredBody}
 use Rattle.ks_machine.specs.declared.bodies.LoginBody.{LoginBody}
 use Rattle.ks_machine.specs.declared.bodies.Made.{Made}
+use Rattle.ks_machine.specs.declared.bodies.MfaIn.{MfaIn}
 use Rattle.ks_machine.specs.declared.bodies.Named.{Named}
 use Rattle.ks_machine.specs.declared.bodies.ScopeIn.TheVariants as scope
-use Rattle.ks_machine.specs.Fit.{IsMadeName, IsNamed, IsProjectNamed, IsProof, IsScope, IsTrustBody, IsUserNamed}
-use Rattle.ks_machine.specs.Ranges.{AreUses, IsDescription, IsExpiry, IsName, IsPassable, IsPassword}
+use Rattle.ks_machine.specs.declared.bodies.SecretBody.{SecretBody}
+use Rattle.ks_machine.specs.declared.bodies.UserNamed.{UserNamed}
+use Rattle.ks_machine.specs.Fit.{IsAppCredBody, IsCredNamed, IsMadeName, IsNamed, IsProjectNamed, IsProof, IsScope, IsTrustBody, IsUserNamed}
+use Rattle.ks_machine.specs.Ranges.{AreMfaRules, AreUses, IsCode, IsCredSecret, IsDescription, IsExpiry, IsName, IsPassable, IsPassword, IsTotpSecret}
 use Rattle.ks_shape.specs.declared.form.BodyIn.{BodyIn}
 use Rattle.ks_shape.specs.declared.form.Form.{Form}
 use Rattle.ks_shape.specs.declared.form.Form.TheVariants as form
@@ -29,16 +32,23 @@ use Rattle.ks_shape.specs.declared.misfit.Misfit.TheVariants as misfit
 use Rattle.ks_shape.specs.declared.trust.Limits.{Limits}
 use Rattle.ks_shape.specs.Bodies.{body_of, document, form_of, password_of, whole_document}
 use Rattle.ks_shape.specs.Fields.{judged, needed, needed_if, optional, unless_null}
-use Rattle.ks_shape.specs.Logins.{domain_scope, login_of, object_scope, password_proof, project_scope, proof_by, scope_at, scope_by, scope_from, system_scope, token_proof, trust_scope, unscoped_text}
-use Rattle.ks_shape.specs.Names.{all_named, name_and_domain, named_at, named_by, own_id, own_name, project_at, project_by, user_at, user_by}
+use Rattle.ks_shape.specs.Logins.{both_proof, code_part, code_proof, cred_proof, domain_scope, login_of, object_scope, password_part, password_proof, project_scope, proof_by, scope_at, scope_by, scope_from, system_scope, token_proof, trust_scope, unscoped_text}
+use Rattle.ks_shape.specs.Names.{all_named, cred_at, cred_by, name_and_domain, name_and_user, named_at, named_by, own_id, own_name, project_at, project_by, user_at, user_by}
 use Rattle.ks_shape.specs.Places.{Place, names, path_at, place_at}
 use Rattle.ks_shape.specs.Ranges.{BodiesAreInRange, IsBodyFor, IsMadeFor}
 use Rattle.ks_shape.specs.Rows.{domain_of, group_of, id_at, made_of, project_of, role_of, user_of}
+use Rattle.ks_shape.specs.AppCreds.{app_cred_of, roles_from, roles_given}
+use Rattle.ks_shape.specs.Factors.{factors_at}
+use Rattle.ks_shape.specs.Methods.{login_methods}
+use Rattle.ks_shape.specs.Secrets.{code_text, secret_of}
 use Rattle.ks_shape.specs.Times.{time_of}
 use Rattle.ks_shape.specs.Trusts.{limits_asked, limits_of, roles_at, trust_of}
-use Rattle.ks_shape.specs.Types.{affirmation, any_text, count_of, description_text, falsehood, id_text, list_of, name_text, one_method, password_text, text_of, time_text, truth, whole}
+use Rattle.ks_shape.specs.Types.{affirmation, any_text, count_of, cred_secret, description_text, falsehood, id_text, list_of, name_text, password_text, text_of, time_text, truth, whole}
+use Rattle.ks_shape.proofs.FactorLemmas.{factors_in}
+use Rattle.ks_shape.proofs.ListLemmas.{AreEach, each_in, list_in}
 use Rattle.ks_shape.proofs.MomentLemmas.{last_moment}
 use Rattle.ks_shape.proofs.PropertyLemmas.{If, judged_in, needed_in, optional_in, skip, step, weaken}
+use Rattle.ks_shape.proofs.SecretLemmas.{code_is, secret_is}
 use Rattle.ks_shape.proofs.TimeLemmas.{in_range_from, time_is}
 
 -- fields
@@ -60,7 +70,10 @@ name_in value = text_in 1 NAME_BYTES value
 password_in : (value : Data) → IfOk (password_text value) IsPassword
 password_in value = text_in 1 PASSWORD_BYTES value
 
-pub description_in : (value : Data) → IfOk (description_text value) IsDescription
+pub cred_secret_in : (value : Data) → IfOk (cred_secret value) IsCredSecret
+cred_secret_in value = text_in 1 NAME_BYTES value
+
+description_in : (value : Data) → IfOk (description_text value) IsDescription
 description_in value =
     weaken IsDescription (λ text. IsInRange 0 DESCRIPTION_BYTES (length text)) (description_text value) (text_in 0 DESCRIPTION_BYTES value) (λ text is. is.1)
 
@@ -103,22 +116,79 @@ project_in : (place : Place) → IfOk (project_at place) IsProjectNamed
 unfolding project_at
 project_in place = skip IsProjectNamed (own_id place) _ (λ id. project_by_in id place)
 
+abbrev AreNameAndUser : Text × UserNamed → Type 0
+AreNameAndUser both = IsName both.0 × IsUserNamed both.1
+
+name_and_user_in : (place : Place) → IfOk (name_and_user place) AreNameAndUser
+unfolding name_and_user
+name_and_user_in place =
+    step AreNameAndUser IsName (own_name place) _ (own_name_in place) (λ name is_name.
+    skip AreNameAndUser (place_at (names (codes "user")) place) _ (λ below.
+    step AreNameAndUser IsUserNamed (user_at below) _ (user_in below) (λ user is_user. (is_name, is_user))))
+
+cred_by_in : (id : Option Id) (place : Place) → IfOk (cred_by id place) IsCredNamed
+cred_by_in (Some id) place = tt
+cred_by_in None place = step IsCredNamed AreNameAndUser (name_and_user place) _ (name_and_user_in place) (λ both are. are)
+
+cred_in : (place : Place) → IfOk (cred_at place) IsCredNamed
+unfolding cred_at
+cred_in place = skip IsCredNamed (own_id place) _ (λ id. cred_by_in id place)
+
 -- logins
+
+abbrev IsPasswordPart : UserNamed × Text → Type 0
+IsPasswordPart part = IsUserNamed part.0 × IsPassword part.1
+
+password_part_in : (body : Place) → IfOk (password_part body) IsPasswordPart
+unfolding password_part
+password_part_in body =
+    skip IsPasswordPart (place_at (names (codes "auth.identity.password.user")) body) _ (λ user.
+    step IsPasswordPart IsPassword (needed password_text (names (codes "password")) user) _ (needed_in IsPassword password_text password_in _ user) (λ password is_password.
+    step IsPasswordPart IsUserNamed (user_at user) _ (user_in user) (λ named is_named. (is_named, is_password))))
+
+abbrev IsCodePart : UserNamed × ℕ → Type 0
+IsCodePart part = IsUserNamed part.0 × IsCode part.1
+
+code_part_in : (body : Place) → IfOk (code_part body) IsCodePart
+unfolding code_part
+code_part_in body =
+    skip IsCodePart (place_at (names (codes "auth.identity.totp.user")) body) _ (λ user.
+    step IsCodePart IsCode (needed code_text (names (codes "passcode")) user) _ (needed_in IsCode code_text code_is _ user) (λ code is_code.
+    step IsCodePart IsUserNamed (user_at user) _ (user_in user) (λ named is_named. (is_named, is_code))))
 
 password_proof_in : (body : Place) → IfOk (password_proof body) IsProof
 unfolding password_proof
-password_proof_in body =
-    skip IsProof (place_at (names (codes "auth.identity.password.user")) body) _ (λ user.
-    step IsProof IsPassword (needed password_text (names (codes "password")) user) _ (needed_in IsPassword password_text password_in _ user) (λ password is_password.
-    step IsProof IsUserNamed (user_at user) _ (user_in user) (λ named is_named. (is_named, is_password))))
+password_proof_in body = step IsProof IsPasswordPart (password_part body) _ (password_part_in body) (λ part is. is)
+
+code_proof_in : (body : Place) → IfOk (code_proof body) IsProof
+unfolding code_proof
+code_proof_in body = step IsProof IsCodePart (code_part body) _ (code_part_in body) (λ part is. is)
+
+both_proof_in : (body : Place) → IfOk (both_proof body) IsProof
+unfolding both_proof
+both_proof_in body =
+    step IsProof IsPasswordPart (password_part body) _ (password_part_in body) (λ password is_password.
+    step IsProof IsCodePart (code_part body) _ (code_part_in body) (λ code is_code.
+    (is_password.0, is_password.1, is_code.0, is_code.1)))
 
 token_proof_in : (body : Place) → IfOk (token_proof body) IsProof
 unfolding token_proof
 token_proof_in body = skip IsProof (needed any_text (names (codes "auth.identity.token.id")) body) _ (λ token. tt {0})
 
+cred_proof_in : (body : Place) → IfOk (cred_proof body) IsProof
+unfolding cred_proof
+cred_proof_in body =
+    skip IsProof (place_at (names (codes "auth.identity.application_credential")) body) _ (λ below.
+    step IsProof IsCredNamed (cred_at below) _ (cred_in below) (λ named is_named.
+    step IsProof IsCredSecret (needed cred_secret (names (codes "secret")) below) _ (needed_in IsCredSecret cred_secret cred_secret_in _ below) (λ secret is_secret.
+    (is_named, is_secret))))
+
 proof_in : (method : LoginMethod) (body : Place) → IfOk (proof_by method body) IsProof
 proof_in method.Password body = password_proof_in body
+proof_in method.Totp body = code_proof_in body
+proof_in method.Both body = both_proof_in body
 proof_in method.Token body = token_proof_in body
+proof_in method.AppCred body = cred_proof_in body
 
 unscoped_by : (given : Bool) → IfOk (need given misfit.Range >>= (λ _. Ok scope.Unscoped)) IsScope
 unscoped_by true = tt
@@ -173,7 +243,7 @@ IsLogin login = IsProof login.proof × IsScope login.scope
 login_in : (body : Place) → IfOk (login_of body) IsLogin
 unfolding login_of
 login_in body =
-    skip IsLogin (needed one_method (names (codes "auth.identity.methods")) body) _ (λ method.
+    skip IsLogin (needed login_methods (names (codes "auth.identity.methods")) body) _ (λ method.
     step IsLogin IsProof (proof_by method body) _ (proof_in method body) (λ proof is_proof.
     skip IsLogin (place_at (names (codes "auth.scope")) body) _ (λ below.
     step IsLogin IsScope (scope_at below) _ (scope_from_in (unless_null below.value) below) (λ scope is_scope. (is_proof, is_scope)))))
@@ -236,8 +306,9 @@ user_row_in new body =
     skip Q (optional id_text (names (codes "user.domain_id")) body) _ (λ domain.
     step Q (If IsPassword) (optional password_text (names (codes "user.password")) body) _ (optional_in IsPassword password_text password_in _ body) (λ password is_password.
     skip Q (optional truth (names (codes "user.enabled")) body) _ (λ enabled.
+    step Q (If (λ (said : MfaIn). AreMfaRules said.rules)) (factors_at body) _ (factors_in body) (λ factors are_factors.
     step Q (IsIdFor new) (id_at new (names (codes "user.id")) body) _ (row_id_in new _ body) (λ id is_id.
-    (refl, (made_name new id name is_name is_id, is_password)))))))
+    (refl, (made_name new id name is_name is_id, is_password, are_factors))))))))
 
 group_row_in : (new : Bool) (body : Place) → IfOk (group_of new body) (IsMadeFor kind.Group new)
 unfolding group_of
@@ -280,25 +351,10 @@ passwords_in body =
 
 -- rows that are named, one for each of so many values
 abbrev AreNamed : ℕ → List Named → Type 0
-AreNamed count rows = AllByRecursion IsNamed rows × (length rows ≡ count)
+AreNamed = AreEach IsNamed
 
 all_named_in : (path : List ℕ) (items : Items) → IfOk (all_named path items) (AreNamed (count_of items))
-unfolding all_named
-all_named_in path no_items = (tt, refl)
-all_named_in path (item value items) =
-    let Q : List Named → Type 0 = AreNamed (suc (count_of items)) in
-    step Q IsNamed (named_at (record { path = path; value = Some value })) _ (named_in _) (λ first is_first.
-    step Q (AreNamed (count_of items)) (all_named path items) _ (all_named_in path items) (λ others are.
-    ((is_first, are.0), ap (λ n. suc n) are.1)))
-
-list_by : (most : ℕ) (items : Items) (fits : Bool) → nat_le (count_of items) most ≡ fits
-    → IfOk (need fits misfit.Range >>= (λ _. Ok items)) (λ items. count_of items ≤ most)
-list_by most items true is = grind (arith, nat_tests)
-list_by most items false is = tt
-
-list_in : (most : ℕ) (value : Data) → IfOk (list_of most value) (λ items. count_of items ≤ most)
-unfolding list_of
-list_in most value = skip (λ items. count_of items ≤ most) (found (as_array value) misfit.Kind) _ (λ items. list_by most items _ refl)
+all_named_in path items = each_in IsNamed (λ value. named_at (record { path = path; value = Some value })) (λ value. named_in _) items
 
 abbrev AreRoles : List Named → Type 0
 AreRoles roles = AllByRecursion IsNamed roles × (length roles ≤ TRUST_ROLES)
@@ -373,6 +429,37 @@ trust_in body =
     step IsTrustBody AreLimits (limits_of body) _ (limits_in body) (λ limits are_limits.
     (are_roles.0, are_roles.1, are_limits.0, are_limits.1, are_limits.2)))))))
 
+-- application credentials
+
+roles_from_in : (items : Option Items) (path : List ℕ) → If AreFew items → IfOk (roles_from items path) (If AreRoles)
+roles_from_in None path few = tt
+roles_from_in (Some items) path few =
+    step (If AreRoles) (AreNamed (count_of items)) (all_named path items) _ (all_named_in path items) (λ rows are.
+    (are.0, omega (arith, are.1, few)))
+
+roles_given_in : (names : List (List ℕ)) (body : Place) → IfOk (roles_given names body) (If AreRoles)
+unfolding roles_given
+roles_given_in names body =
+    step (If AreRoles) (If AreFew) (optional (list_of TRUST_ROLES) names body) _ (optional_in AreFew (list_of TRUST_ROLES) (list_in TRUST_ROLES) names body) (λ items few.
+    roles_from_in items (path_at names body) few)
+
+description_or_none : (description : Option Text) → If IsDescription description → IsDescription (unwrap_or description [])
+description_or_none (Some description) is = is
+description_or_none None is = omega arith
+
+app_cred_in : (body : Place) → IfOk (app_cred_of body) IsAppCredBody
+unfolding app_cred_of
+app_cred_in body =
+    let Q : AppCredBody → Type 0 = IsAppCredBody in
+    step Q IsName (needed name_text (names (codes "application_credential.name")) body) _ (needed_in IsName name_text name_in _ body) (λ name is_name.
+    step Q (If IsCredSecret) (optional cred_secret (names (codes "application_credential.secret")) body) _ (optional_in IsCredSecret cred_secret cred_secret_in _ body) (λ secret is_secret.
+    step Q (If IsDescription) (optional description_text (names (codes "application_credential.description")) body) _ (described _ body) (λ description is_description.
+    step Q (If IsExpiry) (optional time_text (names (codes "application_credential.expires_at")) body) _ (optional_in IsExpiry time_text expiry_in _ body) (λ expires is_expiry.
+    step Q (If AreRoles) (roles_given (names (codes "application_credential.roles")) body) _ (roles_given_in _ body) (λ roles are_roles.
+    skip Q (optional truth (names (codes "application_credential.unrestricted")) body) _ (λ unrestricted.
+    skip Q (optional (list_of 0) (names (codes "application_credential.access_rules")) body) _ (λ no_rules.
+    (is_name, is_secret, description_or_none description is_description, is_expiry, are_roles))))))))
+
 -- bodies
 
 form_in : (form : Form) (place : Place) → IfOk (form_of form place) (IsBodyFor form)
@@ -381,6 +468,9 @@ form_in form.Login place = step (IsBodyFor form.Login) IsLogin (login_of place) 
 form_in (form.Made kind new) place = step (IsBodyFor (form.Made kind new)) (IsMadeFor kind new) (made_of kind new place) _ (row_in kind new place) (λ made is. is)
 form_in form.Password place = passwords_in place
 form_in form.Trust place = step (IsBodyFor form.Trust) IsTrustBody (trust_of place) _ (trust_in place) (λ trust is. is)
+form_in form.AppCred place = step (IsBodyFor form.AppCred) IsAppCredBody (app_cred_of place) _ (app_cred_in place) (λ cred is. is)
+form_in form.Secret place =
+    step (IsBodyFor form.Secret) (λ (secret : SecretBody). IsTotpSecret secret.secret) (secret_of place) _ (secret_is place) (λ secret is. is)
 
 body_in : (form : Form) (bytes : List ℕ) → IfOk (body_of form bytes) (IsBodyFor form)
 unfolding body_of

@@ -4,7 +4,10 @@ use Rattle.std.specs.Prelude.{Result, IsErrAnd}
 use Rattle.ks_base.specs.declared.shapes.ShapeFault.{ShapeFault}
 use Rattle.ks_base.specs.declared.shapes.ShapeRefusal.{ShapeRefusal}
 use Rattle.ks_base.specs.declared.shapes.ShapeRefusal.TheVariants as refusal
-use Rattle.ks_shape.specs.Readings.{Reads, ReadsBy, Refuses}
+use Rattle.ks_shape.specs.declared.misfit.Misfit.{Misfit}
+use Rattle.ks_shape.specs.declared.misfit.Unread.{Unread}
+use Rattle.ks_shape.specs.declared.misfit.Unread.TheVariants as unread
+use Rattle.ks_shape.specs.Readings.{Fits, Reads, ReadsBy, Refuses}
 
 -- a refusal is a reading that is the fault
 pub refused : {A : Type 0} (r : Result A ShapeRefusal) (fault : ShapeFault) → Refuses r fault → Reads r (Err fault)
@@ -27,3 +30,9 @@ pub stops : {A B : Type 0} (out : Result B ShapeRefusal) (e : ShapeRefusal) (par
     → IsErrAnd out (λ x. x ≡ e) → Reads {A = A} (Err e) part → ((fault : ShapeFault) → part ≡ Err fault → whole ≡ Err fault) → Reads out whole
 stops (Ok b) e part whole h reads stop = absurd h
 stops (Err x) e part whole h reads stop = rw h (at_fault e part whole reads stop)
+
+-- a value that does not fit
+pub unfit : {A : Type 0} (out : Result A Unread) (misfit : Misfit) (said : Result A Misfit)
+    → IsErrAnd out (λ x. x ≡ unread.Misfit misfit) → said ≡ Err misfit → Fits out said
+unfit (Ok a) misfit said h e = absurd h
+unfit (Err x) misfit said h e = rw h e

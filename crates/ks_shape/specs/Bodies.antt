@@ -19,6 +19,8 @@ use Rattle.ks_shape.specs.Logins.{login_of}
 use Rattle.ks_shape.specs.Rows.{has_body, made_of}
 use Rattle.ks_shape.specs.Catalog.{catalog_row_of}
 use Rattle.ks_shape.specs.Trusts.{trust_of}
+use Rattle.ks_shape.specs.AppCreds.{app_cred_of}
+use Rattle.ks_shape.specs.Secrets.{secret_of}
 
 -- the original password, then the new one
 unfoldable pub password_of : Place → Result BodyIn ShapeFault
@@ -45,6 +47,12 @@ form_of form.Password place = password_of place
 form_of form.Trust place = do
   trust ← trust_of place
   Ok (body.Trust trust)
+form_of form.AppCred place = do
+  cred ← app_cred_of place
+  Ok (body.AppCred cred)
+form_of form.Secret place = do
+  secret ← secret_of place
+  Ok (body.Secret secret)
 
 -- the forms that there are
 abbrev pub is_form : Form → Bool
@@ -52,6 +60,8 @@ is_form form.Login = true
 is_form (form.Made kind new) = has_body kind
 is_form form.Password = true
 is_form form.Trust = true
+is_form form.AppCred = true
+is_form form.Secret = true
 
 unfoldable pub body_of : Form → List ℕ → Result BodyIn ShapeFault
 body_of form bytes = do

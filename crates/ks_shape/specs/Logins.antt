@@ -10,30 +10,68 @@ use Rattle.ks_machine.specs.declared.bodies.LoginBody.{LoginBody}
 use Rattle.ks_machine.specs.declared.bodies.Proof.{Proof}
 use Rattle.ks_machine.specs.declared.bodies.Proof.TheVariants as proof
 use Rattle.ks_machine.specs.declared.bodies.ScopeIn.{ScopeIn}
+use Rattle.ks_machine.specs.declared.bodies.UserNamed.{UserNamed}
 use Rattle.ks_machine.specs.declared.bodies.ScopeIn.TheVariants as scope
 use Rattle.ks_shape.specs.declared.method.LoginMethod.{LoginMethod}
 use Rattle.ks_shape.specs.declared.method.LoginMethod.TheVariants as method
 use Rattle.ks_shape.specs.declared.misfit.Misfit.TheVariants as misfit
 use Rattle.ks_shape.specs.Places.{Place, names, place_at}
 use Rattle.ks_shape.specs.Fields.{FieldType, judged, needed, unless_null}
-use Rattle.ks_shape.specs.Types.{affirmation, any_text, id_text, one_method, password_text}
-use Rattle.ks_shape.specs.Names.{named_at, project_at, user_at}
+use Rattle.ks_shape.specs.Types.{affirmation, any_text, cred_secret, id_text, password_text}
+use Rattle.ks_shape.specs.Methods.{login_methods}
+use Rattle.ks_shape.specs.Names.{cred_at, named_at, project_at, user_at}
+use Rattle.ks_shape.specs.Secrets.{code_text}
 
-unfoldable pub password_proof : Place → Result Proof ShapeFault
-password_proof body = do
+-- a user, and its password
+unfoldable pub password_part : Place → Result (UserNamed × List ℕ) ShapeFault
+password_part body = do
   user ← place_at (names (codes "auth.identity.password.user")) body
   password ← needed password_text (names (codes "password")) user
   named ← user_at user
-  Ok (proof.Password named password)
+  Ok (named, password)
+
+-- a user, and a code of it
+unfoldable pub code_part : Place → Result (UserNamed × ℕ) ShapeFault
+code_part body = do
+  user ← place_at (names (codes "auth.identity.totp.user")) body
+  code ← needed code_text (names (codes "passcode")) user
+  named ← user_at user
+  Ok (named, code)
+
+unfoldable pub password_proof : Place → Result Proof ShapeFault
+password_proof body = do
+  password ← password_part body
+  Ok (proof.Password password.0 password.1)
+
+unfoldable pub code_proof : Place → Result Proof ShapeFault
+code_proof body = do
+  code ← code_part body
+  Ok (proof.Totp code.0 code.1)
+
+unfoldable pub both_proof : Place → Result Proof ShapeFault
+both_proof body = do
+  password ← password_part body
+  code ← code_part body
+  Ok (proof.Both password.0 password.1 code.0 code.1)
 
 unfoldable pub token_proof : Place → Result Proof ShapeFault
 token_proof body = do
   token ← needed any_text (names (codes "auth.identity.token.id")) body
   Ok (proof.Token token)
 
+unfoldable pub cred_proof : Place → Result Proof ShapeFault
+cred_proof body = do
+  below ← place_at (names (codes "auth.identity.application_credential")) body
+  named ← cred_at below
+  secret ← needed cred_secret (names (codes "secret")) below
+  Ok (proof.AppCred named secret)
+
 abbrev pub proof_by : LoginMethod → Place → Result Proof ShapeFault
 proof_by method.Password body = password_proof body
+proof_by method.Totp body = code_proof body
+proof_by method.Both body = both_proof body
 proof_by method.Token body = token_proof body
+proof_by method.AppCred body = cred_proof body
 
 -- the one scope that is a text
 unfoldable pub unscoped_text : FieldType ScopeIn
@@ -91,7 +129,7 @@ scope_at place = scope_from (unless_null place.value) place
 
 unfoldable pub login_of : Place → Result LoginBody ShapeFault
 login_of body = do
-  method ← needed one_method (names (codes "auth.identity.methods")) body
+  method ← needed login_methods (names (codes "auth.identity.methods")) body
   proof ← proof_by method body
   below ← place_at (names (codes "auth.scope")) body
   scope ← scope_at below

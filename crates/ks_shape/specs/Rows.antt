@@ -10,6 +10,7 @@ use Rattle.ks_machine.specs.declared.bodies.Made.{Made}
 use Rattle.ks_machine.specs.declared.bodies.Made.TheVariants as made
 use Rattle.ks_shape.specs.Places.{Place, names}
 use Rattle.ks_shape.specs.Fields.{needed_if, optional}
+use Rattle.ks_shape.specs.Factors.{factors_at}
 use Rattle.ks_shape.specs.Types.{description_text, falsehood, id_text, name_text, password_text, truth}
 
 abbrev pub id_at : Bool → List (List ℕ) → Place → Result (Option (List ℕ)) ShapeFault
@@ -41,8 +42,9 @@ user_of new body = do
   domain ← optional id_text (names (codes "user.domain_id")) body
   password ← optional password_text (names (codes "user.password")) body
   enabled ← optional truth (names (codes "user.enabled")) body
+  factors ← factors_at body
   id ← id_at new (names (codes "user.id")) body
-  Ok (made.User id name domain password enabled)
+  Ok (made.User id name domain password enabled factors)
 
 unfoldable pub group_of : Bool → Place → Result Made ShapeFault
 group_of new body = do
@@ -74,6 +76,8 @@ has_body kind.Event = false
 has_body kind.Region = false
 has_body kind.Service = false
 has_body kind.Endpoint = false
+has_body kind.AppCred = false
+has_body kind.Secret = false
 
 abbrev pub made_of : Kind → Bool → Place → Result Made ShapeFault
 made_of kind.Domain new body = domain_of new body

@@ -1,8 +1,8 @@
 -- The types of fields.
-use Rattle.std.specs.Prelude.{ℕ, suc, Bool, not, nat_le, if◌then◌else◌, List, length, Option, Some, None, option_and_then, Result, Ok, codes}
+use Rattle.std.specs.Prelude.{ℕ, suc, Bool, not, nat_le, if◌then◌else◌, List, [], ◌∷◌, length, Option, Some, None, option_and_then, Result, Ok}
 use Rattle.std.specs.Int.{is_in_range}
 use Rattle.std.specs.Str.{bytes_eq}
-use Rattle.serde_json.specs.Data.{Items, no_items, item}
+use Rattle.serde_json.specs.Data.{Data, Items, no_items, item}
 use Rattle.serde_json.specs.Find.{as_array, as_bool, as_number, as_str, as_u64}
 use Rattle.ks_base.specs.declared.limits.TheConstants.{DESCRIPTION_BYTES, ENDPOINT_URL_BYTES, NAME_BYTES, PASSWORD_BYTES}
 use Rattle.ks_base.specs.declared.catalog.Interface.{Interface}
@@ -10,8 +10,6 @@ use Rattle.ks_base.specs.declared.catalog.Interface.TheVariants as interface
 use Rattle.ks_base.specs.Catalog.{interface_word}
 use Rattle.ks_base.specs.Ids.{is_id}
 use Rattle.ks_base.specs.Results.{found, need, ◌>>=◌}
-use Rattle.ks_shape.specs.declared.method.LoginMethod.{LoginMethod}
-use Rattle.ks_shape.specs.declared.method.LoginMethod.TheVariants as method
 use Rattle.ks_shape.specs.declared.misfit.Misfit.{Misfit}
 use Rattle.ks_shape.specs.declared.misfit.Misfit.TheVariants as misfit
 use Rattle.ks_shape.specs.Fields.{FieldType}
@@ -35,6 +33,10 @@ description_text = text_of 0 DESCRIPTION_BYTES
 
 abbrev pub password_text : FieldType (List ℕ)
 password_text = text_of 1 PASSWORD_BYTES
+
+-- the secret of an application credential
+abbrev pub cred_secret : FieldType (List ℕ)
+cred_secret = text_of 1 NAME_BYTES
 
 -- the type or the name of a service
 abbrev pub service_text : FieldType (List ℕ)
@@ -94,23 +96,13 @@ list_of most value = do
   _ ← need (nat_le (count_of items) most) misfit.Range
   Ok items
 
--- the text of a list that has one text alone
-abbrev pub only_text : Items → Option (List ℕ)
-only_text no_items = None
-only_text (item value no_items) = as_str value
-only_text (item value (item second items)) = None
-
-abbrev pub method_named : List ℕ → Option LoginMethod
-method_named text =
-    if bytes_eq text (codes "password") then Some method.Password
-    else (if bytes_eq text (codes "token") then Some method.Token else None)
-
--- a list of the one method of a login
-unfoldable pub one_method : FieldType LoginMethod
-one_method value = do
-  items ← found (as_array value) misfit.Kind
-  text ← found (only_text items) misfit.Range
-  found (method_named text) misfit.Range
+-- what is read of each of these values, or the first fault
+unfoldable pub each_read : {A F : Type 0} → (Data → Result A F) → Items → Result (List A) F
+each_read read no_items = Ok []
+each_read read (item value items) = do
+  first ← read value
+  others ← each_read read items
+  Ok (first ∷ others)
 
 abbrev pub interface_named : List ℕ → Option Interface
 interface_named text =

@@ -6,11 +6,13 @@ ghost use Rattle.ks_shape.specs.Places.{place_of};
 ghost use Rattle.ks_base.specs.Results.{found};
 ghost use Rattle.ks_shape.specs.Readings.{Reads, ReadsBy};
 
+use crate::app_cred::app_cred;
 use crate::catalog::catalog_row;
 use crate::form::{BodyIn, Form};
 use crate::login::login;
 use crate::node::Node;
 use crate::rows::{PASSWORD, made};
+use crate::secret::secret;
 use crate::trust::trust;
 use ks_base::{CatalogIn, CatalogKind, ShapeFault, ShapeRefusal, Text};
 use serde_json::Value;
@@ -36,6 +38,8 @@ fn read_form(form: Form, body: &Node) -> Result<BodyIn, ShapeRefusal>
         Form::Made(kind, new) => Ok(BodyIn::Made(made(kind, new, body)?)),
         Form::Password => password(body),
         Form::Trust => Ok(BodyIn::Trust(trust(body)?)),
+        Form::AppCred => Ok(BodyIn::AppCred(app_cred(body)?)),
+        Form::Secret => Ok(BodyIn::Secret(secret(body)?)),
     }
 }
 

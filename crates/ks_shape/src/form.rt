@@ -1,5 +1,5 @@
 use ks_base::{Kind, Text};
-use ks_machine::{LoginBody, Made, TrustBody};
+use ks_machine::{AppCredBody, LoginBody, Made, SecretBody, TrustBody};
 
 /// What a body is to be.
 #[derive(Clone, Copy)]
@@ -10,6 +10,9 @@ pub enum Form {
     /// A change of one's own password.
     Password,
     Trust,
+    AppCred,
+    /// A user's secret of one-time codes.
+    Secret,
 }
 
 /// What a body asks for.
@@ -20,4 +23,6 @@ pub enum BodyIn {
     /// The original password, and the new one.
     Password(Text, Text),
     Trust(TrustBody),
+    AppCred(AppCredBody),
+    Secret(SecretBody),
 }

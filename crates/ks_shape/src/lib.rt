@@ -2,8 +2,10 @@
 //! the first fault that it has.
 #![tactic(auto)]
 
+mod app_cred;
 mod body;
 mod catalog;
+mod factors;
 mod fields;
 mod form;
 mod laws;
@@ -14,6 +16,7 @@ mod names;
 mod node;
 mod rows;
 mod scope;
+mod secret;
 mod trust;
 mod types;
 
@@ -21,7 +24,10 @@ pub use body::{read_body, read_catalog_body, read_document};
 pub use catalog::{ENDPOINT_URL, InterfaceWord, SERVICE_TEXT};
 pub use fields::FieldType;
 pub use form::{BodyIn, Form};
-pub use laws::{bodies_are_in_range, catalog_bodies_are_in_range, moments_are_of_time_texts};
+pub use laws::{
+    bodies_are_in_range, catalog_bodies_are_in_range, moments_are_of_time_texts,
+    secrets_are_of_base32_texts,
+};
 pub use misfit::{Misfit, Unread};
 pub use node::Node;
 pub use rows::{DESCRIPTION, NAME, PASSWORD};

@@ -40,3 +40,25 @@ impl From<Memory> for Unread {
         Unread::Memory
     }
 }
+
+impl From<AllocError> for Unread {
+    ghost use Rattle.std.specs.Prelude.{◌≡◌};
+    ghost use Rattle.ks_shape.specs.declared.misfit.Unread.TheVariants as unread;
+
+    ghost from_gives = { λ _ e. e ≡ unread.Memory };
+
+    fn from(_error: AllocError) -> Unread {
+        Unread::Memory
+    }
+}
+
+impl<T: Drop> From<AllocFailed<T>> for Unread {
+    ghost use Rattle.std.specs.Prelude.{◌≡◌};
+    ghost use Rattle.ks_shape.specs.declared.misfit.Unread.TheVariants as unread;
+
+    ghost from_gives = { λ _ e. e ≡ unread.Memory };
+
+    fn from(_error: AllocFailed<T>) -> Unread {
+        Unread::Memory
+    }
+}

@@ -1,5 +1,5 @@
 ghost use Rattle.serde_json.specs.View.{items_view};
-ghost use Rattle.ks_shape.specs.Names.{all_named, name_and_domain, named_at, own_id, own_name, project_at, user_at};
+ghost use Rattle.ks_shape.specs.Names.{all_named, cred_at, name_and_domain, name_and_user, named_at, own_id, own_name, project_at, user_at};
 ghost use Rattle.ks_shape.specs.Places.{place_of};
 ghost use Rattle.ks_shape.specs.Readings.{Reads};
 
@@ -7,7 +7,7 @@ use crate::node::Node;
 use crate::rows::NAME;
 use crate::types::IdText;
 use ks_base::{Id, ShapeRefusal, Text};
-use ks_machine::{Named, NamedList, ProjectNamed, UserNamed};
+use ks_machine::{CredNamed, Named, NamedList, ProjectNamed, UserNamed};
 use serde_json::Value;
 use std::alloc::Global;
 
@@ -66,6 +66,28 @@ pub fn project(node: &Node) -> Result<ProjectNamed, ShapeRefusal>
     }
     let (name, domain) = name_and_domain(node)?;
     Ok(ProjectNamed::Name(name, domain))
+}
+
+/// A name, and the user of whose credentials it is the name.
+#[tactic(auto, unfolding(crate::specs::Names::name_and_user))]
+fn name_and_user(node: &Node) -> Result<(Text, UserNamed), ShapeRefusal>
+    ensures { Reads result (name_and_user (place_of node.now)) }
+{
+    let name = own_name(node)?;
+    let below = node.at(&["user"])?;
+    let user = user(&below)?;
+    Ok((name, user))
+}
+
+#[tactic(auto, unfolding(crate::specs::Names::cred_at))]
+pub fn cred(node: &Node) -> Result<CredNamed, ShapeRefusal>
+    ensures { Reads result (cred_at (place_of node.now)) }
+{
+    if let Some(id) = own_id(node)? {
+        return Ok(CredNamed::Id(id));
+    }
+    let (name, user) = name_and_user(node)?;
+    Ok(CredNamed::Name(name, user))
 }
 
 /// What each of these values names; all are known by the path.

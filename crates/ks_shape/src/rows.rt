@@ -3,6 +3,7 @@ ghost use Rattle.ks_shape.specs.Places.{names_in, place_of};
 ghost use Rattle.ks_shape.specs.Readings.{Reads};
 ghost use Rattle.ks_shape.specs.Rows.{domain_of, group_of, has_body, id_at, made_of, project_of, role_of, user_of};
 
+use crate::factors::factors;
 use crate::node::Node;
 use crate::types::{Falsehood, IdText, TextOf, Truth};
 use ks_base::limits::{DESCRIPTION_BYTES, NAME_BYTES, PASSWORD_BYTES};
@@ -82,6 +83,7 @@ fn user(new: bool, body: &Node) -> Result<Made, ShapeRefusal>
     let domain = body.optional(&["user", "domain_id"], &IdText)?;
     let password = body.optional(&["user", "password"], &PASSWORD)?;
     let enabled = body.optional(&["user", "enabled"], &Truth)?;
+    let factors = factors(body)?;
     let id = id_at(new, &["user", "id"], body)?;
     Ok(Made::User {
         id,
@@ -89,6 +91,7 @@ fn user(new: bool, body: &Node) -> Result<Made, ShapeRefusal>
         domain,
         password,
         enabled,
+        factors,
     })
 }
 

@@ -1,0 +1,6 @@
+use Rattle.ks_render.specs.Named.{self_value}
+use Rattle.ks_render.proofs.credentials.write_place.Goals as goal
+
+pub returns : goal.returns
+unfolding self_value
+returns c = rw (c.as_str.ensures.value, c.in_ok-make_link.ensures) at c.write_link.ensures
