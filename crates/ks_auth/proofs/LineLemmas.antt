@@ -7,7 +7,7 @@ use Rattle.ks_fernet.specs.declared.opening.OpenAnswer.{OpenAnswer}
 use Rattle.ks_machine.specs.Attempts.{Attempt, Go, Stop, Lacks, Keys, ◌>>=◌, Known, decided}
 use Rattle.ks_machine.specs.States.{State, is_user_on}
 use Rattle.ks_machine.specs.TokenLines.{payload_lines, token_lines}
-use Rattle.ks_machine.specs.Validity.{Valid, has_roles, held_lines, holder, is_scope_on, is_trust_line, opens, roles_of, validity}
+use Rattle.ks_machine.specs.Validity.{Valid, has_roles, held_lines, holder, is_cred_line, is_scope_on, is_trust_line, opens, roles_of, validity}
 use Rattle.ks_machine.specs.declared.lines.ReadToken.{ReadToken}
 use Rattle.ks_machine.specs.declared.why.Why.{Why}
 use Rattle.ks_machine.specs.declared.why.Why.TheVariants as why
@@ -95,15 +95,24 @@ pub stops_trust : (rows : Rows) (events : List EventRow) (moment : ℕ) (payload
 unfolding row_lines
 stops_trust rows events moment payload issued revoked user scope trust = rw (sym revoked, sym user, sym scope, sym trust) refl
 
+pub stops_cred : (rows : Rows) (events : List EventRow) (moment : ℕ) (payload : Payload) (issued : ℕ) →
+    false ≡ is_revoked events (holder rows payload) issued → true ≡ is_user_on rows payload.user → true ≡ is_scope_on rows payload →
+    true ≡ is_trust_line rows moment payload → false ≡ is_cred_line rows moment payload → row_lines rows events moment payload issued ≡ Stop why.Credential
+unfolding row_lines
+stops_cred rows events moment payload issued revoked user scope trust cred = rw (sym revoked, sym user, sym scope, sym trust, sym cred) refl
+
 pub stops_roles : (rows : Rows) (events : List EventRow) (moment : ℕ) (payload : Payload) (issued : ℕ) →
     false ≡ is_revoked events (holder rows payload) issued → true ≡ is_user_on rows payload.user → true ≡ is_scope_on rows payload →
-    true ≡ is_trust_line rows moment payload → false ≡ has_roles rows payload → row_lines rows events moment payload issued ≡ Stop why.Roles
+    true ≡ is_trust_line rows moment payload → true ≡ is_cred_line rows moment payload → false ≡ has_roles rows payload →
+    row_lines rows events moment payload issued ≡ Stop why.Roles
 unfolding row_lines
-stops_roles rows events moment payload issued revoked user scope trust roles = rw (sym revoked, sym user, sym scope, sym trust, sym roles) refl
+stops_roles rows events moment payload issued revoked user scope trust cred roles =
+    rw (sym revoked, sym user, sym scope, sym trust, sym cred, sym roles) refl
 
 pub all_hold : (rows : Rows) (events : List EventRow) (moment : ℕ) (payload : Payload) (issued : ℕ) (ids : List Id) →
     false ≡ is_revoked events (holder rows payload) issued → true ≡ is_user_on rows payload.user → true ≡ is_scope_on rows payload →
-    true ≡ is_trust_line rows moment payload → true ≡ has_roles rows payload → ids ≡ roles_of rows payload →
+    true ≡ is_trust_line rows moment payload → true ≡ is_cred_line rows moment payload → true ≡ has_roles rows payload → ids ≡ roles_of rows payload →
     row_lines rows events moment payload issued ≡ Go (record { payload = payload; issued = issued; roles = ids })
 unfolding row_lines
-all_hold rows events moment payload issued ids revoked user scope trust roles is = rw (sym revoked, sym user, sym scope, sym trust, sym roles, is) refl
+all_hold rows events moment payload issued ids revoked user scope trust cred roles is =
+    rw (sym revoked, sym user, sym scope, sym trust, sym cred, sym roles, is) refl

@@ -5,7 +5,6 @@ use Rattle.ks_base.specs.declared.grants.Target.{Target}
 use Rattle.ks_base.specs.declared.grants.Target.TheVariants as target
 use Rattle.ks_base.specs.declared.memory.Memory.{Memory}
 use Rattle.ks_base.specs.declared.trusts.TrustRow.{TrustRow}
-use Rattle.ks_base.specs.Catalog.{CatalogState}
 use Rattle.ks_base.specs.Roles.{Effective, IsImplied}
 use Rattle.ks_base.specs.Rows.{Id, Rows, same, has_id}
 use Rattle.ks_base.specs.Tables.{Among, IsAscending, id_cmp}
@@ -17,37 +16,44 @@ use Rattle.ks_machine.specs.Validity.{is_kept}
 use Rattle.ks_machine.specs.Laws.{RolesAreEffective, RolesAreImplied}
 use Rattle.ks_machine.proofs.RoleLemmas.{effective-Decides}
 
--- the rows with these trusts and this catalog
-abbrev with_others : List TrustRow → CatalogState → Rows → Rows
-with_others trusts catalog rows = record rows { trusts = trusts; regions = catalog.regions; services = catalog.services; endpoints = catalog.endpoints }
+-- the rows with what others have, on which effective roles do not hang
+abbrev with_others : Rows → Rows → Rows
+with_others others rows = record rows {
+  trusts = others.trusts;
+  regions = others.regions;
+  services = others.services;
+  endpoints = others.endpoints;
+  app_creds = others.app_creds;
+  secrets = others.secrets;
+  factor_rules = others.factor_rules;
+}
 
--- effective roles hang neither on trusts nor on the catalog
-still_effective : (rows : Rows) (trusts : List TrustRow) (catalog : CatalogState) (user : Id) (wanted : Target) (role : Id) →
-    Effective rows user wanted role ↔ Effective (with_others trusts catalog rows) user wanted role
-still_effective rows trusts catalog user wanted role = (
+still_effective : (rows others : Rows) (user : Id) (wanted : Target) (role : Id) →
+    Effective rows user wanted role ↔ Effective (with_others others rows) user wanted role
+still_effective rows others user wanted role = (
   λ e. record { grant = e.grant; stands = e.stands; acts = e.acts; reaches = e.reaches; walks = e.walks },
   λ e. record { grant = e.grant; stands = e.stands; acts = e.acts; reaches = e.reaches; walks = e.walks },
 )
 
-members_with_others : (rows : Rows) (trusts : List TrustRow) (catalog : CatalogState) (user : Id) (wanted : Target) (ids : List Id) →
-    ((role : Id) → Among ids role ↔ Effective rows user wanted role) → (role : Id) → Among ids role ↔ Effective (with_others trusts catalog rows) user wanted role
-members_with_others rows trusts catalog user wanted ids effective role = (
-  λ among. (still_effective rows trusts catalog user wanted role).0 ((effective role).0 among),
-  λ there. (effective role).1 ((still_effective rows trusts catalog user wanted role).1 there),
+members_with_others : (rows others : Rows) (user : Id) (wanted : Target) (ids : List Id) →
+    ((role : Id) → Among ids role ↔ Effective rows user wanted role) → (role : Id) → Among ids role ↔ Effective (with_others others rows) user wanted role
+members_with_others rows others user wanted ids effective role = (
+  λ among. (still_effective rows others user wanted role).0 ((effective role).0 among),
+  λ there. (effective role).1 ((still_effective rows others user wanted role).1 there),
 )
 
-pub gathered_members : (rows : Rows) (trusts : List TrustRow) (catalog : CatalogState) (user : Id) (wanted : Target) (gathered : Result (List Id) Memory) →
+pub gathered_members : (rows others : Rows) (user : Id) (wanted : Target) (gathered : Result (List Id) Memory) →
     IfOk gathered (λ ids. (role : Id) → Among ids role ↔ Effective rows user wanted role) →
-    IfOk gathered (λ ids. (role : Id) → Among ids role ↔ Effective (with_others trusts catalog rows) user wanted role)
-gathered_members rows trusts catalog user wanted (Ok ids) effective = members_with_others rows trusts catalog user wanted ids effective
-gathered_members rows trusts catalog user wanted (Err memory) effective = tt
+    IfOk gathered (λ ids. (role : Id) → Among ids role ↔ Effective (with_others others rows) user wanted role)
+gathered_members rows others user wanted (Ok ids) effective = members_with_others rows others user wanted ids effective
+gathered_members rows others user wanted (Err memory) effective = tt
 
-pub gathered_list : (rows : Rows) (trusts : List TrustRow) (catalog : CatalogState) (user : Id) (wanted : Target) (gathered : Result (List Id) Memory) → RolesAreEffective →
+pub gathered_list : (rows others : Rows) (user : Id) (wanted : Target) (gathered : Result (List Id) Memory) → RolesAreEffective →
     IfOk gathered (λ ids. (role : Id) → Among ids role ↔ Effective rows user wanted role) → IfOk gathered (λ ids. IsAscending id_cmp (λ id. id) ids) →
-    IfOk gathered (λ ids. ids ≡ roles_at (with_others trusts catalog rows) user wanted)
-gathered_list rows trusts catalog user wanted (Ok ids) law effective ascending =
-    law (with_others trusts catalog rows) user wanted ids ascending (members_with_others rows trusts catalog user wanted ids effective)
-gathered_list rows trusts catalog user wanted (Err memory) law effective ascending = tt
+    IfOk gathered (λ ids. ids ≡ roles_at (with_others others rows) user wanted)
+gathered_list rows others user wanted (Ok ids) law effective ascending =
+    law (with_others others rows) user wanted ids ascending (members_with_others rows others user wanted ids effective)
+gathered_list rows others user wanted (Err memory) law effective ascending = tt
 
 pub gathered_closure : (rows : Rows) (roles : List Id) (gathered : Result (List Id) Memory) → RolesAreImplied →
     IfOk gathered (λ ids. (role : Id) → Among ids role ↔ IsImplied rows.implications roles role) → IfOk gathered (λ ids. IsAscending id_cmp (λ id. id) ids) →

@@ -22,6 +22,9 @@ rows_told tables = record (rows_of tables.tree.now tables.people.now tables.role
   regions = tables.catalog.now.regions;
   services = tables.catalog.now.services;
   endpoints = tables.catalog.now.endpoints;
+  app_creds = tables.app_creds.now;
+  secrets = tables.factors.now.state.secrets;
+  factor_rules = tables.factors.now.state.rules;
 }
 
 -- the tables tell this state: its settings, its ring, its rows, and its revocations, for which the live ones stand

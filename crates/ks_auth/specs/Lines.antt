@@ -9,7 +9,7 @@ use Rattle.ks_fernet.specs.declared.opening.OpenAnswer.TheVariants.{NotText, No,
 use Rattle.ks_machine.specs.Attempts.{Attempt, Go, Stop, Lacks, Keys, ◌>>=◌, Known, decided, need}
 use Rattle.ks_machine.specs.States.{is_user_on}
 use Rattle.ks_machine.specs.TokenLines.{token_lines}
-use Rattle.ks_machine.specs.Validity.{Valid, holder, opens, has_roles, is_scope_on, is_trust_line, roles_of}
+use Rattle.ks_machine.specs.Validity.{Valid, holder, opens, has_roles, is_cred_line, is_scope_on, is_trust_line, roles_of}
 use Rattle.ks_machine.specs.declared.lines.ReadToken.{ReadToken}
 use Rattle.ks_machine.specs.declared.why.Why.{Why}
 use Rattle.ks_machine.specs.declared.why.Why.TheVariants as why
@@ -31,6 +31,7 @@ row_lines rows events moment payload issued = do
   _ ← need (is_user_on rows payload.user) why.User
   _ ← need (is_scope_on rows payload) why.Scope
   _ ← need (is_trust_line rows moment payload) why.Trust
+  _ ← need (is_cred_line rows moment payload) why.Credential
   _ ← need (has_roles rows payload) why.Roles
   Go (record { payload = payload; issued = issued; roles = roles_of rows payload })
 

@@ -2,15 +2,17 @@
 ghost use Rattle.std.specs.Prelude.{◌≡◌, ◌↔◌, ℕ, List, Some, IfOk};
 ghost use Rattle.std.specs.List.{list_all};
 ghost use Rattle.ks_base.specs.Roles.{Effective};
+ghost use Rattle.ks_base.specs.AppCreds.{cred_of};
 ghost use Rattle.ks_base.specs.Rows.{has_id, trust_of};
 ghost use Rattle.ks_base.specs.Tables.{Among};
 ghost use Rattle.ks_auth.specs.Answers.{rows_told};
 ghost use Rattle.ks_machine.specs.Effective.{closure, roles_at};
 ghost use Rattle.ks_machine.specs.TrustCommands.{roles_to_give};
-ghost use Rattle.ks_machine.specs.Validity.{are_kept, has_roles, is_kept, is_system, roles_of, trust_roles};
+ghost use Rattle.ks_machine.specs.Validity.{are_had, are_kept, cred_roles, has_cred_roles, has_roles, is_kept, is_system, roles_of, trust_roles};
 
 use crate::Tables;
-use ks_base::{Id, IdList, Memory, Target, TrustRow};
+use crate::credential::cred_in_payload;
+use ks_base::{AppCredRow, Id, IdList, Memory, Target, TrustRow};
 use ks_machine::{roles_are_effective, roles_are_implied};
 use ks_payload::Payload;
 use std::alloc::Global;
@@ -18,14 +20,17 @@ use std::alloc::Global;
 /// The kind of payloads that are for the whole system.
 const SYSTEM: u8 = 4;
 
-/// The roles of a token: those of its trust and what these imply, those that the user has at its scope, or none where
-/// it has no scope.
+/// The roles of a token: those of its trust or of its application credential and what these imply, those that the user
+/// has at its scope, or none where it has no scope.
 #[tactic(auto, unfolding(ks_machine::specs::Validity::roles_of))]
 pub fn roles_of(alloc: Global, tables: &Tables, payload: &Payload) -> Result<IdList, Memory>
     ensures { IfOk result (λ ids. ids ≡ roles_of (rows_told tables.now) payload.now) }
 {
     if let Some(id) = &payload.trust {
         return trust_roles(alloc, tables, id);
+    }
+    if let Some(id) = &payload.credential {
+        return cred_roles(alloc, tables, id);
     }
     match (payload.project, payload.domain) {
         (Some(project), _) => roles_at(alloc, tables, &payload.user, &Target::Project(project)),
@@ -47,6 +52,16 @@ fn trust_roles(alloc: Global, tables: &Tables, id: &Id) -> Result<IdList, Memory
     }
 }
 
+/// The roles of an application credential and what they imply; none where it does not stand.
+fn cred_roles(alloc: Global, tables: &Tables, id: &Id) -> Result<IdList, Memory>
+    ensures { IfOk result (λ ids. ids ≡ cred_roles (rows_told tables.now) (cred_of id.now tables.now.app_creds.now)) }
+{
+    match tables.app_creds.row(id) {
+        Some(cred) => closure(tables, &cred.roles),
+        None => Ok(IdList::new(alloc)),
+    }
+}
+
 /// The roles that these imply, themselves included.
 pub fn closure(tables: &Tables, roles: &IdList) -> Result<IdList, Memory>
     ensures { IfOk result (λ ids. ids ≡ closure (rows_told tables.now) roles.now) }
@@ -55,8 +70,9 @@ pub fn closure(tables: &Tables, roles: &IdList) -> Result<IdList, Memory>
     tables.roles.closure(roles)
 }
 
-/// Whether the token has these roles, which are its own, or needs none, and each role of its trust is effective for
-/// the trust's first trustor at the trust's project.
+/// Whether the token has these roles, which are its own, or needs none, each role of its trust is effective for the
+/// trust's first trustor at the trust's project, and each of its application credential for the credential's user at
+/// the credential's project.
 pub fn has_roles(
     alloc: Global,
     tables: &Tables,
@@ -70,7 +86,10 @@ pub fn has_roles(
     if is_scoped && roles.is_empty() {
         return Ok(false);
     }
-    are_kept(alloc, tables, payload)
+    if !are_kept(alloc, tables, payload)? {
+        return Ok(false);
+    }
+    are_had(alloc, tables, payload)
 }
 
 fn are_kept(alloc: Global, tables: &Tables, payload: &Payload) -> Result<bool, Memory>
@@ -96,6 +115,23 @@ fn keeps_roles(alloc: Global, tables: &Tables, id: &Id, trust: &TrustRow) -> Res
     let at = Target::Project(trust.project);
     let held = roles_at(alloc, tables, &first, &at)?;
     Ok(have_all(held.as_slice(), trust.roles.as_slice()))
+}
+
+fn are_had(alloc: Global, tables: &Tables, payload: &Payload) -> Result<bool, Memory>
+    ensures { IfOk result (λ holds. holds ≡ are_had (rows_told tables.now) payload.now) }
+{
+    match cred_in_payload(tables, payload) {
+        Some(cred) => has_cred_roles(alloc, tables, cred),
+        None => Ok(true),
+    }
+}
+
+/// Whether the user of the application credential has each role that it lists at its project now.
+pub fn has_cred_roles(alloc: Global, tables: &Tables, cred: &AppCredRow) -> Result<bool, Memory>
+    ensures { IfOk result (λ holds. holds ≡ has_cred_roles (rows_told tables.now) cred.now) }
+{
+    let held = roles_at(alloc, tables, &cred.user, &Target::Project(cred.project))?;
+    Ok(have_all(held.as_slice(), cred.roles.as_slice()))
 }
 
 /// Whether the list has all of these.

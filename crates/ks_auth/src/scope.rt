@@ -20,8 +20,8 @@ pub fn is_user_on(tables: &Tables, id: &Id) -> bool
     }
 }
 
-/// Whether the domain or project that the token is for stands and is enabled. The system always is, and an
-/// application credential never holds.
+/// Whether the domain or project that the token is for stands and is enabled, also the project of an application
+/// credential. The system always is.
 pub fn is_scope_on(tables: &Tables, payload: &Payload) -> bool
     ensures { result ≡ is_scope_on (rows_told tables.now) payload.now }
 {
@@ -33,7 +33,7 @@ pub fn is_scope_on(tables: &Tables, payload: &Payload) -> bool
         Some(id) => is_project_on(tables, id),
         None => true,
     };
-    is_domain && is_project && payload.credential.is_none()
+    is_domain && is_project
 }
 
 /// Whether the domain stands and is enabled.
@@ -83,7 +83,8 @@ fn is_trust_on(tables: &Tables, moment: u64, payload: &Payload, id: &Id, trust: 
         && *acts_as(trust) == payload.user
 }
 
-fn is_expired(expires: &Option<u64>, moment: u64) -> bool
+/// Whether the moment has come to this expiry, where there is one.
+pub fn is_expired(expires: &Option<u64>, moment: u64) -> bool
     ensures { result ≡ is_expired expires.now moment }
 {
     match expires {

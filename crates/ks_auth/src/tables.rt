@@ -1,3 +1,4 @@
+use ks_appcred::AppCreds;
 use ks_assign::Grants;
 use ks_catalog::Catalog;
 use ks_machine::Settings;
@@ -5,6 +6,7 @@ use ks_people::People;
 use ks_revoke::Revoked;
 use ks_ring::Ring;
 use ks_roles::Roles;
+use ks_totp::Factors;
 use ks_tree::Tree;
 use ks_trust::Trusts;
 
@@ -17,6 +19,8 @@ pub struct Tables<'a> {
     pub grants: &'a Grants,
     pub trusts: &'a Trusts,
     pub catalog: &'a Catalog,
+    pub app_creds: &'a AppCreds,
+    pub factors: &'a Factors,
     pub revoked: &'a Revoked,
     pub ring: &'a Ring,
     pub settings: &'a Settings,

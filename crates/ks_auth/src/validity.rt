@@ -9,13 +9,14 @@ ghost use Rattle.ks_machine.specs.Validity.{validity};
 ghost use Rattle.ks_payload.specs.Payloads.{IsInRange};
 ghost use Rattle.ks_revoke.specs.Histories.{Stands};
 
+use crate::credential::is_cred_line;
 use crate::holder::holder;
 use crate::opening::{Halt, held};
 use crate::roles::{has_roles, roles_of};
 use crate::scope::{is_scope_on, is_trust_line, is_user_on};
 use crate::{Facts, Tables, Verdict};
 use ks_base::{Memory, Text};
-use ks_machine::Why;
+use ks_machine::{Why, credentials_are_bounded};
 use ks_payload::Payload;
 use std::alloc::Global;
 
@@ -36,6 +37,8 @@ pub fn validate(
     ensures verdict { (S : State) → Tells tables.now S → IsVerdict (validity (told facts.now) S moment late text.now) result }
     ensures user { IfOk result (λ verdict. IsOfUser tables.now.people.now.users verdict) }
 {
+    // What a valid token of an application credential may do is bounded by what its user has.
+    credentials_are_bounded();
     match held(tables, moment, text, late, facts) {
         Ok((payload, issued)) => judge(alloc, tables, moment, payload, issued),
         Err(Halt::Refused(why)) => Ok(Verdict::Refused(why)),
@@ -68,6 +71,9 @@ fn judge(
     }
     if !is_trust_line(tables, moment, &payload) {
         return Ok(Verdict::Refused(Why::Trust));
+    }
+    if !is_cred_line(tables, moment, &payload) {
+        return Ok(Verdict::Refused(Why::Credential));
     }
     let roles = roles_of(alloc, tables, &payload)?;
     if !has_roles(alloc, tables, &payload, roles.as_slice())? {

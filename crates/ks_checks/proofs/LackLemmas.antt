@@ -6,7 +6,7 @@ use Rattle.ks_base.specs.Revocation.{is_revoked}
 use Rattle.ks_machine.specs.Attempts.{Attempt, Go, Stop, Lacks, Lack, Keys, ◌>>=◌, Known, blame, decided, need}
 use Rattle.ks_machine.specs.States.{State, is_user_on}
 use Rattle.ks_machine.specs.TokenLines.{token_lines}
-use Rattle.ks_machine.specs.Validity.{Valid, has_roles, held_lines, holder, is_scope_on, is_trust_line, lacking, opened, opens, roles_of, unless_lacking, validity}
+use Rattle.ks_machine.specs.Validity.{Valid, has_roles, held_lines, holder, is_cred_line, is_scope_on, is_trust_line, lacking, opened, opens, roles_of, unless_lacking, validity}
 use Rattle.ks_machine.specs.declared.lines.ReadToken.{ReadToken}
 use Rattle.ks_machine.specs.declared.why.Why.{Why}
 use Rattle.ks_machine.specs.declared.why.Why.TheVariants as why
@@ -20,20 +20,21 @@ LacksNone (Go a) = Unit {0}
 LacksNone (Stop w) = Unit {0}
 LacksNone (Lacks lack) = ⊥
 
-five_lack_none : (a b c d e : Bool) (token : Valid) →
-    LacksNone (need a why.Revoked >>= (λ _. need b why.User >>= (λ _. need c why.Scope >>= (λ _. need d why.Trust >>= (λ _. need e why.Roles >>= (λ _. Go token))))))
-five_lack_none false b c d e token = tt
-five_lack_none true false c d e token = tt
-five_lack_none true true false d e token = tt
-five_lack_none true true true false e token = tt
-five_lack_none true true true true false token = tt
-five_lack_none true true true true true token = tt
+six_lack_none : (a b c d e f : Bool) (token : Valid) →
+    LacksNone (need a why.Revoked >>= (λ _. need b why.User >>= (λ _. need c why.Scope >>= (λ _. need d why.Trust >>= (λ _. need e why.Credential >>= (λ _. need f why.Roles >>= (λ _. Go token)))))))
+six_lack_none false b c d e f token = tt
+six_lack_none true false c d e f token = tt
+six_lack_none true true false d e f token = tt
+six_lack_none true true true false e f token = tt
+six_lack_none true true true true false f token = tt
+six_lack_none true true true true true false token = tt
+six_lack_none true true true true true true token = tt
 
 lines_lack_none : (S : State) (moment : ℕ) (held : ReadToken) → LacksNone (held_lines S moment held)
 unfolding held_lines
 lines_lack_none S moment held =
-    five_lack_none (not (is_revoked S.events (holder S.rows held.payload) held.issued)) (is_user_on S.rows held.payload.user)
-    (is_scope_on S.rows held.payload) (is_trust_line S.rows moment held.payload) (has_roles S.rows held.payload)
+    six_lack_none (not (is_revoked S.events (holder S.rows held.payload) held.issued)) (is_user_on S.rows held.payload.user)
+    (is_scope_on S.rows held.payload) (is_trust_line S.rows moment held.payload) (is_cred_line S.rows moment held.payload) (has_roles S.rows held.payload)
     (record { payload = held.payload; issued = held.issued; roles = roles_of S.rows held.payload })
 
 decided_lacks_none : (S : State) (moment : ℕ) (r : Result ReadToken Why) → LacksNone (decided r >>= held_lines S moment)

@@ -1,3 +1,4 @@
+pub mod FoundLemmas
 pub mod FreshNeeds
 pub mod Halts
 pub mod LackLemmas

@@ -3,14 +3,14 @@ ghost use Rattle.std.specs.Prelude.{Some, Ok, Err};
 ghost use Rattle.ks_base.specs.Refusals.{fault_in};
 ghost use Rattle.ks_auth.specs.Answers.{rows_told};
 ghost use Rattle.ks_machine.specs.Attempts.{need};
-ghost use Rattle.ks_machine.specs.Tables.{standing_domain, standing_endpoint, standing_group, standing_project, standing_region, standing_role, standing_service, standing_user, unless_catalog, unless_row, unless_tree};
+ghost use Rattle.ks_machine.specs.Tables.{standing_cred, standing_domain, standing_endpoint, standing_group, standing_project, standing_region, standing_role, standing_secret, standing_service, standing_user, unless_catalog, unless_row, unless_tree};
 ghost use Rattle.ks_checks.specs.Plans.{Gives, Passes};
 
 use crate::Halt;
 use ks_auth::Tables;
 use ks_base::{
-    CatalogFault, DomainRow, EndpointRow, GroupRow, Id, Kind, ProjectRow, RegionRow, RoleRow,
-    RowFault, ServiceRow, TreeFault, UserRow,
+    AppCredRow, CatalogFault, DomainRow, EndpointRow, GroupRow, Id, Kind, ProjectRow, RegionRow,
+    RoleRow, RowFault, SecretRow, ServiceRow, TreeFault, UserRow,
 };
 use ks_machine::Cause;
 
@@ -176,5 +176,25 @@ pub fn standing_endpoint<'a>(tables: &Tables<'a>, id: &Id) -> Result<&'a Endpoin
     match tables.catalog.endpoint(id) {
         Some(row) => Ok(row),
         None => Err(Halt::Refused(Cause::Absent(Kind::Endpoint, *id))),
+    }
+}
+
+/// The secret of one-time codes with this id, which must stand.
+pub fn standing_secret<'a>(tables: &Tables<'a>, id: &Id) -> Result<&'a SecretRow, Halt>
+    ensures { Gives (λ row. row.now) result (standing_secret (rows_told tables.now) id.now) }
+{
+    match tables.factors.secret(id) {
+        Some(row) => Ok(row),
+        None => Err(Halt::Refused(Cause::Absent(Kind::Secret, *id))),
+    }
+}
+
+/// The application credential of this user with this id, which must stand; that of another user does not.
+pub fn standing_cred<'a>(tables: &Tables<'a>, user: &Id, id: &Id) -> Result<&'a AppCredRow, Halt>
+    ensures { Gives (λ row. row.now) result (standing_cred (rows_told tables.now) user.now id.now) }
+{
+    match tables.app_creds.row(id) {
+        Some(row) if row.user == *user => Ok(row),
+        Some(_) | None => Err(Halt::Refused(Cause::Absent(Kind::AppCred, *id))),
     }
 }

@@ -7,9 +7,9 @@ use ks_ring::HeldKey;
 pub struct Needs {
     /// The keys of which it is to be known what they make of the token's text.
     pub keys: ListOf<HeldKey>,
-    /// The salt and the rounds with which the password that is tested is to be derived.
+    /// The salt and the rounds with which the password or the secret that is tested is to be derived.
     pub stored: Option<([u8; 16], u32)>,
-    /// The salt and the rounds with which the password that is to be kept is to be derived.
+    /// The salt and the rounds with which the one that is to be kept is to be derived.
     pub fresh: Option<([u8; 16], u32)>,
 }
 

@@ -14,6 +14,7 @@ pub mod paths;
 mod plan;
 pub mod puts;
 pub mod standing;
+pub mod tested;
 pub mod tokens;
 pub mod told;
 

@@ -1,12 +1,12 @@
-//! The rows that a body names by id, or by name and domain.
+//! The rows that a body names by id, or by name and domain or user.
 ghost use Rattle.std.specs.Prelude.{◌≡◌};
 ghost use Rattle.std.specs.Option.{option_copied};
 ghost use Rattle.ks_auth.specs.Answers.{rows_told};
-ghost use Rattle.ks_machine.specs.Scopes.{domain_in, project_in, role_in, user_in};
+ghost use Rattle.ks_machine.specs.Scopes.{cred_in, domain_in, project_in, role_in, user_in};
 
 use ks_auth::Tables;
-use ks_base::{DomainRow, ProjectRow, RoleRow, UserRow};
-use ks_machine::{Named, ProjectNamed, UserNamed};
+use ks_base::{AppCredRow, DomainRow, ProjectRow, RoleRow, UserRow};
+use ks_machine::{CredNamed, Named, ProjectNamed, UserNamed};
 
 pub fn domain_in<'a>(tables: &Tables<'a>, named: &Named) -> Option<&'a DomainRow>
     ensures { option_copied result ≡ domain_in (rows_told tables.now) named.now }
@@ -45,6 +45,18 @@ pub fn project_in<'a>(tables: &Tables<'a>, named: &ProjectNamed) -> Option<&'a P
         ProjectNamed::Id(id) => tables.tree.project(id),
         ProjectNamed::Name(name, domain) => match domain_in(tables, domain) {
             Some(domain) => tables.tree.project_named(&domain.id, name),
+            None => None,
+        },
+    }
+}
+
+pub fn cred_in<'a>(tables: &Tables<'a>, named: &CredNamed) -> Option<&'a AppCredRow>
+    ensures { option_copied result ≡ cred_in (rows_told tables.now) named.now }
+{
+    match named {
+        CredNamed::Id(id) => tables.app_creds.row(id),
+        CredNamed::Name(name, user) => match user_in(tables, user) {
+            Some(user) => tables.app_creds.named(&user.id, name),
             None => None,
         },
     }

@@ -1,5 +1,5 @@
 //! Trusts: making one, and what is told of them (OS-TRUST).
-ghost use Rattle.std.specs.Prelude.{◌≡◌, IfOk, Err, Some, true, map, filter, length, nat_lt};
+ghost use Rattle.std.specs.Prelude.{◌≡◌, IfOk, Err, Some, true, map, filter, length, nat_lt, codes};
 ghost use Rattle.std.specs.Option.{option_copied};
 ghost use Rattle.ks_auth.specs.Answers.{rows_told};
 ghost use Rattle.ks_base.specs.declared.receipt.Drawn.TheVariants as drawns;
@@ -10,14 +10,14 @@ ghost use Rattle.ks_machine.specs.declared.body_out.BodyOut.TheVariants as bodie
 ghost use Rattle.ks_machine.specs.declared.change.Change.TheVariants as changed;
 ghost use Rattle.ks_machine.specs.Outcomes.{changes};
 ghost use Rattle.ks_machine.specs.Assignments.{agrees};
-ghost use Rattle.ks_machine.specs.TrustCommands.{count_for, count_under, create_trust, delete_trust, get_trust, is_passed_on, is_trust_listed, list_trusts, may_count, needs, new_trust, parent_by, role_asked, roles_asked, roles_of_trust, roles_to_give, told_trust, unless_trust};
+ghost use Rattle.ks_machine.specs.TrustCommands.{count_for, count_under, create_trust, delete_trust, get_trust, is_passed_on, is_trust_listed, list_trusts, may_count, needs, new_trust, parent_by, role_asked, roles_asked, roles_of_trust, roles_to_give, told_trust, unless_trust, unrestricted};
 ghost use Rattle.ks_machine.specs.declared.cause.Cause.TheVariants as causes;
 ghost use Rattle.ks_machine.specs.Tables.{standing_trust};
 ghost use Rattle.ks_checks.specs.declared.halt.Halt.TheVariants as halts;
 ghost use Rattle.ks_checks.specs.Checked.{after_trust};
 ghost use Rattle.ks_checks.specs.Plans.{Gives, Passes, Plans, outcome_of, valid_of};
 
-use ks_auth::{Tables, roles_to_give};
+use ks_auth::{Tables, cred_in_payload, roles_to_give};
 use ks_base::limits::REDELEGATIONS;
 use ks_base::{
     FieldList, Filter, Id, IdList, Kind, Memory, RoleList, RoleRow, ShapeFault, Text, TrustFault,
@@ -85,10 +85,20 @@ fn refused(why: TrustFault) -> Halt
     Halt::Refused(Cause::Trust(why))
 }
 
-fn needs(holds: bool, why: TrustFault) -> Result<(), Halt>
+pub fn needs(holds: bool, why: TrustFault) -> Result<(), Halt>
     ensures { Passes result (needs holds why) }
 {
     need(holds, Cause::Trust(why))
+}
+
+/// Goes on, unless the caller's token is of an application credential that is restricted.
+pub fn unrestricted(tables: &Tables, caller: &Caller) -> Result<(), Halt>
+    ensures { Passes result (unrestricted (rows_told tables.now) (valid_of caller.now)) }
+{
+    match cred_in_payload(tables, &caller.payload) {
+        Some(cred) => need(cred.unrestricted, Cause::Prohibited),
+        None => Ok(()),
+    }
 }
 
 /// The caller's token is of the trust that is passed on, which the body may name; it passes on its own project.
@@ -121,9 +131,14 @@ fn parent_by<'a>(
     Ok(Some(parent))
 }
 
-/// A role that a body names.
-fn role_asked<'a>(alloc: Global, tables: &Tables<'a>, named: &Named) -> Result<&'a RoleRow, Halt>
-    ensures { Gives (λ role. role.now) result (role_asked (rows_told tables.now) named.now) }
+/// A role that the field of a body names.
+fn role_asked<'a>(
+    alloc: Global,
+    tables: &Tables<'a>,
+    field: &str,
+    named: &Named,
+) -> Result<&'a RoleRow, Halt>
+    ensures { Gives (λ role. role.now) result (role_asked (rows_told tables.now) field.now named.now) }
 {
     if let Some(role) = role_in(tables, named) {
         return Ok(role);
@@ -131,7 +146,7 @@ fn role_asked<'a>(alloc: Global, tables: &Tables<'a>, named: &Named) -> Result<&
     match named {
         Named::Id(id) => Err(Halt::Refused(Cause::Absent(Kind::Role, *id))),
         Named::Name(_) => {
-            let path = Text::of(alloc, "trust.roles")?;
+            let path = Text::of(alloc, field)?;
             Err(Halt::Refused(Cause::Shape(ShapeFault::Range(path))))
         }
     }
@@ -144,17 +159,29 @@ fn has_roles(asked: &TrustBody) -> bool
     !asked.roles.as_slice().is_empty()
 }
 
-/// The roles that a body names, in its order.
+/// The roles that the field of a body names, in its order.
 #[tactic(auto, unfolding(ks_machine::specs::TrustCommands::roles_asked))]
-fn roles_asked(alloc: Global, tables: &Tables, names: &[Named]) -> Result<IdList, Halt>
-    ensures { Gives (λ ids. ids) result (roles_asked (rows_told tables.now) names.now) }
+pub fn roles_asked(
+    alloc: Global,
+    tables: &Tables,
+    field: &str,
+    names: &[Named],
+) -> Result<IdList, Halt>
+    ensures { Gives (λ ids. ids) result (roles_asked (rows_told tables.now) field.now names.now) }
 {
     let mut ids = IdList::new(alloc);
     for named in names {
-        let role = role_asked(alloc, tables, named)?;
+        let role = role_asked(alloc, tables, field, named)?;
         ids.push(role.id)?;
     }
     Ok(ids)
+}
+
+/// The roles that the body of a trust names, in its order.
+fn roles_of_body(alloc: Global, tables: &Tables, asked: &TrustBody) -> Result<IdList, Halt>
+    ensures { Gives (λ ids. ids) result (roles_asked (rows_told tables.now) (codes "trust.roles") asked.now.roles) }
+{
+    roles_asked(alloc, tables, "trust.roles", asked.roles.as_slice())
 }
 
 /// How many trusts may follow below the new one.
@@ -239,12 +266,13 @@ pub fn create_trust(
 ) -> Result<Plan, Halt>
     ensures { Plans result (create_trust (rows_told tables.now) moment (drawns.Bytes drawn.now) (valid_of caller.now) asked.now) }
 {
+    unrestricted(tables, caller)?;
     needs(caller.payload.user == asked.trustor, TrustFault::NotTrustor)?;
     let _trustee = standing_user(tables, &asked.trustee)?;
     let _project = standing_project(tables, &asked.project)?;
     let parent = parent_by(tables, asked, &caller.payload.trust)?;
     needs(has_roles(asked), TrustFault::NoRoles)?;
-    let roles = roles_asked(alloc, tables, asked.roles.as_slice())?;
+    let roles = roles_of_body(alloc, tables, asked)?;
     needs(may_count(asked, parent), TrustFault::DepthOut)?;
     let new = new_trust(
         made_id(drawn),

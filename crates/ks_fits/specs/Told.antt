@@ -3,6 +3,7 @@ use Rattle.std.specs.Prelude.{◌≡◌, ◌↔◌, ℕ, Bool, [], IsTrue}
 use Rattle.std.specs.List.{AllByRecursion}
 use Rattle.ks_auth.specs.declared.tables.Tables.{Tables}
 use Rattle.ks_auth.specs.Answers.{rows_told}
+use Rattle.ks_base.specs.declared.app_creds.AppCredRow.{AppCredRow}
 use Rattle.ks_base.specs.declared.trusts.TrustRow.{TrustRow}
 use Rattle.ks_base.specs.Rows.{Rows, project_of, role_of, user_of}
 use Rattle.ks_machine.specs.declared.change.Change.{Change}
@@ -37,3 +38,9 @@ PartiesStand rows trust =
     IsStanding (user_of trust.trustor rows.users) × IsStanding (user_of trust.trustee rows.users)
     × IsStanding (project_of trust.project rows.projects)
     × AllByRecursion (λ role. IsStanding (role_of role rows.roles)) trust.roles
+
+-- the user, the project and the roles of an application credential stand
+abbrev pub OwnersStand : Rows → AppCredRow → Type 0
+OwnersStand rows row =
+    IsStanding (user_of row.user rows.users) × IsStanding (project_of row.project rows.projects)
+    × AllByRecursion (λ role. IsStanding (role_of role rows.roles)) row.roles

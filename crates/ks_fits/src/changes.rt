@@ -5,10 +5,12 @@ ghost use Rattle.ks_machine.specs.declared.change.Change.TheVariants as changed;
 ghost use Rattle.ks_machine.specs.Lawful.{Fits, TakesKeys};
 ghost use Rattle.ks_machine.specs.States.{State};
 
+use crate::app_creds::{may_drop_app_cred, may_put_app_cred};
 use crate::catalog::{
     may_drop_endpoint, may_drop_region, may_drop_service, may_put_endpoint, may_put_region,
     may_put_service,
 };
+use crate::factors::{may_drop_secret, may_put_secret, may_put_user_with};
 use crate::grants::{may_grant, may_ungrant};
 use crate::keys::{may_load, may_rotate};
 use crate::people::{
@@ -79,6 +81,11 @@ fn fits_tables(
         Change::DropRegion(id) => may_drop_region(tables, id),
         Change::DropService(id) => may_drop_service(tables, id),
         Change::DropEndpoint(id) => may_drop_endpoint(tables, id),
+        Change::PutAppCred(row) => may_put_app_cred(tables, row),
+        Change::DropAppCred(id) => may_drop_app_cred(tables, id),
+        Change::PutSecret(row) => may_put_secret(tables, row),
+        Change::DropSecret(id) => may_drop_secret(tables, id),
+        Change::PutUserWith(row, rules) => may_put_user_with(tables, row, rules),
     };
     Ok(fits)
 }

@@ -2,8 +2,10 @@
 //! other change; one that was written down may be of another hand, and is asked about here before it is made once more.
 #![tactic(auto)]
 
+mod app_creds;
 mod catalog;
 mod changes;
+mod factors;
 mod grants;
 mod keys;
 mod people;

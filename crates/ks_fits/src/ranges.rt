@@ -1,15 +1,16 @@
 //! The ranges of the fields of rows (Identity API v3; own limits).
 ghost use Rattle.std.specs.Prelude.{◌≤◌, ◌↔◌, length, IfSome, IsTrue};
+ghost use Rattle.std.specs.List.{AllByRecursion};
 ghost use Rattle.ks_base.specs.declared.limits.TheConstants.{TRUST_ROLES};
-ghost use Rattle.ks_machine.specs.Ranges.{AreRounds, AreUses, IsDescription, IsDomainInRange, IsEndpointInRange, IsEndpointUrl, IsExpiry, IsGroupInRange, IsLastOf, IsName, IsProjectInRange, IsRegionInRange, IsRoleInRange, IsServiceInRange, IsServiceText, IsTrustInRange, IsUserInRange};
+ghost use Rattle.ks_machine.specs.Ranges.{AreMfaRules, AreRounds, AreUses, IsAppCredInRange, IsDescription, IsDomainInRange, IsEndpointInRange, IsEndpointUrl, IsExpiry, IsGroupInRange, IsLastOf, IsMfaRule, IsName, IsProjectInRange, IsRegionInRange, IsRoleInRange, IsServiceInRange, IsServiceText, IsTotpSecret, IsTrustInRange, IsUserInRange};
 
 use ks_base::limits::{
-    DESCRIPTION_BYTES, ENDPOINT_URL_BYTES, LAST_SECOND, NAME_BYTES, REDELEGATIONS, ROUNDS,
-    TRUST_ROLES, USES,
+    DESCRIPTION_BYTES, ENDPOINT_URL_BYTES, LAST_SECOND, MFA_RULES, NAME_BYTES, REDELEGATIONS,
+    ROUNDS, TOTP_SECRET_LEAST, TOTP_SECRET_MOST, TRUST_ROLES, USES,
 };
 use ks_base::{
-    DomainRow, EndpointRow, GroupRow, IdList, ProjectRow, RegionRow, RoleRow, ServiceRow, Text,
-    TrustRow, UserRow,
+    AppCredRow, Bytes, DomainRow, EndpointRow, GroupRow, IdList, ProjectRow, RegionRow, RoleRow,
+    ServiceRow, Text, TrustRow, UserRow,
 };
 
 fn is_name(name: &Text) -> bool
@@ -138,4 +139,40 @@ pub fn is_trust_in_range(row: &TrustRow) -> bool
         && is_expiry(row.expires)
         && are_uses(row.remaining, row.count)
         && row.count <= REDELEGATIONS
+}
+
+/// Whether the credential's fields have their ranges.
+pub fn is_app_cred_in_range(row: &AppCredRow) -> bool
+    ensures { IsTrue result ↔ IsAppCredInRange row.now }
+{
+    is_name(&row.name)
+        && is_description(&row.description)
+        && !row.roles.as_slice().is_empty()
+        && is_expiry(row.expires)
+        && are_rounds(row.secret.rounds)
+}
+
+/// Whether the bytes are as many as a secret of one-time codes has.
+pub fn is_totp_secret(secret: &Bytes) -> bool
+    ensures { IsTrue result ↔ IsTotpSecret secret.now }
+{
+    let bytes = secret.as_slice().len();
+    TOTP_SECRET_LEAST <= bytes && bytes <= TOTP_SECRET_MOST
+}
+
+/// Whether each rule is of a password (bit 0), of a code (bit 2), or of both.
+#[tactic(auto, using(crate::proofs::RuleLemmas::all_rules))]
+fn is_each_mfa_rule(rules: &[u8]) -> bool
+    ensures { IsTrue result ↔ AllByRecursion IsMfaRule rules.now }
+{
+    rules
+        .iter()
+        .all(|rule| *rule == 1 || *rule == 4 || *rule == 5)
+}
+
+/// Whether the rules are as many as one user may have, and each asks for methods that it may.
+pub fn are_mfa_rules(rules: &Bytes) -> bool
+    ensures { IsTrue result ↔ AreMfaRules rules.now }
+{
+    is_each_mfa_rule(rules.as_slice()) && rules.as_slice().len() <= MFA_RULES
 }

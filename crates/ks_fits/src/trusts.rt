@@ -36,7 +36,7 @@ fn follows_parent(tables: &Tables, trust: &TrustRow) -> bool
 
 /// Whether each of these roles stands.
 #[tactic(auto, using(crate::proofs::ToldLemmas::all_stand))]
-fn do_stand(tables: &Tables, roles: &[Id]) -> bool
+pub(crate) fn do_stand(tables: &Tables, roles: &[Id]) -> bool
     ensures { IsTrue result ↔ AllByRecursion (λ role. IsStanding (role_of role tables.now.roles.now.roles)) roles.now }
 {
     roles.iter().all(|role| tables.roles.role(role).is_some())

@@ -1,178 +1,29 @@
 //! Logins (Identity API v3, authentication): who the caller shows to be, and the token that is given.
-ghost use Rattle.std.specs.Prelude.{◌≡◌, ◌≤◌, false, None, is_some, IfOk, IfSome, IsSome};
-ghost use Rattle.std.specs.Option.{option_copied};
-ghost use Rattle.ks_auth.specs.Answers.{Tells, rows_told};
+ghost use Rattle.std.specs.Prelude.{◌≡◌, ◌≤◌, is_some, IfOk, IfSome, IsSome};
+ghost use Rattle.ks_auth.specs.Answers.{Tells};
 ghost use Rattle.ks_auth.specs.Facts.{told};
 ghost use Rattle.ks_base.specs.declared.limits.TheConstants.{LONGEST_LIFE};
 ghost use Rattle.ks_base.specs.declared.receipt.Drawn.TheVariants as drawns;
 ghost use Rattle.ks_base.specs.Ids.{IsId};
 ghost use Rattle.ks_base.specs.Rows.{user_of};
-ghost use Rattle.ks_machine.specs.Login.{by_password, is_password, login, new_payload, seal, shown, shown_by_token, token_given, use_of, with_token};
+ghost use Rattle.ks_machine.specs.Login.{login, new_payload, seal, token_given, use_of};
 ghost use Rattle.ks_machine.specs.Moment.{last_moment};
-ghost use Rattle.ks_machine.specs.Passwords.{change_password};
 ghost use Rattle.ks_machine.specs.States.{State};
 ghost use Rattle.ks_payload.specs.Payloads.{IsInRange, IsSixteenBytes, has_credential, has_domain, has_project, has_trust, spelling};
 ghost use Rattle.ks_logins.specs.Logins.{IsShown, scoped_of, shown_of, trust_at};
-ghost use Rattle.ks_checks.specs.Plans.{Gives, Plans, outcome_of, valid_of};
+ghost use Rattle.ks_checks.specs.Plans.{Plans, outcome_of};
 
-use crate::scopes::{Place, TokenScope, scoped};
-use ks_auth::{Facts, Tables, is_user_on};
-use ks_base::{Id, ListOf, Memory, PasswordRow, Text, TrustRow, UserRow};
-use ks_checks::checks::need;
+use crate::bearers::{Bearer, shown};
+use crate::scopes::{Place, TokenScope, scoped_by};
+use ks_auth::{Facts, Tables};
+use ks_base::{Id, Memory, Text};
 use ks_checks::draws::{id_bytes, salt};
-use ks_checks::named::user_in;
-use ks_checks::passwords::derived;
-use ks_checks::tokens::{Use, valid};
 use ks_checks::told::told_token;
-use ks_checks::{Caller, Halt, Needs, Plan};
+use ks_checks::{Halt, Plan};
 use ks_fernet::seal;
-use ks_machine::{BodyOut, Cause, Change, LoginBody, Proof};
+use ks_machine::{BodyOut, Change, LoginBody};
 use ks_payload::Payload;
 use std::alloc::Global;
-
-/// The bit of the method `password`.
-const PASSWORD: u8 = 1;
-/// The bit of the method `token`.
-const TOKEN: u8 = 2;
-
-/// Whether the password of a user is this one.
-#[tactic(auto, unfolding(ks_machine::specs::Login::is_password))]
-fn is_password(
-    alloc: Global,
-    facts: &Facts,
-    row: &PasswordRow,
-    password: &Text,
-) -> Result<bool, Halt>
-    ensures { Gives (λ is. is) result (is_password (told facts.now) row.now password.now) }
-{
-    match facts.derived(password, &row.salt, row.rounds) {
-        Some(digest) => Ok(digest == row.digest),
-        None => Err(Halt::Needs(Needs {
-            keys: ListOf::new(alloc),
-            stored: Some((row.salt, row.rounds)),
-            fresh: None,
-        })),
-    }
-}
-
-/// A user that stands, has this password, and is enabled in an enabled domain.
-#[tactic(auto, unfolding(ks_machine::specs::Login::by_password))]
-fn by_password<'a>(
-    alloc: Global,
-    tables: &Tables,
-    facts: &Facts,
-    named: Option<&'a UserRow>,
-    password: &Text,
-) -> Result<&'a UserRow, Halt>
-    ensures user { Gives (λ user. user.now) result (by_password (told facts.now) (rows_told tables.now) (option_copied named.entry) password.now) }
-    ensures stands { IfOk result (λ user. IsSome (user_of user.now.id tables.now.people.now.users)) }
-{
-    let Some(user) = named else {
-        return Err(Halt::Refused(Cause::Credentials));
-    };
-    let Some(row) = &user.password else {
-        return Err(Halt::Refused(Cause::Credentials));
-    };
-    let is = is_password(alloc, facts, row, password)?;
-    need(is, Cause::Credentials)?;
-    need(is_user_on(tables, &user.id), Cause::Credentials)?;
-    Ok(user)
-}
-
-/// The change of one's own password.
-#[tactic(auto, unfolding(ks_machine::specs::Passwords::change_password))]
-pub fn change_password(
-    alloc: Global,
-    tables: &Tables,
-    drawn: &[u8; 64],
-    facts: &Facts,
-    id: &Id,
-    original: &Text,
-    password: &Text,
-) -> Result<Plan, Halt>
-    ensures { (S : State) → Tells tables.now S → Plans result (change_password (told facts.now) S (drawns.Bytes drawn.now) id.now original.now password.now) }
-{
-    let user = by_password(alloc, tables, facts, tables.people.user(id), original)?;
-    let row = derived(alloc, tables, drawn, facts, password)?;
-    let new = UserRow {
-        password: Some(row),
-        ..user.copy()?
-    };
-    Ok(Plan::changes(Change::PutUser(new), BodyOut::Nothing))
-}
-
-/// Who shows to be whom, and what a token of theirs takes over: its methods, its expiry and the audit id of its
-/// chain.
-#[derive(Clone, Copy)]
-pub struct Bearer {
-    pub user: Id,
-    pub methods: u8,
-    pub expires: u64,
-    pub chain: Option<[u8; 16]>,
-}
-
-/// The methods with that of a token.
-fn with_token(methods: u8) -> u8
-    requires { methods ≤ 15 }
-    ensures methods { result ≡ with_token methods }
-    ensures few { result ≤ 15 }
-    ensures some { 1 ≤ result }
-{
-    if methods / TOKEN % 2 == 1 {
-        methods
-    } else {
-        methods + TOKEN
-    }
-}
-
-fn shown_by_token(token: &Caller) -> Bearer
-    requires { IsInRange token.now.payload }
-    ensures shown { shown_of result ≡ shown_by_token (valid_of token.now) }
-    ensures range { IsShown result }
-{
-    let payload = &token.payload;
-    Bearer {
-        user: payload.user,
-        methods: with_token(payload.methods),
-        expires: payload.expires,
-        chain: Some(payload.chain.unwrap_or(payload.audit)),
-    }
-}
-
-/// Who a login shows to be.
-#[tactic(auto, unfolding(ks_machine::specs::Login::shown))]
-fn shown(
-    alloc: Global,
-    tables: &Tables,
-    moment: u64,
-    proof: &Proof,
-    facts: &Facts,
-) -> Result<Bearer, Halt>
-    requires moment { tables.now.revoked.now.high ≤ moment }
-    requires life { tables.now.revoked.now.life ≡ tables.now.settings.now.life }
-    requires last { moment ≤ last_moment }
-    requires longest { tables.now.settings.now.life ≤ LONGEST_LIFE }
-    ensures shown { (S : State) → Tells tables.now S → Gives shown_of result (shown (told facts.now) S moment proof.now) }
-    ensures range { IfOk result IsShown }
-    ensures stands { IfOk result (λ who. IsSome (user_of who.user tables.now.people.now.users)) }
-{
-    match proof {
-        Proof::Password(named, password) => {
-            let user = by_password(alloc, tables, facts, user_in(tables, named), password)?;
-            Ok(Bearer {
-                user: user.id,
-                methods: PASSWORD,
-                expires: moment + tables.settings.life,
-                chain: None,
-            })
-        }
-        Proof::Token(text) => {
-            let token = valid(alloc, tables, moment, text, false, facts, Use::Login)?;
-            need(token.payload.trust.is_none(), Cause::TrustToken)?;
-            Ok(shown_by_token(&token))
-        }
-    }
-}
 
 /// Each id is one.
 fn is_id(id: &Id)
@@ -215,20 +66,22 @@ fn payload_of(
     domain: Option<Id>,
     project: Option<Id>,
     trust: Option<Id>,
+    credential: Option<Id>,
 ) -> Payload
     requires shown { IsShown shown.now }
-    requires kind { kind ≤ 4 }
+    requires kind { kind ≤ 5 }
     requires domain { is_some domain ≡ has_domain kind }
     requires project { is_some project ≡ has_project kind }
     requires trust { is_some trust ≡ has_trust kind }
-    requires credential { has_credential kind ≡ false }
-    ensures payload { result ≡ record { kind = kind; methods = shown.now.methods; user = user; domain = domain; project = project; trust = trust; expires = shown.now.expires; audit = audit; chain = shown.now.chain; credential = None } }
+    requires credential { is_some credential ≡ has_credential kind }
+    ensures payload { result ≡ record { kind = kind; methods = shown.now.methods; user = user; domain = domain; project = project; trust = trust; expires = shown.now.expires; audit = audit; chain = shown.now.chain; credential = credential } }
     ensures range { IsInRange result }
 {
     is_id(&user);
     is_id_if_any(&domain);
     is_id_if_any(&project);
     is_id_if_any(&trust);
+    is_id_if_any(&credential);
     is_sixteen(&audit);
     is_sixteen_if_any(&shown.chain);
     Payload {
@@ -241,7 +94,7 @@ fn payload_of(
         expires: shown.expires,
         audit,
         chain: shown.chain,
-        credential: None,
+        credential,
     }
 }
 
@@ -253,13 +106,16 @@ fn new_payload(shown: &Bearer, scope: &TokenScope, audit: [u8; 16]) -> Payload
 {
     let user = scope.user;
     match scope.place {
-        Place::Unscoped => payload_of(shown, user, audit, 0, None, None, None),
-        Place::Domain(id) => payload_of(shown, user, audit, 1, Some(id), None, None),
-        Place::Project(id) => payload_of(shown, user, audit, 2, None, Some(id), None),
+        Place::Unscoped => payload_of(shown, user, audit, 0, None, None, None, None),
+        Place::Domain(id) => payload_of(shown, user, audit, 1, Some(id), None, None, None),
+        Place::Project(id) => payload_of(shown, user, audit, 2, None, Some(id), None, None),
         Place::Trust(trust, id) => {
-            payload_of(shown, user, audit, 3, None, Some(id), Some(trust.id))
+            payload_of(shown, user, audit, 3, None, Some(id), Some(trust.id), None)
         }
-        Place::System => payload_of(shown, user, audit, 4, None, None, None),
+        Place::System => payload_of(shown, user, audit, 4, None, None, None, None),
+        Place::AppCred(cred, id) => {
+            payload_of(shown, user, audit, 5, None, Some(id), None, Some(cred))
+        }
     }
 }
 
@@ -269,7 +125,8 @@ fn use_of(place: &Place) -> Option<Change>
 {
     match place {
         Place::Trust(trust, _) => trust.remaining.map(|_| Change::UseTrust(trust.id)),
-        Place::Unscoped | Place::Domain(_) | Place::Project(_) | Place::System => None,
+        Place::Unscoped | Place::Domain(_) | Place::Project(_) => None,
+        Place::System | Place::AppCred(_, _) => None,
     }
 }
 
@@ -329,6 +186,6 @@ pub fn login(
     ensures { (S : State) → Tells tables.now S → Plans result (login (told facts.now) S moment (drawns.Bytes drawn.now) asked.now) }
 {
     let who = shown(alloc, tables, moment, &asked.proof, facts)?;
-    let scope = scoped(alloc, tables, moment, &who.user, &asked.scope)?;
+    let scope = scoped_by(alloc, tables, moment, &who, &asked.scope)?;
     Ok(token_given(alloc, tables, moment, drawn, &who, &scope)?)
 }

@@ -5,15 +5,19 @@ ghost use Rattle.ks_auth.specs.Answers.{rows_told};
 ghost use Rattle.ks_base.specs.Refusals.{fault_in};
 ghost use Rattle.ks_base.specs.Rows.{trust_of, user_of};
 ghost use Rattle.ks_base.specs.Trusts.{first_trustor};
-ghost use Rattle.ks_machine.specs.Attempts.{blame, each, unless};
+ghost use Rattle.ks_machine.specs.Attempts.{blame, each, need, unless};
 ghost use Rattle.ks_machine.specs.declared.cause.Cause.TheVariants as causes;
-ghost use Rattle.ks_machine.specs.Login.{project_on, role_kept, scoped, to_domain, to_project, to_system, to_trust, user_on, with_roles};
-ghost use Rattle.ks_logins.specs.Logins.{role_held, scoped_of};
+ghost use Rattle.ks_machine.specs.Login.{asks_nowhere, project_on, role_kept, scoped, scoped_by, to_cred, to_domain, to_project, to_system, to_trust, user_on, with_roles};
+ghost use Rattle.ks_machine.specs.Validity.{has_cred_roles};
+ghost use Rattle.ks_logins.specs.Logins.{AreStanding, role_held, scoped_of, shown_of};
 ghost use Rattle.ks_checks.specs.declared.halt.Halt.TheVariants as halts;
 ghost use Rattle.ks_checks.specs.Plans.{Gives, Passes};
 
-use ks_auth::{Tables, acts_as, closure, is_domain_on, is_project_on, is_user_on, roles_at};
-use ks_base::{Id, IdList, ProjectRow, Target, TrustFault, TrustRow};
+use crate::bearers::Bearer;
+use ks_auth::{
+    Tables, acts_as, closure, has_cred_roles, is_domain_on, is_project_on, is_user_on, roles_at,
+};
+use ks_base::{AppCredRow, Id, IdList, ProjectRow, Target, TrustFault, TrustRow};
 use ks_checks::Halt;
 use ks_checks::checks::need;
 use ks_checks::named::{domain_in, project_in};
@@ -30,6 +34,8 @@ pub enum Place<'a> {
     Trust(&'a TrustRow, Id),
     /// The whole system.
     System,
+    /// The application credential, and its project.
+    AppCred(Id, Id),
 }
 
 /// Whose token it is, where, and with which roles.
@@ -166,7 +172,7 @@ fn role_held(held: &[Id], role: &Id) -> Result<(), Halt>
 }
 
 /// Goes on where each role is held.
-fn roles_held(held: &[Id], roles: &[Id]) -> Result<(), Halt>
+pub fn roles_held(held: &[Id], roles: &[Id]) -> Result<(), Halt>
     ensures { Passes result (each (role_held held.now) roles.now) }
 {
     for role in roles {
@@ -225,9 +231,9 @@ fn to_trust<'a>(
     })
 }
 
-/// The scope that a login asks for.
+/// The scope that a login asks for which shows no application credential.
 #[tactic(auto, unfolding(ks_machine::specs::Login::scoped))]
-pub fn scoped<'a>(
+fn scoped<'a>(
     alloc: Global,
     tables: &Tables<'a>,
     moment: u64,
@@ -251,5 +257,66 @@ pub fn scoped<'a>(
         ScopeIn::Project(named) => to_project(alloc, tables, user, project_in(tables, named)),
         ScopeIn::System => to_system(alloc, tables, user),
         ScopeIn::Trust(id) => to_trust(alloc, tables, moment, user, id),
+    }
+}
+
+/// Whether a login asks for no scope.
+fn asks_nowhere(asked: &ScopeIn) -> bool
+    ensures { result ≡ asks_nowhere asked.now }
+{
+    match asked {
+        ScopeIn::Nothing => true,
+        ScopeIn::Unscoped | ScopeIn::Domain(_) | ScopeIn::Project(_) => false,
+        ScopeIn::System | ScopeIn::Trust(_) => false,
+    }
+}
+
+/// Goes on where the credential's user has each role that it lists.
+fn roles_had(alloc: Global, tables: &Tables, cred: &AppCredRow) -> Result<(), Halt>
+    ensures { Passes result (need (has_cred_roles (rows_told tables.now) cred.now) (causes.ScopeRefused ScopeWhy.NoRoles)) }
+{
+    let holds = has_cred_roles(alloc, tables, cred)?;
+    need(holds, Cause::ScopeRefused(ScopeWhy::NoRoles))
+}
+
+/// The project of an application credential, where its user has each role that it lists. No scope is to be asked for.
+#[tactic(auto, unfolding(ks_machine::specs::Login::to_cred))]
+fn to_cred<'a>(
+    alloc: Global,
+    tables: &Tables<'a>,
+    cred: &AppCredRow,
+    asked: &ScopeIn,
+) -> Result<TokenScope<'a>, Halt>
+    requires { IsSome (user_of cred.now.user tables.now.people.now.users) }
+    ensures scope { Gives scoped_of result (to_cred (rows_told tables.now) cred.now asked.now) }
+    ensures stands { IfOk result (λ scope. IsSome (user_of scope.user tables.now.people.now.users)) }
+{
+    need(asks_nowhere(asked), Cause::ScopeRefused(ScopeWhy::Absent))?;
+    let project = project_on(tables, tables.tree.project(&cred.project))?;
+    roles_had(alloc, tables, cred)?;
+    let roles = closure(tables, &cred.roles)?;
+    Ok(TokenScope {
+        user: cred.user,
+        place: Place::AppCred(cred.id, project),
+        roles,
+    })
+}
+
+/// The scope of a login of this bearer.
+#[tactic(auto, unfolding(ks_machine::specs::Login::scoped_by))]
+pub fn scoped_by<'a>(
+    alloc: Global,
+    tables: &Tables<'a>,
+    moment: u64,
+    who: &Bearer,
+    asked: &ScopeIn,
+) -> Result<TokenScope<'a>, Halt>
+    requires { AreStanding tables.now.people.now.users who.now }
+    ensures scope { Gives scoped_of result (scoped_by (rows_told tables.now) moment (shown_of who.now).user (shown_of who.now).credential asked.now) }
+    ensures stands { IfOk result (λ scope. IsSome (user_of scope.user tables.now.people.now.users)) }
+{
+    match who.credential {
+        Some(cred) => to_cred(alloc, tables, cred, asked),
+        None => scoped(alloc, tables, moment, &who.user, asked),
     }
 }

@@ -4,7 +4,7 @@ ghost use Rattle.ks_base.specs.declared.limits.TheConstants.{DOMAINS, ENDPOINTS,
 ghost use Rattle.ks_base.specs.Limits.{limit};
 ghost use Rattle.ks_base.specs.Refusals.{fault_in};
 ghost use Rattle.ks_machine.specs.Opened.{full, full_fault};
-ghost use Rattle.ks_opening.specs.Opened.{rows_in};
+ghost use Rattle.ks_opening.specs.Opened.{no_factors, rows_in};
 
 use ks_assign::Grants;
 use ks_base::limits::{
@@ -35,7 +35,7 @@ pub(crate) fn check_full(
     grants: &Grants,
     catalog: &Catalog,
 ) -> Result<(), OpenFault>
-    ensures { fault_in result ≡ full_fault (rows_in tree.now people.now roles.now grants.now [] catalog.now) }
+    ensures { fault_in result ≡ full_fault (rows_in tree.now people.now roles.now grants.now [] catalog.now [] no_factors) }
 {
     check_limit(Kind::Domain, tree.domains().len(), DOMAINS)?;
     check_limit(Kind::Project, tree.projects().len(), PROJECTS)?;

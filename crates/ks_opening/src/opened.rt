@@ -18,7 +18,8 @@ use ks_roles::Roles;
 use ks_tree::Tree;
 use std::alloc::Global;
 
-/// What a server opens with: its settings and rules, the ring of its keys, and its rows in their tables. No trust stands.
+/// What a server opens with: its settings and rules, the ring of its keys, and its rows in their tables. No trust, no
+/// application credential and no second factor stands.
 #[derive(Drop)]
 pub struct Opened {
     pub settings: Settings,

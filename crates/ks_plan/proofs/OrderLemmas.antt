@@ -5,9 +5,11 @@ use Rattle.ks_base.specs.declared.receipt.Drawn.{Drawn}
 use Rattle.ks_base.specs.declared.receipt.Drawn.TheVariants.{Unused, Bytes, Failed}
 use Rattle.ks_base.specs.Rows.{Rows, Text}
 use Rattle.ks_machine.specs.Actions.{requirements}
+use Rattle.ks_machine.specs.AppCredCommands.{create_app_cred}
 use Rattle.ks_machine.specs.Attempts.{Attempt, Go, Stop, Lacks, ◌>>=◌, Known, found, need, unless}
 use Rattle.ks_machine.specs.CatalogCommands.{create_catalog, show_catalog}
 use Rattle.ks_machine.specs.Creations.{create}
+use Rattle.ks_machine.specs.FactorCommands.{create_secret}
 use Rattle.ks_machine.specs.Keys.{is_failed, rotate_keys}
 use Rattle.ks_machine.specs.Login.{login}
 use Rattle.ks_machine.specs.Passwords.{change_password}
@@ -176,6 +178,14 @@ by_command known S moment call (command.GetCatalog kind id) is = by_caller known
 by_command known S moment call (command.UpdateCatalog id asked) is = by_caller known S moment call _ _ _ _ is refl (λ caller. refl)
 by_command known S moment call (command.DeleteCatalog kind id) is = by_caller known S moment call _ _ _ _ is refl (λ caller. refl)
 by_command known S moment call command.ShowCatalog is = by_own_caller known S moment call is
+by_command known S moment call (command.CreateAppCred user body) is = drawn_first call.draw _ _ (λ bytes drawn. by_caller known S moment call _ _ _ _ is refl (λ caller. with_bytes call.draw bytes (λ draw. create_app_cred known S moment draw caller user body) drawn))
+by_command known S moment call (command.ListAppCreds user) is = by_caller known S moment call _ _ _ _ is refl (λ caller. refl)
+by_command known S moment call (command.GetAppCred user id) is = by_caller known S moment call _ _ _ _ is refl (λ caller. refl)
+by_command known S moment call (command.DeleteAppCred user id) is = by_caller known S moment call _ _ _ _ is refl (λ caller. refl)
+by_command known S moment call (command.CreateSecret body) is = drawn_first call.draw _ _ (λ bytes drawn. by_caller known S moment call _ _ _ _ is refl (λ caller. with_bytes call.draw bytes (λ draw. create_secret S.rows draw body) drawn))
+by_command known S moment call command.ListSecrets is = by_caller known S moment call _ _ _ _ is refl (λ caller. refl)
+by_command known S moment call (command.GetSecret id) is = by_caller known S moment call _ _ _ _ is refl (λ caller. refl)
+by_command known S moment call (command.DeleteSecret id) is = by_caller known S moment call _ _ _ _ is refl (λ caller. refl)
 
 pub parties_come_first : (known : Known) (S : State) (moment : ℕ) (call : Call) → planned known S moment call ≡ by_parties known S S.rules S.rows moment call
 unfolding planned by_parties

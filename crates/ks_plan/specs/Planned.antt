@@ -12,10 +12,12 @@ use Rattle.ks_machine.specs.declared.command.Command.{Command}
 use Rattle.ks_machine.specs.declared.command.Command.TheVariants as command
 use Rattle.ks_machine.specs.Actions.{requirements}
 use Rattle.ks_machine.specs.Allowed.{allowed}
+use Rattle.ks_machine.specs.AppCredCommands.{create_app_cred, delete_app_cred, get_app_cred, list_app_creds}
 use Rattle.ks_machine.specs.Assignments.{assignments}
 use Rattle.ks_machine.specs.Attempts.{Attempt, Go, Stop, ◌>>=◌, Known, found, need, unless}
 use Rattle.ks_machine.specs.CatalogCommands.{create_catalog, show_catalog, update_catalog}
 use Rattle.ks_machine.specs.Creations.{create}
+use Rattle.ks_machine.specs.FactorCommands.{create_secret, delete_secret, get_secret, list_secrets}
 use Rattle.ks_machine.specs.Keys.{is_failed, load_keys, rotate_keys}
 use Rattle.ks_machine.specs.Listings.{delete, events, get, list}
 use Rattle.ks_machine.specs.Login.{login, told_token}
@@ -95,6 +97,14 @@ is_late (command.GetCatalog kind id) = false
 is_late (command.UpdateCatalog id asked) = false
 is_late (command.DeleteCatalog kind id) = false
 is_late command.ShowCatalog = false
+is_late (command.CreateAppCred user body) = false
+is_late (command.ListAppCreds user) = false
+is_late (command.GetAppCred user id) = false
+is_late (command.DeleteAppCred user id) = false
+is_late (command.CreateSecret body) = false
+is_late command.ListSecrets = false
+is_late (command.GetSecret id) = false
+is_late (command.DeleteSecret id) = false
 
 abbrev pub subject_asked : Known → State → ℕ → Bool → Option Text → Bool → Attempt Cause (Option Valid)
 subject_asked known S moment late given false = Go None
@@ -188,6 +198,19 @@ own_checks known S rows moment call who (command.DeleteCatalog kind id) = delete
 own_checks known S rows moment call who command.ShowCatalog = do
   caller ← caller_of known S moment call.caller
   Go (show_catalog rows caller)
+own_checks known S rows moment call who (command.CreateAppCred user asked) = do
+  caller ← found who.caller cause.NoToken
+  draw ← bytes_drawn call.draw
+  create_app_cred known S moment draw caller user asked
+own_checks known S rows moment call who (command.ListAppCreds user) = list_app_creds rows user
+own_checks known S rows moment call who (command.GetAppCred user id) = get_app_cred rows user id
+own_checks known S rows moment call who (command.DeleteAppCred user id) = do
+  caller ← found who.caller cause.NoToken
+  delete_app_cred rows caller user id
+own_checks known S rows moment call who (command.CreateSecret asked) = bytes_drawn call.draw >>= (λ draw. create_secret rows draw asked)
+own_checks known S rows moment call who command.ListSecrets = Go (list_secrets rows)
+own_checks known S rows moment call who (command.GetSecret id) = get_secret rows id
+own_checks known S rows moment call who (command.DeleteSecret id) = delete_secret rows id
 
 unfoldable pub by_parties : Known → State → List NamedRule → Rows → ℕ → Call → Attempt Cause Outcome
 by_parties known S rules rows moment call = do

@@ -80,6 +80,10 @@ fn is_late(command: &Command) -> bool
         Command::CreateCatalog(_) | Command::ListCatalog(_, _) => false,
         Command::GetCatalog(_, _) | Command::UpdateCatalog(_, _) => false,
         Command::DeleteCatalog(_, _) | Command::ShowCatalog => false,
+        Command::CreateAppCred(_, _) | Command::ListAppCreds(_) => false,
+        Command::GetAppCred(_, _) | Command::DeleteAppCred(_, _) => false,
+        Command::CreateSecret(_) | Command::ListSecrets => false,
+        Command::GetSecret(_) | Command::DeleteSecret(_) => false,
     }
 }
 

@@ -25,11 +25,14 @@ use ks_auth::{Facts, Tables};
 use ks_base::{Drawn, Text};
 use ks_checks::checks::need;
 use ks_checks::draws::made_id;
+use ks_checks::passwords::change_password;
 use ks_checks::tokens::{caller_of, missing};
 use ks_checks::told::told_token;
 use ks_checks::{Caller, Halt, Plan};
+use ks_delegations::app_cred_creations::create_app_cred;
+use ks_delegations::app_creds::{delete_app_cred, get_app_cred, list_app_creds};
 use ks_delegations::trusts::{create_trust, delete_trust, get_trust, list_trusts, roles_of_trust};
-use ks_logins::login::{change_password, login};
+use ks_logins::login::login;
 use ks_machine::{BodyOut, Call, Cause, Change, Command};
 use ks_policy::Rules;
 use ks_relations::assignments::assignments;
@@ -41,6 +44,7 @@ use ks_rows::catalog_creations::create_catalog;
 use ks_rows::catalog_shown::show_catalog;
 use ks_rows::catalog_updates::update_catalog;
 use ks_rows::creations::create;
+use ks_rows::factors::{create_secret, delete_secret, get_secret, list_secrets};
 use ks_rows::listings::list;
 use ks_rows::single::{delete, get};
 use ks_rows::updates::update;
@@ -284,5 +288,23 @@ fn own_checks(
             let caller = caller_of(alloc, tables, moment, &call.caller, facts)?;
             Ok(show_catalog(alloc, tables, &caller)?)
         }
+        Command::CreateAppCred(user, asked) => {
+            let caller = caller_in(tables, who)?;
+            let drawn = bytes_drawn(&call.draw)?;
+            create_app_cred(alloc, tables, moment, drawn, facts, caller, user, asked)
+        }
+        Command::ListAppCreds(user) => list_app_creds(alloc, tables, user),
+        Command::GetAppCred(user, id) => get_app_cred(alloc, tables, user, id),
+        Command::DeleteAppCred(user, id) => {
+            let caller = caller_in(tables, who)?;
+            delete_app_cred(tables, caller, user, id)
+        }
+        Command::CreateSecret(asked) => {
+            let drawn = bytes_drawn(&call.draw)?;
+            create_secret(tables, drawn, asked)
+        }
+        Command::ListSecrets => Ok(list_secrets(alloc, tables)?),
+        Command::GetSecret(id) => get_secret(tables, id),
+        Command::DeleteSecret(id) => delete_secret(tables, id),
     }
 }

@@ -9,6 +9,7 @@ ghost use Rattle.ks_machine.specs.States.{State};
 ghost use Rattle.ks_machine.specs.Validity.{project_domain, scope_domain};
 ghost use Rattle.ks_checks.specs.Plans.{Plans, valid_of};
 
+use crate::factors::put_told;
 use ks_auth::{Facts, Tables};
 use ks_base::{DomainRow, GroupRow, Id, Memory, ProjectRow, RoleRow, Text, UserRow};
 use ks_checks::checks::{row, standing_domain};
@@ -16,7 +17,7 @@ use ks_checks::draws::made_id;
 use ks_checks::passwords::derived_or;
 use ks_checks::puts::{put_domain, put_project};
 use ks_checks::{Caller, Halt, Plan};
-use ks_machine::{BodyOut, Change, Made, Row};
+use ks_machine::{BodyOut, Change, Made, MfaIn, Row};
 use ks_payload::Payload;
 use std::alloc::Global;
 
@@ -112,8 +113,9 @@ pub fn create_user(
     facts: &Facts,
     new: UserRow,
     password: &Option<Text>,
+    factors: &Option<MfaIn>,
 ) -> Result<Plan, Halt>
-    ensures { (S : State) → Tells tables.now S → Plans result (create_user (told facts.now) S (Drawn.Bytes drawn.now) new password.now) }
+    ensures { (S : State) → Tells tables.now S → Plans result (create_user (told facts.now) S (Drawn.Bytes drawn.now) new password.now factors.now) }
 {
     let _domain = standing_domain(tables, &new.domain)?;
     row(tables.people.user_name_is_free(&new))?;
@@ -123,8 +125,7 @@ pub fn create_user(
         password: kept,
         ..new
     };
-    let told = BodyOut::One(Row::User(new.copy()?), true);
-    Ok(Plan::changes(Change::PutUser(new), told))
+    put_told(new, factors, true)
 }
 
 #[tactic(auto, unfolding(ks_machine::specs::Creations::create_group))]
@@ -271,11 +272,12 @@ pub fn create(
             domain,
             password,
             enabled,
+            factors,
             ..
         } => {
             let home = domain_for(tables, caller, domain, &None);
             let new = user_row(alloc, id, home, name, *enabled)?;
-            create_user(alloc, tables, drawn, facts, new, password)
+            create_user(alloc, tables, drawn, facts, new, password, factors)
         }
         Made::Group {
             name,

@@ -6,6 +6,7 @@ mod catalog_listings;
 pub mod catalog_shown;
 pub mod catalog_updates;
 pub mod creations;
+pub mod factors;
 pub mod listings;
 pub mod single;
 pub mod updates;

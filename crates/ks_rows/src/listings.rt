@@ -1,11 +1,12 @@
-//! Listings of the five kinds and the three of the catalog (Identity API v3): a row is listed where all filters that are
-//! given agree.
+//! Listings of the five kinds, the three of the catalog and of secrets (Identity API v3): a row is listed where all
+//! filters that are given agree.
 ghost use Rattle.std.specs.Prelude.{◌≡◌, filter, map, IfOk};
 ghost use Rattle.ks_auth.specs.Answers.{rows_told};
 ghost use Rattle.ks_machine.specs.Listings.{is_domain_listed, is_group_listed, is_project_listed, is_role_listed, is_user_listed, list, path_of_kind, rows_listed};
 ghost use Rattle.ks_checks.specs.Plans.{outcome_of};
 
 use crate::catalog_listings::{endpoints_listed, regions_listed, services_listed};
+use crate::factors::all_secrets;
 use ks_auth::Tables;
 use ks_base::{
     DomainRow, FieldList, Filter, GroupRow, Kind, Memory, ProjectRow, RoleRow, Text, UserRow,
@@ -139,6 +140,8 @@ fn rows_listed(
         Kind::Region => regions_listed(alloc, tables.catalog.regions(), filters),
         Kind::Service => services_listed(alloc, tables.catalog.services(), filters),
         Kind::Endpoint => endpoints_listed(alloc, tables.catalog.endpoints(), filters),
+        Kind::AppCred => Ok(RowList::new(alloc)),
+        Kind::Secret => all_secrets(alloc, tables.factors),
     }
 }
 
@@ -160,6 +163,8 @@ fn path_of_kind(kind: Kind) -> &'static str
         Kind::Region => "/v3/regions",
         Kind::Service => "/v3/services",
         Kind::Endpoint => "/v3/endpoints",
+        Kind::AppCred => "/v3/appcreds",
+        Kind::Secret => "/v3/secrets",
     }
 }
 

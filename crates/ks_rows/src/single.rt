@@ -1,4 +1,4 @@
-//! One row, and deletions, of the five kinds and the three of the catalog (Identity API v3).
+//! One row, and deletions, of the five kinds, of the three of the catalog and of secrets (Identity API v3).
 ghost use Rattle.std.specs.Prelude.{◌≡◌, Some, Ok};
 ghost use Rattle.ks_auth.specs.Answers.{rows_told};
 ghost use Rattle.ks_machine.specs.Listings.{delete, get, row_at};
@@ -8,7 +8,7 @@ use ks_auth::Tables;
 use ks_base::{Id, Kind};
 use ks_checks::checks::{
     catalog, standing_domain, standing_endpoint, standing_group, standing_project, standing_region,
-    standing_role, standing_service, standing_user,
+    standing_role, standing_secret, standing_service, standing_user,
 };
 use ks_checks::puts::dropped;
 use ks_checks::{Halt, Plan};
@@ -33,6 +33,8 @@ fn row_at(tables: &Tables, kind: Kind, id: &Id) -> Result<Row, Halt>
         Kind::Region => Ok(Row::Region(standing_region(tables, id)?.copy()?)),
         Kind::Service => Ok(Row::Service(standing_service(tables, id)?.copy()?)),
         Kind::Endpoint => Ok(Row::Endpoint(standing_endpoint(tables, id)?.copy()?)),
+        Kind::AppCred => Err(Halt::Refused(Cause::Absent(Kind::AppCred, *id))),
+        Kind::Secret => Ok(Row::Secret(standing_secret(tables, id)?.copy()?)),
     }
 }
 
@@ -86,6 +88,11 @@ pub fn delete(tables: &Tables, kind: Kind, id: &Id) -> Result<Plan, Halt>
         Kind::Endpoint => {
             let _endpoint = standing_endpoint(tables, id)?;
             drops(Change::DropEndpoint(*id))
+        }
+        Kind::AppCred => Err(Halt::Refused(Cause::Absent(Kind::AppCred, *id))),
+        Kind::Secret => {
+            let _secret = standing_secret(tables, id)?;
+            drops(Change::DropSecret(*id))
         }
     }
 }

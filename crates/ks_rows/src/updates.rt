@@ -8,6 +8,7 @@ ghost use Rattle.ks_machine.specs.States.{State};
 ghost use Rattle.ks_machine.specs.Updates.{unchanged, update, update_domain, update_group, update_project, update_role, update_user};
 ghost use Rattle.ks_checks.specs.Plans.{HasBytes, Passes, Plans};
 
+use crate::factors::put_told;
 use ks_auth::{Facts, Tables};
 use ks_base::{DomainRow, Drawn, GroupRow, Id, Memory, ProjectRow, RoleRow, Text, UserRow};
 use ks_checks::checks::{
@@ -16,7 +17,7 @@ use ks_checks::checks::{
 use ks_checks::passwords::derived_or;
 use ks_checks::puts::{put_domain, put_project};
 use ks_checks::{Halt, Plan};
-use ks_machine::{BodyOut, Cause, Change, Made, Row};
+use ks_machine::{BodyOut, Cause, Change, Made, MfaIn, Row};
 use std::alloc::Global;
 
 /// The text that is given, or else what stands.
@@ -110,8 +111,9 @@ pub fn update_user(
     domain: &Option<Id>,
     password: &Option<Text>,
     enabled: Option<bool>,
+    factors: &Option<MfaIn>,
 ) -> Result<Plan, Halt>
-    ensures { (S : State) → Tells tables.now S → Plans result (update_user (told facts.now) S (Drawn.Bytes drawn.now) id.now given.now name.now domain.now password.now enabled) }
+    ensures { (S : State) → Tells tables.now S → Plans result (update_user (told facts.now) S (Drawn.Bytes drawn.now) id.now given.now name.now domain.now password.now enabled factors.now) }
 {
     let old = standing_user(tables, id)?;
     unchanged(alloc, "id", given, id)?;
@@ -129,8 +131,7 @@ pub fn update_user(
         password: kept,
         ..named
     };
-    let told = BodyOut::One(Row::User(new.copy()?), false);
-    Ok(Plan::changes(Change::PutUser(new), told))
+    put_told(new, factors, false)
 }
 
 #[tactic(auto, unfolding(ks_machine::specs::Updates::update_group))]
@@ -226,9 +227,10 @@ pub fn update(
             domain,
             password,
             enabled,
+            factors,
         } => match drawn {
             Drawn::Bytes(drawn) => update_user(
-                alloc, tables, drawn, facts, row_id, id, name, domain, password, *enabled,
+                alloc, tables, drawn, facts, row_id, id, name, domain, password, *enabled, factors,
             ),
             Drawn::Unused | Drawn::Failed => unreachable!(),
         },

@@ -3,15 +3,18 @@ use Rattle.std.proofs.Common.{◌≡◌, Bool, not, ◌||◌, ◌&&◌, List, �
 use std.Path.{fun_ext}
 use Rattle.ks_base.specs.declared.events.Revoke.{Revoke}
 use Rattle.ks_base.specs.declared.events.Revoke.TheVariants as revoke
+use Rattle.ks_base.specs.declared.app_creds.AppCredRow.{AppCredRow}
 use Rattle.ks_base.specs.declared.grants.GrantRow.{GrantRow}
 use Rattle.ks_base.specs.declared.trusts.TrustRow.{TrustRow}
 use Rattle.ks_base.specs.declared.users.MemberRow.{MemberRow}
+use Rattle.ks_base.specs.Factors.{FactorState}
 use Rattle.ks_base.specs.People.{PeopleState, group_ids, is_group_in, is_user_in, users_of}
 use Rattle.ks_base.specs.Rows.{Id, has_id}
 use Rattle.ks_base.specs.Trees.{TreeState, lies_in}
 use Rattle.ks_base.specs.Trusts.{trusts_gone, trusts_left}
 use Rattle.ks_base.specs.declared.memory.Memory.{Memory}
 use Rattle.ks_base.proofs.ListLemmas.{map_twice}
+use Rattle.ks_totp.specs.Factors.{of_users}
 use Rattle.ks_trust.specs.State.{without_trusts}
 use Rattle.ks_state.specs.declared.trusts_gone.TrustsGone.{TrustsGone}
 use Rattle.ks_machine.specs.Changes.{is_actor_gone, is_id_of, is_left, is_target_gone}
@@ -55,6 +58,23 @@ grants_of rows tree people grants are =
     (had (λ row. row.id) (is_group_in rows.domain) people.groups rows.groups are.groups)
     ∙ ap {A = Id → Bool} (λ p. filter (λ row. grant_left rows.domain (has_user rows.domain people) (has_group rows.domain people) p row) grants)
     (had (λ row. row.id) (lies_in rows.domain) tree.projects rows.projects are.projects)
+
+abbrev pub cred_left : (Id → Bool) → (Id → Bool) → AppCredRow → Bool
+cred_left users projects row = not (users row.user) && not (projects row.project)
+
+pub creds_of : (rows : DomainRows) (tree : TreeState) (people : PeopleState) (creds : List AppCredRow) → AreOf rows tree people →
+    filter (λ row. cred_left (λ id. has_id rows.users id) (λ id. has_id rows.projects id) row) creds
+    ≡ filter (λ row. cred_left (has_user rows.domain people) (has_project rows.domain tree) row) creds
+creds_of rows tree people creds are =
+    ap {A = Id → Bool} (λ u. filter (λ row. cred_left u (λ id. has_id rows.projects id) row) creds)
+    (had (λ row. row.id) (is_user_in rows.domain) people.users rows.users are.users)
+    ∙ ap {A = Id → Bool} (λ p. filter (λ row. cred_left (has_user rows.domain people) p row) creds)
+    (had (λ row. row.id) (lies_in rows.domain) tree.projects rows.projects are.projects)
+
+pub factors_of : (rows : DomainRows) (people : PeopleState) (factors : FactorState) → rows.users ≡ users_of rows.domain people →
+    of_users (λ user. not (has_id rows.users user)) factors ≡ of_users (λ user. not (has_user rows.domain people user)) factors
+factors_of rows people factors users =
+    ap {A = Id → Bool} (λ u. of_users (λ user. not (u user)) factors) (had (λ row. row.id) (is_user_in rows.domain) people.users rows.users users)
 
 -- what is told of them
 abbrev told_first : Id → List Revoke → List Revoke → List Revoke

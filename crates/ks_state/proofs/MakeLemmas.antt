@@ -1,9 +1,11 @@
 -- A change that was written down, and whose rows are the changed ones, is made.
 use Rattle.std.proofs.Common.{◌≡◌, ℕ, ◌<◌, ◌^◌, true, not, ◌&&◌, List, length, filter, ap, subst, ◌∙◌}
+use Rattle.ks_base.specs.declared.app_creds.AppCredRow.{AppCredRow}
 use Rattle.ks_base.specs.declared.events.Revoke.{Revoke}
 use Rattle.ks_base.specs.declared.grants.GrantRow.{GrantRow}
 use Rattle.ks_base.specs.declared.trusts.TrustRow.{TrustRow}
 use Rattle.ks_base.specs.Catalog.{CatalogState}
+use Rattle.ks_base.specs.Factors.{FactorState}
 use Rattle.ks_base.specs.People.{PeopleState, is_group_in, is_user_in}
 use Rattle.ks_base.specs.RoleLists.{RolesState}
 use Rattle.ks_base.specs.Rows.{Id, Rows}
@@ -14,6 +16,7 @@ use Rattle.ks_machine.specs.declared.settings.Settings.{Settings}
 use Rattle.ks_machine.specs.Changes.{apply, domain_dropped, ended_by, is_actor_gone, is_left, is_target_gone, ring_after, rows_after, trusts_after}
 use Rattle.ks_machine.specs.Openings.{NamedRule}
 use Rattle.ks_ring.specs.Rings.{RingState}
+use Rattle.ks_totp.specs.Factors.{of_users}
 use Rattle.ks_state.specs.DomainRows.{has_group, has_project, has_user}
 use Rattle.ks_state.specs.Logs.{Logged, is_room, written}
 use Rattle.ks_opening.specs.Opened.{rows_in}
@@ -45,7 +48,7 @@ made most settings rules ring rows left log ready done things what roomier is en
       ∙ ap {A = RingState} (λ r. parts settings rules r (rows_after rows what) (written (ended_by rows what) what done.revoked.marks done.revoked.room log)) turns,
 )
 
--- the people and the grants that a domain leaves
+-- the people, the grants, the credentials and the factors that a domain leaves
 
 abbrev pub people_dropped : Id → PeopleState → PeopleState
 people_dropped domain people = record {
@@ -58,14 +61,31 @@ abbrev pub grants_dropped : Id → TreeState → PeopleState → List GrantRow �
 grants_dropped domain tree people grants =
     filter (λ row. not (is_actor_gone (has_user domain people) (has_group domain people) row.actor) && not (is_target_gone (has_project domain tree) domain row.target)) grants
 
-pub domain_rows : (tree tree2 : TreeState) (people people2 : PeopleState) (roles : RolesState) (grants grants2 : List GrantRow) (trusts trusts2 : List TrustRow)
-    (catalog : CatalogState) (id : Id) →
-    tree2 ≡ without_domain id tree → people2 ≡ people_dropped id people → grants2 ≡ grants_dropped id tree people grants →
-    trusts2 ≡ trusts_after (rows_in tree people roles grants trusts catalog) (change.DropDomain id) →
-    rows_in tree2 people2 roles grants2 trusts2 catalog ≡ rows_after (rows_in tree people roles grants trusts catalog) (change.DropDomain id)
+abbrev pub creds_dropped : Id → TreeState → PeopleState → List AppCredRow → List AppCredRow
+creds_dropped domain tree people creds =
+    filter (λ row. not (has_user domain people row.user) && not (has_project domain tree row.project)) creds
+
+abbrev pub factors_dropped : Id → PeopleState → FactorState → FactorState
+factors_dropped domain people factors = of_users (λ user. not (has_user domain people user)) factors
+
+-- the tables of an identity
+pub record Tabled : Type 0 where
+  pub tree : TreeState
+  pub people : PeopleState
+  pub roles : RolesState
+  pub grants : List GrantRow
+  pub trusts : List TrustRow
+  pub catalog : CatalogState
+  pub creds : List AppCredRow
+  pub factors : FactorState
+
+abbrev pub tabled_rows : Tabled → Rows
+tabled_rows t = rows_in t.tree t.people t.roles t.grants t.trusts t.catalog t.creds t.factors
+
+pub domain_rows : (t : Tabled) (tree : TreeState) (people : PeopleState) (grants : List GrantRow) (trusts : List TrustRow) (creds : List AppCredRow) (factors : FactorState) (id : Id) →
+    tree ≡ without_domain id t.tree → people ≡ people_dropped id t.people → grants ≡ grants_dropped id t.tree t.people t.grants →
+    trusts ≡ trusts_after (tabled_rows t) (change.DropDomain id) → creds ≡ creds_dropped id t.tree t.people t.creds → factors ≡ factors_dropped id t.people t.factors →
+    rows_in tree people t.roles grants trusts t.catalog creds factors ≡ rows_after (tabled_rows t) (change.DropDomain id)
 unfolding rows_after domain_dropped
-domain_rows tree tree2 people people2 roles grants grants2 trusts trusts2 catalog id one two three four =
-    ap {A = TreeState} (λ t. rows_in t people2 roles grants2 trusts2 catalog) one
-    ∙ ap {A = PeopleState} (λ p. rows_in (without_domain id tree) p roles grants2 trusts2 catalog) two
-    ∙ ap {A = List GrantRow} (λ g. rows_in (without_domain id tree) (people_dropped id people) roles g trusts2 catalog) three
-    ∙ ap {A = List TrustRow} (λ t. rows_in (without_domain id tree) (people_dropped id people) roles (grants_dropped id tree people grants) t catalog) four
+domain_rows t tree people grants trusts creds factors id one two three four five six =
+    λ i. rows_in (one i) (two i) t.roles (three i) (four i) t.catalog (five i) (six i)

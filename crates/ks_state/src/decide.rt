@@ -10,7 +10,7 @@ use crate::{Decision, Identity};
 use ks_auth::Facts;
 use ks_checks::{Halt, Plan};
 use ks_laws::lawful_fronts_go_on;
-use ks_machine::{Call, moment};
+use ks_machine::{Call, moment, restricted_tokens_are_held_back};
 use ks_plan::{plan_call, room_comes_last};
 
 impl Identity {
@@ -23,6 +23,8 @@ impl Identity {
         requires stands { (f : Front) × Stands self.old f }
         ensures { (f : Front) → Stands self.old f → Decided f call.now facts.now result self.old self.new }
     {
+        // What the machine answers is such that a restricted application credential makes no other, and no trust.
+        restricted_tokens_are_held_back();
         lawful_fronts_go_on();
         let moment = self.moment_of(call);
         let planned = self.planned(call, facts, moment);

@@ -6,13 +6,16 @@ ghost use Rattle.ks_base.specs.Trees.{lies_in, projects_of};
 ghost use Rattle.ks_base.specs.Trusts.{trusts_gone, trusts_left};
 ghost use Rattle.ks_machine.specs.Changes.{is_actor_gone, is_left, is_target_gone};
 ghost use Rattle.ks_state.specs.DomainRows.{AreOf, has_group, has_project, has_user, is_touched};
+ghost use Rattle.ks_totp.specs.Factors.{of_users};
 ghost use Rattle.ks_trust.specs.State.{without_trusts, IsClosed};
 
-use crate::domain_rows::DomainRows;
+use crate::domain_rows::{DomainRows, OtherUsers};
 use crate::trusts_gone::{TrustsGone, trusts_gone};
+use ks_appcred::AppCreds;
 use ks_assign::Grants;
 use ks_base::Memory;
 use ks_people::People;
+use ks_totp::Factors;
 use ks_tree::Tree;
 use ks_trust::Trusts;
 use std::alloc::Global;
@@ -59,4 +62,23 @@ pub(crate) fn drop_grants(grants: &mut Grants, tree: &Tree, people: &People, gon
     let _tree = tree;
     let _people = people;
     grants.keep(gone);
+}
+
+/// The credentials of the domain's users, and those on its projects, go. It takes no memory.
+pub(crate) fn drop_creds(creds: &mut AppCreds, tree: &Tree, people: &People, gone: &DomainRows)
+    requires { AreOf gone.now tree.now people.now }
+    ensures { creds.new ≡ filter (λ row. not (has_user gone.now.domain people.now row.user) && not (has_project gone.now.domain tree.now row.project)) creds.old }
+{
+    let _tree = tree;
+    let _people = people;
+    creds.keep(gone);
+}
+
+/// The secrets and the rules of the domain's users go. It takes no memory.
+pub(crate) fn drop_factors(factors: &mut Factors, people: &People, gone: &DomainRows)
+    requires { gone.now.users ≡ users_of gone.now.domain people.now }
+    ensures { factors.new.state ≡ of_users (λ user. not (has_user gone.now.domain people.now user)) factors.old.state }
+{
+    let _people = people;
+    factors.keep_users(&OtherUsers { users: &gone.users });
 }

@@ -10,8 +10,8 @@ ghost use Rattle.ks_machine.specs.Changes.{is_actor_gone, is_left, is_target_gon
 use crate::ended::{Ends, end_each, one};
 use crate::ids::IdSet;
 use ks_base::{
-    Actor, GrantRow, GroupRow, Id, ListOf, MemberRow, Memory, Revoke, Target, Test, TrustRow,
-    UserRow,
+    Actor, AppCredRow, GrantRow, GroupRow, Id, ListOf, MemberRow, Memory, Revoke, Target, Test,
+    TrustRow, UserRow,
 };
 use ks_people::People;
 use ks_tree::Tree;
@@ -147,5 +147,28 @@ impl Test<GroupRow> for DomainRows {
 
     fn test(&self, row: &GroupRow) -> bool {
         row.domain != self.domain
+    }
+}
+
+/// The application credentials that are left.
+impl Test<AppCredRow> for DomainRows {
+    ghost test = { λ gone row. not (has_id gone.users row.user) && not (has_id gone.projects row.project) };
+
+    fn test(&self, row: &AppCredRow) -> bool {
+        !self.users.has(&row.user) && !self.projects.has(&row.project)
+    }
+}
+
+/// Users that are not of these.
+#[derive(Drop)]
+pub(crate) struct OtherUsers<'a> {
+    pub(crate) users: &'a IdSet,
+}
+
+impl Test<Id> for OtherUsers<'_> {
+    ghost test = { λ others user. not (has_id others.users.now user) };
+
+    fn test(&self, user: &Id) -> bool {
+        !self.users.has(user)
     }
 }

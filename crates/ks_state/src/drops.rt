@@ -4,7 +4,7 @@ ghost use Rattle.ks_machine.specs.declared.change.Change.{Change};
 ghost use Rattle.ks_state.specs.Shown.{FitsWithRoom, Makes};
 
 use crate::Identity;
-use crate::domain_gone::{drop_grants, drop_people};
+use crate::domain_gone::{drop_creds, drop_factors, drop_grants, drop_people};
 use crate::domain_rows::DomainRows;
 use crate::unmade::Unmade;
 use ks_base::{Actor, Id, Target};
@@ -21,6 +21,8 @@ impl Identity {
         self.log.ready(most, gone.things.as_slice().len())?;
         self.trusts.drop_all(&gone.ids);
         drop_grants(&mut self.grants, &self.tree, &self.people, &rows);
+        drop_creds(&mut self.app_creds, &self.tree, &self.people, &rows);
+        drop_factors(&mut self.factors, &self.people, &rows);
         drop_people(&mut self.people, &rows);
         let Ok(()) = self.tree.drop_domain(&id) else {
             unreachable!()
@@ -41,6 +43,7 @@ impl Identity {
             unreachable!()
         };
         self.grants.drop_target(&Target::Project(id));
+        self.app_creds.drop_project(&id);
         self.trusts.drop_all(&gone.ids);
         self.log
             .write(gone.things.as_slice(), Change::DropProject(id));
@@ -58,6 +61,8 @@ impl Identity {
             unreachable!()
         };
         self.grants.drop_actor(&Actor::User(id));
+        self.app_creds.drop_user(&id);
+        self.factors.drop_user(&id);
         self.trusts.drop_all(&gone.ids);
         self.log.write(gone.things.as_slice(), Change::DropUser(id));
         Ok(())
@@ -88,6 +93,7 @@ impl Identity {
             unreachable!()
         };
         self.grants.drop_role(&id);
+        self.app_creds.drop_role(&id);
         self.trusts.drop_all(&gone.ids);
         self.log.write(gone.things.as_slice(), Change::DropRole(id));
         Ok(())

@@ -4,6 +4,7 @@ ghost use Rattle.ks_base.specs.declared.limits.TheConstants.{KEYS};
 ghost use Rattle.ks_state.specs.Shown.{raised_to};
 
 use crate::log::Log;
+use ks_appcred::AppCreds;
 use ks_assign::Grants;
 use ks_base::{EventList, Memory};
 use ks_catalog::Catalog;
@@ -12,6 +13,7 @@ use ks_people::People;
 use ks_policy::Rules;
 use ks_ring::Ring;
 use ks_roles::Roles;
+use ks_totp::Factors;
 use ks_tree::Tree;
 use ks_trust::Trusts;
 use std::alloc::Global;
@@ -30,6 +32,8 @@ pub struct Identity {
     pub(crate) grants: Grants,
     pub(crate) trusts: Trusts,
     pub(crate) catalog: Catalog,
+    pub(crate) app_creds: AppCreds,
+    pub(crate) factors: Factors,
     pub(crate) log: Log,
 }
 
@@ -46,6 +50,8 @@ impl Drop for Identity {
             grants: _,
             trusts: _,
             catalog: _,
+            app_creds: _,
+            factors: _,
             log: _,
         } = self;
     }
@@ -68,7 +74,7 @@ impl Model for Identity {
         settings = i.settings;
         rules = i.rules;
         ring = i.ring;
-        rows = rows_in i.tree i.people i.roles i.grants i.trusts i.catalog;
+        rows = rows_in i.tree i.people i.roles i.grants i.trusts i.catalog i.app_creds i.factors.state;
         events = i.log.revoked.events;
         high = i.log.revoked.high;
         made = i.log.made;

@@ -3,6 +3,7 @@
 #![tactic(auto)]
 
 mod catalog_rows;
+mod cred_rows;
 mod decide;
 mod decides;
 mod decision;
@@ -10,6 +11,7 @@ mod domain_gone;
 mod domain_rows;
 mod drops;
 mod ended;
+mod factor_rows;
 mod gone;
 mod identity;
 mod ids;

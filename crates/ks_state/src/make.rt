@@ -41,6 +41,11 @@ impl Identity {
             Change::DropRegion(id) => self.drop_region(id, most),
             Change::DropService(id) => self.drop_service(id, most),
             Change::DropEndpoint(id) => self.drop_endpoint(id, most),
+            Change::PutAppCred(row) => self.put_app_cred(row, most),
+            Change::DropAppCred(id) => self.drop_app_cred(id, most),
+            Change::PutSecret(row) => self.put_secret(row, most),
+            Change::DropSecret(id) => self.drop_secret(id, most),
+            Change::PutUserWith(row, rules) => self.put_user_with(row, rules, most),
         }
     }
 }

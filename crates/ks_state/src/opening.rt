@@ -10,15 +10,17 @@ ghost use Rattle.ks_state.specs.Standing.{Stands};
 
 use crate::Identity;
 use crate::log::Log;
+use ks_appcred::AppCreds;
 use ks_machine::OpenFault;
 use ks_opening::{Opened, open_tables};
 use ks_policy::Opening;
+use ks_totp::Factors;
 use ks_trust::Trusts;
 use std::alloc::Global;
 
 impl Identity {
-    /// An identity with the settings, rules, keys and rows of an opening. Nothing is revoked, no trust stands, no change was
-    /// made, and the highest moment is 0. A membership, implication or grant that is listed twice stands once.
+    /// An identity with the settings, rules, keys and rows of an opening. Nothing is revoked, no trust, application credential
+    /// or second factor stands, no change was made, and the highest moment is 0. A membership, implication or grant that is listed twice stands once.
     ///
     /// Refused is what `open_tables` of `ks_opening` refuses, in its order. Memory may end at any time (`Memory`).
     pub fn open(alloc: Global, opening: Opening) -> Result<Identity, OpenFault>
@@ -47,6 +49,8 @@ impl Identity {
             grants: opened.grants,
             trusts: Trusts::new(alloc),
             catalog: opened.catalog,
+            app_creds: AppCreds::new(alloc),
+            factors: Factors::new(alloc),
             log,
         }
     }

@@ -128,7 +128,8 @@ fn put_project(tree: &mut Tree, row: ProjectRow) -> Result<(), Memory>
     }
 }
 
-fn put_user(people: &mut People, row: UserRow) -> Result<(), Memory>
+/// Puts a user, new or in the place of the one with its id.
+pub(crate) fn put_user(people: &mut People, row: UserRow) -> Result<(), Memory>
     ensures ok { OnOk result (people.new ≡ with_user row people.old) }
     ensures err { OnErr result (people.new ≡ people.old) }
 {

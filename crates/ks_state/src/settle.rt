@@ -91,6 +91,8 @@ impl Identity {
             grants: &self.grants,
             trusts: &self.trusts,
             catalog: &self.catalog,
+            app_creds: &self.app_creds,
+            factors: &self.factors,
             revoked: self.log.revoked(),
             ring: &self.ring,
             settings: &self.settings,

@@ -24,6 +24,8 @@ pub fn listing_action(kind: Kind) -> &'static str
         Kind::Region => "identity:list_regions",
         Kind::Service => "identity:list_services",
         Kind::Endpoint => "identity:list_endpoints",
+        Kind::AppCred => "identity:list_appcreds",
+        Kind::Secret => "identity:list_secrets",
     }
 }
 
@@ -45,6 +47,8 @@ pub fn get_action(kind: Kind) -> &'static str
         Kind::Region => "identity:get_region",
         Kind::Service => "identity:get_service",
         Kind::Endpoint => "identity:get_endpoint",
+        Kind::AppCred => "identity:get_appcred",
+        Kind::Secret => "identity:get_secret",
     }
 }
 
@@ -66,6 +70,8 @@ pub fn deletion_action(kind: Kind) -> &'static str
         Kind::Region => "identity:delete_region",
         Kind::Service => "identity:delete_service",
         Kind::Endpoint => "identity:delete_endpoint",
+        Kind::AppCred => "identity:delete_appcred",
+        Kind::Secret => "identity:delete_secret",
     }
 }
 

@@ -136,5 +136,17 @@ pub fn required(command: &Command) -> Requirements
         Command::UpdateCatalog(_, asked) => Requirements::rule(catalog_update_action(asked.of)),
         Command::DeleteCatalog(of, _) => Requirements::rule(deletion_action(catalog_kind(*of))),
         Command::ShowCatalog => Requirements::open(false),
+        Command::CreateAppCred(_, _) => {
+            Requirements::drawing("identity:create_application_credential", true)
+        }
+        Command::ListAppCreds(_) => Requirements::rule("identity:list_application_credentials"),
+        Command::GetAppCred(_, _) => Requirements::rule("identity:get_application_credential"),
+        Command::DeleteAppCred(_, _) => {
+            Requirements::rule("identity:delete_application_credential")
+        }
+        Command::CreateSecret(_) => Requirements::drawing("identity:create_credential", true),
+        Command::ListSecrets => Requirements::rule("identity:list_credentials"),
+        Command::GetSecret(_) => Requirements::rule("identity:get_credential"),
+        Command::DeleteSecret(_) => Requirements::rule("identity:delete_credential"),
     }
 }

@@ -51,6 +51,10 @@ fn put_target_of(
         Command::Get(kind, id) | Command::Delete(kind, id) => put_path(fields, tables, *kind, id),
         Command::Update(id, made) => put_path(fields, tables, kind_of(made), id),
         Command::GroupsOf(id) => put_path(fields, tables, Kind::User, id),
+        Command::CreateAppCred(user, _) | Command::ListAppCreds(user) => {
+            put_path(fields, tables, Kind::User, user)
+        }
+        Command::GetAppCred(user, _) | Command::DeleteAppCred(user, _) => put_user_id(fields, user),
         Command::MembersOf(id) => put_object(fields, tables, Kind::Group, id),
         Command::Implied(id) => put_object(fields, tables, Kind::Role, id),
         Command::CreateCatalog(asked) => put_catalog_body(fields, asked),
@@ -84,7 +88,11 @@ fn put_target_of(
         | Command::Events
         | Command::RotateKeys
         | Command::LoadKeys
-        | Command::ShowCatalog => Ok(()),
+        | Command::ShowCatalog
+        | Command::CreateSecret(_)
+        | Command::ListSecrets
+        | Command::GetSecret(_)
+        | Command::DeleteSecret(_) => Ok(()),
     }
 }
 
@@ -173,6 +181,7 @@ fn names_of(kind: Kind) -> &'static [&'static str]
         Kind::Region => &["parent_region_id"],
         Kind::Service => &["type", "name"],
         Kind::Endpoint => &["service_id", "region_id", "interface"],
+        Kind::AppCred | Kind::Secret => &[],
     }
 }
 
@@ -222,6 +231,7 @@ fn put_object(fields: &mut Fields, tables: &Tables, kind: Kind, id: &Id) -> Resu
         Kind::Region => put_region(fields, tables, id),
         Kind::Service => put_service(fields, tables, id),
         Kind::Endpoint => put_endpoint(fields, tables, id),
+        Kind::AppCred | Kind::Secret => Ok(()),
     }
 }
 

@@ -10,11 +10,11 @@ use Rattle.ks_machine.specs.Openings.{PlainOpening}
 use Rattle.ks_ring.specs.Rings.{RingState, refusal_of}
 use Rattle.ks_opening.specs.declared.filled.Filled.{Filled}
 use Rattle.ks_opening.specs.declared.opened.Opened.{Opened}
-use Rattle.ks_opening.specs.Opened.{rows_in}
+use Rattle.ks_opening.specs.Opened.{no_factors, rows_in}
 
--- the rows of its tables; no trust stands
+-- the rows of its tables; no trust, no application credential and no second factor stands
 abbrev pub rows_of : Filled → Rows
-rows_of filled = rows_in filled.tree filled.people filled.roles filled.grants [] filled.catalog
+rows_of filled = rows_in filled.tree filled.people filled.roles filled.grants [] filled.catalog [] no_factors
 
 -- it is this opening, whose rows stand in their tables
 pub record IsFilled (filled : Filled) (opening : PlainOpening) : Type 0 where

@@ -22,6 +22,9 @@ rows_listed listed = record {
   regions = listed.regions;
   services = listed.services;
   endpoints = listed.endpoints;
+  app_creds = [];
+  secrets = [];
+  factor_rules = [];
 }
 
 -- these are the rows of the opening, in its order

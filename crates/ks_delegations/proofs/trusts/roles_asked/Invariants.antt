@@ -6,4 +6,4 @@ use Rattle.ks_delegations.proofs.AskedLemmas.{behind}
 use Rattle.ks_delegations.proofs.trusts.roles_asked.Given as goal
 
 abbrev pub invariant-loop-named : goal.invariant-loop-named
-invariant-loop-named l = roles_asked (rows_told l.tables) l.names ≡ behind l.ids (roles_asked (rows_told l.tables) (drop l.named-index l.names))
+invariant-loop-named l = roles_asked (rows_told l.tables) l.field l.names ≡ behind l.ids (roles_asked (rows_told l.tables) l.field (drop l.named-index l.names))

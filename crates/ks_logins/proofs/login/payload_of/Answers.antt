@@ -1,4 +1,4 @@
-use Rattle.std.proofs.Common.{arith, sym}
+use Rattle.std.proofs.Common.{arith}
 use Rattle.ks_logins.proofs.login.payload_of.Goals as goal
 
 pub returns-clause-range : goal.returns-clause-range
@@ -16,6 +16,6 @@ returns-clause-range c = record {
   expires = c.requires.shown.2;
   audit = c.is_sixteen.ensures;
   chain = c.is_sixteen_if_any.ensures;
-  has_credential_id = sym c.requires.credential;
-  credential = tt;
+  has_credential_id = c.requires.credential;
+  credential = c.is_id_if_any-4.ensures;
 }

@@ -1,7 +1,7 @@
 use Rattle.std.proofs.Common.{[], refl}
 use Rattle.ks_machine.specs.Opened.{rows_opened}
 use Rattle.ks_policy.specs.Openings.{plain}
-use Rattle.ks_opening.specs.Opened.{rows_in}
+use Rattle.ks_opening.specs.Opened.{no_factors, rows_in}
 use Rattle.ks_opening.proofs.OpeningLemmas.{apart_all}
 use Rattle.ks_opening.proofs.filled.Filled.of.Goals as goal
 
@@ -35,5 +35,5 @@ returns c = record {
   settings = refl;
   rules = refl;
   keys = refl;
-  rows = λ i. rows_in (c.in_ok-tree.ensures.tree i) (c.in_ok-tree.ensures.people i) (c.in_ok-roles.ensures.roles i) (c.in_ok-roles.ensures.grants i) [] (c.in_ok-catalog.ensures i);
+  rows = λ i. rows_in (c.in_ok-tree.ensures.tree i) (c.in_ok-tree.ensures.people i) (c.in_ok-roles.ensures.roles i) (c.in_ok-roles.ensures.grants i) [] (c.in_ok-catalog.ensures i) [] no_factors;
 }

@@ -2,7 +2,7 @@ use Rattle.std.proofs.Common.{refl, sym}
 use Rattle.ks_auth.specs.Facts.{told}
 use Rattle.ks_machine.specs.Attempts.{Stored}
 use Rattle.ks_checks.proofs.PasswordLemmas.{lacks_stored}
-use Rattle.ks_logins.proofs.login.is_password.Goals as goal
+use Rattle.ks_checks.proofs.tested.is_password.Goals as goal
 
 pub returns-in-None : goal.returns-in-None
 returns-in-None c = (

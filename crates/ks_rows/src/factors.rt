@@ -1,0 +1,115 @@
+//! Second factors: secrets of one-time codes (Identity API v3, credentials of type `totp`), and the methods that a user has
+//! to log in by.
+ghost use Rattle.std.specs.Prelude.{◌≡◌, map, IfOk};
+ghost use Rattle.ks_auth.specs.Answers.{rows_told};
+ghost use Rattle.ks_base.specs.declared.receipt.Drawn.TheVariants as drawns;
+ghost use Rattle.ks_machine.specs.Attempts.{Go};
+ghost use Rattle.ks_machine.specs.Creations.{put_user};
+ghost use Rattle.ks_machine.specs.FactorCommands.{create_secret, delete_secret, get_secret, list_secrets};
+ghost use Rattle.ks_machine.specs.Outcomes.{changes};
+ghost use Rattle.ks_checks.specs.Plans.{Plans, outcome_of};
+
+use ks_auth::Tables;
+use ks_base::{Id, Memory, MfaRow, SecretRow, Text, UserRow};
+use ks_checks::checks::{row, standing_secret, standing_user};
+use ks_checks::draws::made_id;
+use ks_checks::{Halt, Plan};
+use ks_machine::{BodyOut, Change, MfaIn, Row, RowList, SecretBody};
+use ks_totp::Factors;
+use std::alloc::Global;
+
+/// The change that puts a user. What a body says of the methods that the user has to log in by is the whole of it.
+fn put_user(row: UserRow, said: &Option<MfaIn>) -> Result<Change, Memory>
+    ensures { IfOk result (λ change. change ≡ put_user row said.now) }
+{
+    match said {
+        Some(said) => {
+            let rules = MfaRow {
+                user: row.id,
+                enabled: said.enabled,
+                rules: said.rules.copy()?,
+            };
+            Ok(Change::PutUserWith(row, rules))
+        }
+        None => Ok(Change::PutUser(row)),
+    }
+}
+
+/// Puts a user, and tells of it.
+pub fn put_told(row: UserRow, said: &Option<MfaIn>, is_new: bool) -> Result<Plan, Halt>
+    ensures { Plans result (Go (changes (put_user row said.now) (BodyOut.One (Row.User row) is_new))) }
+{
+    let told = BodyOut::One(Row::User(row.copy()?), is_new);
+    Ok(Plan::changes(put_user(row, said)?, told))
+}
+
+fn secret_row(id: Id, asked: &SecretBody) -> Result<SecretRow, Memory>
+    ensures { IfOk result (λ row. row ≡ record { id = id; user = asked.now.user; secret = asked.now.secret }) }
+{
+    Ok(SecretRow {
+        id,
+        user: asked.user,
+        secret: asked.secret.copy()?,
+    })
+}
+
+/// A new secret of a user that stands.
+#[tactic(auto, unfolding(ks_machine::specs::FactorCommands::create_secret))]
+pub fn create_secret(tables: &Tables, drawn: &[u8; 64], asked: &SecretBody) -> Result<Plan, Halt>
+    ensures { Plans result (create_secret (rows_told tables.now) (drawns.Bytes drawn.now) asked.now) }
+{
+    let _user = standing_user(tables, &asked.user)?;
+    let new = secret_row(made_id(drawn), asked)?;
+    row(tables.factors.may_add_secret(&new))?;
+    let told = BodyOut::One(Row::Secret(new.copy()?), true);
+    Ok(Plan::changes(Change::PutSecret(new), told))
+}
+
+/// The secrets of these ids, which are those of all of them.
+fn secrets_of(alloc: Global, factors: &Factors, ids: &[Id]) -> Result<RowList, Memory>
+    requires { ids.now ≡ map (λ row. row.id) factors.now.state.secrets }
+    ensures { IfOk result (λ rows. rows ≡ map (λ found. Row.Secret found) factors.now.state.secrets) }
+{
+    let mut rows = RowList::new(alloc);
+    for id in ids {
+        match factors.secret(id) {
+            Some(secret) => rows.push(Row::Secret(secret.copy()?))?,
+            None => unreachable!(),
+        }
+    }
+    Ok(rows)
+}
+
+/// All secrets.
+pub fn all_secrets(alloc: Global, factors: &Factors) -> Result<RowList, Memory>
+    ensures { IfOk result (λ rows. rows ≡ map (λ found. Row.Secret found) factors.now.state.secrets) }
+{
+    let ids = factors.secret_ids()?;
+    secrets_of(alloc, factors, ids.as_slice())
+}
+
+#[tactic(auto, unfolding(ks_machine::specs::FactorCommands::list_secrets))]
+pub fn list_secrets(alloc: Global, tables: &Tables) -> Result<Plan, Memory>
+    ensures { IfOk result (λ plan. outcome_of plan ≡ list_secrets (rows_told tables.now)) }
+{
+    let rows = all_secrets(alloc, tables.factors)?;
+    let path = Text::of(alloc, "/v3/credentials")?;
+    Ok(Plan::tells(BodyOut::Secrets(rows, path)))
+}
+
+#[tactic(auto, unfolding(ks_machine::specs::FactorCommands::get_secret))]
+pub fn get_secret(tables: &Tables, id: &Id) -> Result<Plan, Halt>
+    ensures { Plans result (get_secret (rows_told tables.now) id.now) }
+{
+    let secret = standing_secret(tables, id)?;
+    let told = BodyOut::One(Row::Secret(secret.copy()?), false);
+    Ok(Plan::tells(told))
+}
+
+#[tactic(auto, unfolding(ks_machine::specs::FactorCommands::delete_secret))]
+pub fn delete_secret(tables: &Tables, id: &Id) -> Result<Plan, Halt>
+    ensures { Plans result (delete_secret (rows_told tables.now) id.now) }
+{
+    let _secret = standing_secret(tables, id)?;
+    Ok(Plan::changes(Change::DropSecret(*id), BodyOut::Nothing))
+}
