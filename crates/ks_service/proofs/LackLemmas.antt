@@ -1,9 +1,10 @@
 -- How many facts a call can lack: while nothing changes, each work that is done leaves one less.
-use Rattle.std.proofs.Common.{◌≡◌, ℕ, zero, suc, ◌+◌, ◌*◌, ◌<◌, ◌≤◌, Bool, true, false, ◌⊎◌, inl, inr, List, [], ◌∷◌, length, Option, Some, None, IfSome, if◌then◌else◌, refl, sym, ap, subst, arith}
+use Rattle.std.proofs.Common.{◌≡◌, ℕ, zero, suc, ◌+◌, ◌*◌, ◌<◌, ◌≤◌, Bool, true, false, ◌⊎◌, inl, inr, List, [], ◌∷◌, length, Option, Some, None, IfSome, if◌then◌else◌, refl, sym, ap, subst, ◌∙◌, arith}
 use Rattle.std.specs.Prelude.{not}
-use Rattle.std.specs.List.{All, filter}
+use Rattle.std.specs.List.{filter}
 use Rattle.ks_auth.specs.Facts.{FactsState, has_derived, has_opened, told}
 use Rattle.ks_base.specs.declared.limits.TheConstants.{KEYS}
+use Rattle.ks_base.specs.declared.receipt.Drawn.{Drawn}
 use Rattle.ks_base.specs.Rows.{Text}
 use Rattle.ks_base.specs.Tables.{Among}
 use Rattle.ks_base.proofs.ListLemmas.{length_filter}
@@ -24,7 +25,7 @@ use Rattle.ks_checks.specs.declared.halt.Needs.{Needs}
 use Rattle.ks_checks.specs.Plans.{Names}
 use Rattle.ks_ring.specs.declared.held_key.HeldKey.{HeldKey}
 use Rattle.ks_service.specs.declared.rounds.TheConstants.{DECISIONS}
-use Rattle.ks_service.specs.Work.{AreKept, IsDerived, IsDone, IsOpened, secrets_in}
+use Rattle.ks_service.specs.Work.{AreKept, IsDerived, IsDone, IsOpened, secrets_in, secrets_of}
 use Rattle.ks_state.specs.Decides.{IsAsked}
 
 if_some : {X : Type 0} (given : Option X) (x : X) (P : X → Type 0) → given ≡ Some x → IfSome given P → P x
@@ -88,49 +89,51 @@ opened_less : (held keys : List HeldKey) (needs : Needs) (old new : FactsState) 
     unopened held new given < unopened held old given
 opened_less held [] needs old new given text is kept names some among unknown done = absurd (omega (arith, some))
 opened_less held (key ∷ keys) needs old new given text is kept names some among unknown done =
-    let all : All (λ k. has_opened k text new.opened ≡ true) (key ∷ keys) = subst (λ (ks : List HeldKey). IsOpened ks new text) names (if_some given text (IsOpened needs.keys new) is done) in
-    unopened_less held old new given text key is kept (among key (inl refl)) (not_opened old key text (unknown key (inl refl))) (all 0 key (omega arith))
+    let first : IsOpened (key ∷ keys) new text = subst (λ (ks : List HeldKey). IsOpened ks new text) names (if_some given text (IsOpened needs.keys new) is done) in
+    unopened_less held old new given text key is kept (among key (inl refl)) (not_opened old key text (unknown key (inl refl))) first.0
 
 -- the same of all three texts of a call
 pub unopened_all : State → Call → FactsState → ℕ
 unopened_all S call facts =
-    unopened S.ring.held facts call.caller + (unopened S.ring.held facts call.subject + unopened S.ring.held facts (secrets_in call.command).token)
+    unopened S.ring.held facts call.caller + (unopened S.ring.held facts call.subject + unopened S.ring.held facts (secrets_in call).token)
 
 all_most : (S : State) (call : Call) (facts : FactsState) → length S.ring.held ≤ KEYS → unopened_all S call facts ≤ 3 * KEYS
 unfolding unopened_all
 all_most S call facts few =
-    omega (arith, few, unopened_most S.ring.held facts call.caller, unopened_most S.ring.held facts call.subject, unopened_most S.ring.held facts (secrets_in call.command).token)
+    omega (arith, few, unopened_most S.ring.held facts call.caller, unopened_most S.ring.held facts call.subject, unopened_most S.ring.held facts (secrets_in call).token)
 
-token_is : (asked : Command) (text : Text) (scope : ScopeIn) → asked ≡ command.Login (record { proof = proof.Token text; scope = scope }) → (secrets_in asked).token ≡ Some text
-token_is asked text scope is = ap (λ (c : Command). (secrets_in c).token) is
+token_is : (drawn : Drawn) (asked : Command) (text : Text) (scope : ScopeIn) → asked ≡ command.Login (record { proof = proof.Token text; scope = scope }) →
+    (secrets_of drawn asked).token ≡ Some text
+token_is drawn asked text scope is = ap (λ (c : Command). (secrets_of drawn c).token) is
 
 module _ (S : State) (call : Call) (old new : FactsState) (needs : Needs) (kept : AreKept old new) (done : IsDone needs call new) where
   all_kept : unopened_all S call new ≤ unopened_all S call old
   unfolding unopened_all
   all_kept =
-      omega (arith, unopened_kept S.ring.held old new call.caller kept, unopened_kept S.ring.held old new call.subject kept, unopened_kept S.ring.held old new (secrets_in call.command).token kept)
+      omega (arith, unopened_kept S.ring.held old new call.caller kept, unopened_kept S.ring.held old new call.subject kept, unopened_kept S.ring.held old new (secrets_in call).token kept)
 
   all_less : (keys : List HeldKey) (text : Text) → needs.keys ≡ keys → 1 ≤ length keys → Each (Among S.ring.held) keys → IsTokenOf call text →
       Each (λ key. (told old).answer key text ≡ None) keys → unopened_all S call new < unopened_all S call old
   unfolding unopened_all
   all_less keys text names some among (inl is) unknown =
-      omega (arith, opened_less S.ring.held keys needs old new call.caller text is kept names some among unknown done.caller, unopened_kept S.ring.held old new call.subject kept, unopened_kept S.ring.held old new (secrets_in call.command).token kept)
+      omega (arith, opened_less S.ring.held keys needs old new call.caller text is kept names some among unknown done.caller, unopened_kept S.ring.held old new call.subject kept, unopened_kept S.ring.held old new (secrets_in call).token kept)
   all_less keys text names some among (inr (inl is)) unknown =
-      omega (arith, unopened_kept S.ring.held old new call.caller kept, opened_less S.ring.held keys needs old new call.subject text is kept names some among unknown done.subject, unopened_kept S.ring.held old new (secrets_in call.command).token kept)
+      omega (arith, unopened_kept S.ring.held old new call.caller kept, opened_less S.ring.held keys needs old new call.subject text is kept names some among unknown done.subject, unopened_kept S.ring.held old new (secrets_in call).token kept)
   all_less keys text names some among (inr (inr (scope, is))) unknown =
-      let token = token_is call.command text scope is in
-      omega (arith, unopened_kept S.ring.held old new call.caller kept, unopened_kept S.ring.held old new call.subject kept, opened_less S.ring.held keys needs old new (secrets_in call.command).token text token kept names some among unknown done.token)
+      let token = token_is call.draw call.command text scope is in
+      omega (arith, unopened_kept S.ring.held old new call.caller kept, unopened_kept S.ring.held old new call.subject kept, opened_less S.ring.held keys needs old new (secrets_in call).token text token kept names some among unknown done.token)
 
 -- passwords
 
-shown_is : (asked : Command) (password : Text) → IsTestedOf asked password → (secrets_in asked).shown ≡ Some password
-shown_is asked password (inl (user, scope, is)) = ap (λ (c : Command). (secrets_in c).shown) is
-shown_is asked password (inr (id, new, is)) = ap (λ (c : Command). (secrets_in c).shown) is
+shown_is : (drawn : Drawn) (asked : Command) (password : Text) → IsTestedOf asked password → (secrets_of drawn asked).shown ≡ Some password
+shown_is drawn asked password (inl (body, is, shows)) = ap (λ (c : Command). (secrets_of drawn c).shown) is ∙ shows
+shown_is drawn asked password (inr (id, new, is)) = ap (λ (c : Command). (secrets_of drawn c).shown) is
 
-set_is : (asked : Command) (password : Text) → IsNewOf asked password → (secrets_in asked).set ≡ Some password
-set_is asked password (inl (id, original, is)) = ap (λ (c : Command). (secrets_in c).set) is
-set_is asked password (inr (inl (given, name, domain, enabled, is))) = ap (λ (c : Command). (secrets_in c).set) is
-set_is asked password (inr (inr (id, given, name, domain, enabled, is))) = ap (λ (c : Command). (secrets_in c).set) is
+set_is : (call : Call) (password : Text) → IsNewOf call password → (secrets_in call).set ≡ Some password
+set_is call password (inl (id, original, is)) = ap (λ (c : Command). (secrets_of call.draw c).set) is
+set_is call password (inr (inl (given, name, domain, enabled, factors, is))) = ap (λ (c : Command). (secrets_of call.draw c).set) is
+set_is call password (inr (inr (inl (id, given, name, domain, enabled, factors, is)))) = ap (λ (c : Command). (secrets_of call.draw c).set) is
+set_is call password (inr (inr (inr (user, body, is, same)))) = ap (λ (c : Command). (secrets_of call.draw c).set) is ∙ ap Some same
 
 above_none : (n : ℕ) → (n ≡ 0 → ⊥) → 1 ≤ n
 above_none zero never = absurd (never refl)
@@ -143,7 +146,7 @@ pub record Left (S : State) (call : Call) (facts : FactsState) (found : ℕ) : T
   pub fresh : ℕ
   pub tested_known : tested ≡ 0 → (password salted : List ℕ) (rounds : ℕ) → IsTestedOf call.command password → IsKept S.rows call.command salted rounds →
       has_derived password salted rounds facts.derived ≡ true
-  pub fresh_known : fresh ≡ 0 → (password : List ℕ) → IsNewOf call.command password → has_derived password (salt call.draw) S.settings.rounds facts.derived ≡ true
+  pub fresh_known : fresh ≡ 0 → (password : List ℕ) → IsNewOf call password → has_derived password (salt call.draw) S.settings.rounds facts.derived ≡ true
   pub most : found + unopened_all S call facts + tested + fresh < DECISIONS
 
 left_first : (S : State) (call : Call) (facts : FactsState) → length S.ring.held ≤ KEYS → Left S call facts 0
@@ -160,7 +163,7 @@ module _ (S : State) (call : Call) (old new : FactsState) (needs : Needs) (found
       has_derived password salted rounds new.derived ≡ true
   tested_still gone password salted rounds of keeps = kept.derived password salted rounds (left.tested_known gone password salted rounds of keeps)
 
-  fresh_still : left.fresh ≡ 0 → (password : List ℕ) → IsNewOf call.command password → has_derived password (salt call.draw) S.settings.rounds new.derived ≡ true
+  fresh_still : left.fresh ≡ 0 → (password : List ℕ) → IsNewOf call password → has_derived password (salt call.draw) S.settings.rounds new.derived ≡ true
   fresh_still gone password of = kept.derived password (salt call.draw) S.settings.rounds (left.fresh_known gone password of)
 
   -- of the password that is tested no other salt is kept
@@ -169,15 +172,15 @@ module _ (S : State) (call : Call) (old new : FactsState) (needs : Needs) (found
       has_derived password salted' rounds' new.derived ≡ true
   tested_now salted rounds asks keeps password salted' rounds' of keeps' =
       let same = one_kept S.rows call.command salted salted' rounds rounds' keeps keeps' in
-      let known : has_derived password salted rounds new.derived ≡ true = if_some (secrets_in call.command).shown password (IsDerived (salted, rounds) new) (shown_is call.command password of)
-      (if_some needs.stored (salted, rounds) (λ by. IfSome (secrets_in call.command).shown (IsDerived by new)) asks done.stored) in
+      let known : has_derived password salted rounds new.derived ≡ true = if_some (secrets_in call).shown password (IsDerived (salted, rounds) new) (shown_is call.draw call.command password of)
+      (if_some needs.stored (salted, rounds) (λ by. IfSome (secrets_in call).shown (IsDerived by new)) asks done.stored) in
       subst (λ (by : List ℕ × ℕ). has_derived password by.0 by.1 new.derived ≡ true) (λ i. (same.0 i, same.1 i)) known
 
   fresh_now : (salted : List ℕ) (rounds : ℕ) → needs.fresh ≡ Some (salted, rounds) → salted ≡ salt call.draw → rounds ≡ S.settings.rounds →
-      (password : List ℕ) → IsNewOf call.command password → has_derived password (salt call.draw) S.settings.rounds new.derived ≡ true
+      (password : List ℕ) → IsNewOf call password → has_derived password (salt call.draw) S.settings.rounds new.derived ≡ true
   fresh_now salted rounds asks salt_is rounds_are password of =
-      let known : has_derived password salted rounds new.derived ≡ true = if_some (secrets_in call.command).set password (IsDerived (salted, rounds) new) (set_is call.command password of)
-      (if_some needs.fresh (salted, rounds) (λ by. IfSome (secrets_in call.command).set (IsDerived by new)) asks done.fresh) in
+      let known : has_derived password salted rounds new.derived ≡ true = if_some (secrets_in call).set password (IsDerived (salted, rounds) new) (set_is call password of)
+      (if_some needs.fresh (salted, rounds) (λ by. IfSome (secrets_in call).set (IsDerived by new)) asks done.fresh) in
       subst (λ (by : List ℕ × ℕ). has_derived password by.0 by.1 new.derived ≡ true) (λ i. (salt_is i, rounds_are i)) known
 
   left_by : (lack : Lack) → Names needs lack → IsLack S call lack → IsUnknown (told old) call lack → Left S call new (found + 1)

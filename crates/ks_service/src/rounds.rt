@@ -25,7 +25,7 @@ use std::sync::Wait;
 pub(crate) const ROUNDS: u32 = 4;
 
 /// How many decisions a call takes at most while nothing changes: each but the last lacks a fact, of what a held key makes of
-/// one of three texts of tokens, or of what is derived of one of two passwords, and the work finds it.
+/// one of three texts of tokens, or of what is derived of one of two passwords or secrets, and the work finds it.
 pub(crate) const DECISIONS: usize = 3 * KEYS + 3;
 
 /// Decides in a hold, and tells how many changes came before.

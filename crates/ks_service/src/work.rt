@@ -1,21 +1,23 @@
 //! The work that decisions ask for.
-ghost use Rattle.std.specs.Prelude.{◌≡◌, true, IfSome, OnOk, option_copied};
+ghost use Rattle.std.specs.Prelude.{◌≡◌, true, IfOk, IfSome, OnOk, option_copied};
 ghost use Rattle.ks_auth.specs.Facts.{has_opened};
+ghost use Rattle.ks_fernet.specs.Opening.{open_of};
 ghost use Rattle.ks_machine.specs.Ranges.{AreRounds};
-ghost use Rattle.ks_service.specs.Work.{AreDerivable, AreKept, IsDerived, IsDone, IsOpened};
+ghost use Rattle.ks_service.specs.Work.{AreDerivable, AreKept, IsDerived, IsDone, IsOpened, is_open};
 
-use crate::secrets::Secrets;
+use crate::secrets::{Secrets, new_secret};
 use ks_auth::Facts;
 use ks_base::{Memory, Text};
-use ks_fernet::open;
+use ks_fernet::{OpenAnswer, open};
 use ks_machine::{Call, Derived};
 use ks_outside::{Gate, Place};
 use ks_ring::HeldKey;
 use ks_state::Needs;
 use std::alloc::Global;
 
-/// Opens each token text of the call with each key that is named, and derives its passwords with the salts and rounds
-/// that are named for them. What is known already is not done again.
+/// Opens each token text of the call with the keys that are named, as far as the first that opens it, and derives its
+/// passwords and secrets with the salts and rounds that are named for them. What is known already is not done again.
+#[tactic(auto, using(crate::proofs::FactLemmas::opened_later))]
 pub(crate) fn work<G: Gate>(
     alloc: Global,
     needs: &Needs,
@@ -28,15 +30,16 @@ pub(crate) fn work<G: Gate>(
     ensures kept { OnOk result (AreKept facts.old facts.new) }
 {
     let keys = needs.keys.as_slice();
-    let secrets = Secrets::of(&call.command);
+    let secrets = Secrets::of(call);
     open_with(alloc, keys, call.caller.as_ref(), facts, gate)?;
     open_with(alloc, keys, call.subject.as_ref(), facts, gate)?;
     open_with(alloc, keys, secrets.token, facts, gate)?;
     derive(needs.stored.as_ref(), secrets.shown, facts, gate)?;
-    derive(needs.fresh.as_ref(), secrets.set, facts, gate)
+    let set = new_secret(alloc, call)?;
+    derive(needs.fresh.as_ref(), set.as_ref(), facts, gate)
 }
 
-/// Opens the text, if there is one, with each of the keys.
+/// Opens the text, if there is one, with the keys in their order, as far as the first that opens it.
 fn open_with<G: Gate>(
     alloc: Global,
     keys: &[HeldKey],
@@ -51,27 +54,39 @@ fn open_with<G: Gate>(
         return Ok(());
     };
     for held in keys {
-        open_by(alloc, held, text, facts, gate)?;
+        if open_by(alloc, held, text, facts, gate)? {
+            return Ok(());
+        }
     }
     Ok(())
 }
 
-/// Opens the text with the key, unless that is known.
+/// Opens the text with the key, unless what the key makes of it is known, and tells whether the key opens it.
 fn open_by<G: Gate>(
     alloc: Global,
     held: &HeldKey,
     text: &Text,
     facts: &mut Facts,
     gate: &G,
-) -> Result<(), Memory>
-    ensures opened { OnOk result (has_opened held.now text.now facts.new.opened ≡ true) }
+) -> Result<bool, Memory>
+    ensures known { OnOk result (has_opened held.now text.now facts.new.opened ≡ true) }
+    ensures opens { IfOk result (λ opens. opens ≡ is_open (open_of held.now.key text.now)) }
     ensures kept { OnOk result (AreKept facts.old facts.new) }
 {
-    if facts.opened(held, text).is_some() {
-        return Ok(());
+    if let Some(answer) = facts.opened(held, text) {
+        return Ok(is_open(answer));
     }
     gate.at(Place::Opening);
-    facts.add_opened(open(alloc, held.number, &held.key, text)?)
+    let fact = open(alloc, held.number, &held.key, text)?;
+    let opens = is_open(fact.answer());
+    facts.add_opened(fact)?;
+    Ok(opens)
+}
+
+fn is_open(answer: &OpenAnswer) -> bool
+    ensures { result ≡ is_open answer.now }
+{
+    matches!(answer, OpenAnswer::Yes { .. })
 }
 
 /// Derives the password, if there is one and it is asked for, unless that is known.

@@ -1,14 +1,16 @@
-use Rattle.std.proofs.Common.{sym, ◌∙◌}
-use Rattle.std.proofs.lemmas.Result.{on_ok_weaker}
-use Rattle.ks_service.proofs.FactLemmas.{found_opened, opened_now}
+use Rattle.std.proofs.Common.{is_some, ap, ◌∙◌}
+use Rattle.ks_service.specs.Work.{is_open}
+use Rattle.ks_service.proofs.FactLemmas.{found_answer, found_opened, opened_now}
 use Rattle.ks_service.proofs.work.open_by.Goals as goal
 
-pub returns-then-is_some-clause-opened : goal.returns-then-is_some-clause-opened
-returns-then-is_some-clause-opened g c =
-    found_opened c.args.facts.now c.args.held.now c.args.text.now c.opened.result (sym c.is_some.ensures ∙ c.if-is_some.true) c.opened.ensures
+pub returns-in-Some-clause-known : goal.returns-in-Some-clause-known
+returns-in-Some-clause-known g c =
+    found_opened c.args.facts.now c.args.held.now c.args.text.now c.opened.result (ap is_some c.in-Some.is) c.opened.ensures
 
-pub returns-clause-opened : goal.returns-clause-opened
-returns-clause-opened g c =
-    on_ok_weaker c.add_opened.result
-    (opened_now c.args.facts.now c.add_opened.new.self c.args.held.now c.args.text.now c.in_ok-open.field-0 c.in_ok-open.ensures)
-    c.add_opened.ensures.ok
+pub returns-in-Some-clause-opens : goal.returns-in-Some-clause-opens
+returns-in-Some-clause-opens g c =
+    c.is_open.ensures ∙ ap is_open (found_answer c.args.facts.now c.args.held.now c.args.text.now c.opened.result c.in-Some.answer c.in-Some.is c.opened.ensures)
+
+pub returns-clause-known : goal.returns-clause-known
+returns-clause-known g c =
+    opened_now c.args.facts.now c.add_opened.new.self c.args.held.now c.args.text.now c.in_ok-fact.fact c.in_ok-fact.ensures c.in_ok-add_opened.ensures.ok
