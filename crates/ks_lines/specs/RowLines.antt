@@ -48,6 +48,8 @@ ids_meeting written kind.Event id = None
 ids_meeting written kind.Region id = id_meeting (λ row. row.id) id written.regions
 ids_meeting written kind.Service id = id_meeting (λ row. row.id) id written.services
 ids_meeting written kind.Endpoint id = id_meeting (λ row. row.id) id written.endpoints
+ids_meeting written kind.AppCred id = None
+ids_meeting written kind.Secret id = None
 
 -- two rows with one name, the first of which has this id
 
@@ -84,6 +86,8 @@ name_line written kind.Event id = name_unplaced kind.Event id
 name_line written kind.Region id = name_unplaced kind.Region id
 name_line written kind.Service id = name_unplaced kind.Service id
 name_line written kind.Endpoint id = name_unplaced kind.Endpoint id
+name_line written kind.AppCred id = name_unplaced kind.AppCred id
+name_line written kind.Secret id = name_unplaced kind.Secret id
 
 -- rows that name what does not stand
 
@@ -172,6 +176,8 @@ absent_line written kind.Region id =
     orphan_or (orphan_region written id) (codes "no region before it has the id ") id (absent_at (region_spot written id) kind.Region id)
 absent_line written kind.Service id = absent_at (service_spot written id) kind.Service id
 absent_line written kind.Endpoint id = absent_at None kind.Endpoint id
+absent_line written kind.AppCred id = absent_at None kind.AppCred id
+absent_line written kind.Secret id = absent_at None kind.Secret id
 
 -- the tree, roles, room and keys
 

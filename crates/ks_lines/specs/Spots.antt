@@ -23,6 +23,8 @@ list_name kind.Event = codes "events"
 list_name kind.Region = codes "regions"
 list_name kind.Service = codes "services"
 list_name kind.Endpoint = codes "endpoints"
+list_name kind.AppCred = codes "application_credentials"
+list_name kind.Secret = codes "credentials"
 
 unfoldable pub row_name : Kind → List ℕ
 row_name kind.Domain = codes "domain"
@@ -38,6 +40,8 @@ row_name kind.Event = codes "event"
 row_name kind.Region = codes "region"
 row_name kind.Service = codes "service"
 row_name kind.Endpoint = codes "endpoint"
+row_name kind.AppCred = codes "application credential"
+row_name kind.Secret = codes "credential"
 
 unfoldable pub field_name : Field → List ℕ
 field_name field.Id = codes "id"

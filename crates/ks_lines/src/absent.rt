@@ -351,6 +351,8 @@ pub(crate) fn absent_line(
         | Kind::Member
         | Kind::Trust
         | Kind::Event
-        | Kind::Endpoint => absent_at(alloc, None, kind, id),
+        | Kind::Endpoint
+        | Kind::AppCred
+        | Kind::Secret => absent_at(alloc, None, kind, id),
     }
 }

@@ -10,8 +10,8 @@ use crate::named::{Named, first_place, first_row, id_meeting, name_meeting};
 use crate::spot::{Field, id_quoted, list_name, located, quoted, row_path, spot_at};
 use itoa::Buffer;
 use ks_base::limits::{
-    DOMAINS, ENDPOINTS, EVENTS, GRANTS, GROUPS, IMPLICATIONS, KEYS, LEVELS, MEMBERS, PROJECTS,
-    REGIONS, ROLES, SERVICES, TRUSTS, USERS,
+    APP_CREDS, DOMAINS, ENDPOINTS, EVENTS, GRANTS, GROUPS, IMPLICATIONS, KEYS, LEVELS, MEMBERS,
+    PROJECTS, REGIONS, ROLES, SECRETS, SERVICES, TRUSTS, USERS,
 };
 use ks_base::{Id, ImplyRow, Kind, LoadFault, Memory, ProjectRow};
 use ks_machine::OpenFault;
@@ -31,7 +31,13 @@ fn ids_meeting(written: &Written, kind: Kind, id: &Id) -> Option<(usize, usize)>
         Kind::Region => id_meeting(written.regions.as_slice(), id),
         Kind::Service => id_meeting(written.services.as_slice(), id),
         Kind::Endpoint => id_meeting(written.endpoints.as_slice(), id),
-        Kind::Implication | Kind::Grant | Kind::Member | Kind::Trust | Kind::Event => None,
+        Kind::Implication
+        | Kind::Grant
+        | Kind::Member
+        | Kind::Trust
+        | Kind::Event
+        | Kind::AppCred
+        | Kind::Secret => None,
     }
 }
 
@@ -147,7 +153,9 @@ fn name_line(alloc: Global, written: &Written, kind: Kind, id: &Id) -> Result<St
         | Kind::Event
         | Kind::Region
         | Kind::Service
-        | Kind::Endpoint => name_unplaced(alloc, kind, id),
+        | Kind::Endpoint
+        | Kind::AppCred
+        | Kind::Secret => name_unplaced(alloc, kind, id),
     }
 }
 
@@ -239,6 +247,8 @@ fn limit(kind: Kind) -> usize
         Kind::Region => REGIONS,
         Kind::Service => SERVICES,
         Kind::Endpoint => ENDPOINTS,
+        Kind::AppCred => APP_CREDS,
+        Kind::Secret => SECRETS,
     }
 }
 

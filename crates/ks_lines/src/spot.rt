@@ -89,6 +89,8 @@ pub(crate) fn list_name(kind: Kind) -> &'static str
         Kind::Region => "regions",
         Kind::Service => "services",
         Kind::Endpoint => "endpoints",
+        Kind::AppCred => "application_credentials",
+        Kind::Secret => "credentials",
     }
 }
 
@@ -111,6 +113,8 @@ pub(crate) fn row_name(kind: Kind) -> &'static str
         Kind::Region => "region",
         Kind::Service => "service",
         Kind::Endpoint => "endpoint",
+        Kind::AppCred => "application credential",
+        Kind::Secret => "credential",
     }
 }
 

@@ -6,7 +6,7 @@ use crate::number::RequestNumber;
 use ks_auth::is_system;
 use ks_base::{Memory, Text};
 use ks_http::Request;
-use ks_machine::{Call, Command, Named, Proof, Reply, UserNamed};
+use ks_machine::{Call, Command, CredNamed, Named, Proof, Reply, UserNamed};
 use ks_outside::{Answered, Desk, Scope, Who};
 use ks_payload::Payload;
 use std::alloc::Global;
@@ -105,13 +105,25 @@ impl Account {
 /// Of whom a command speaks: the user that it names to log in, or the holder of the caller's token.
 fn who_of(alloc: Global, command: &Command, caller: Option<&Payload>) -> Who {
     if let Command::Login(body) = command {
-        if let Proof::Password(user, _) = &body.proof {
+        if let Some(user) = user_named(&body.proof) {
             return who_logs_in(alloc, user).unwrap_or(Who::Nobody);
         }
     }
     match caller {
         Some(payload) => Who::Caller(payload.user, scope_of(payload)),
         None => Who::Nobody,
+    }
+}
+
+/// The user that a login names, if it names one.
+fn user_named(proof: &Proof) -> Option<&UserNamed> {
+    match proof {
+        Proof::Password(user, _) => Some(user),
+        Proof::Totp(user, _) => Some(user),
+        Proof::Both(user, _, _, _) => Some(user),
+        Proof::AppCred(CredNamed::Name(_, user), _) => Some(user),
+        Proof::AppCred(CredNamed::Id(_), _) => None,
+        Proof::Token(_) => None,
     }
 }
 

@@ -60,6 +60,7 @@ fn why_name(why: Why) -> &'static str {
         Why::User => "User",
         Why::Scope => "Scope",
         Why::Trust => "Trust",
+        Why::Credential => "Credential",
         Why::Roles => "Roles",
     }
 }

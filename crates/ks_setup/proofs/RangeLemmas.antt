@@ -19,7 +19,7 @@ use Rattle.ks_shape.specs.declared.misfit.Misfit.TheVariants as misfit
 use Rattle.ks_shape.specs.Types.{any_text, description_text, endpoint_url, id_text, interface_text, list_of, name_text, password_text, service_text, truth, whole}
 use Rattle.ks_shape.proofs.CatalogLemmas.{service_text_in, url_in}
 use Rattle.ks_shape.proofs.PropertyLemmas.{If, needed_in, optional_in, skip, step}
-use Rattle.ks_shape.proofs.RangeLemmas.{name_in, description_in, whole_in}
+use Rattle.ks_shape.proofs.RangeLemmas.{described, name_in, whole_in}
 use Rattle.ks_written.specs.declared.written.Written.{Written}
 use Rattle.ks_written.specs.declared.written.WrittenPassword.{WrittenPassword}
 use Rattle.ks_written.specs.declared.written.WrittenPassword.TheVariants as password
@@ -80,7 +80,7 @@ unfolding domain_in
 domain_is entry =
     skip IsDomainInRange (needed id_text (names (codes "id")) entry) _ (λ id.
     step IsDomainInRange IsName (needed name_text (names (codes "name")) entry) _ (needed_in IsName name_text name_in _ entry) (λ name is_name.
-    step IsDomainInRange (If IsDescription) (optional description_text (names (codes "description")) entry) _ (optional_in IsDescription description_text description_in _ entry) (λ description is.
+    step IsDomainInRange (If IsDescription) (optional description_text (names (codes "description")) entry) _ (described _ entry) (λ description is.
     skip IsDomainInRange (optional truth (names (codes "enabled")) entry) _ (λ enabled.
     (is_name, or_else IsDescription description [] is (omega arith))))))
 
@@ -91,7 +91,7 @@ project_is entry =
     skip IsProjectInRange (needed id_text (names (codes "domain_id")) entry) _ (λ domain.
     skip IsProjectInRange (optional id_text (names (codes "parent_id")) entry) _ (λ parent.
     step IsProjectInRange IsName (needed name_text (names (codes "name")) entry) _ (needed_in IsName name_text name_in _ entry) (λ name is_name.
-    step IsProjectInRange (If IsDescription) (optional description_text (names (codes "description")) entry) _ (optional_in IsDescription description_text description_in _ entry) (λ description is.
+    step IsProjectInRange (If IsDescription) (optional description_text (names (codes "description")) entry) _ (described _ entry) (λ description is.
     skip IsProjectInRange (optional truth (names (codes "enabled")) entry) _ (λ enabled.
     (is_name, or_else IsDescription description [] is (omega arith))))))))
 
@@ -175,7 +175,7 @@ group_is entry =
     skip IsGroupInRange (needed id_text (names (codes "id")) entry) _ (λ id.
     skip IsGroupInRange (needed id_text (names (codes "domain_id")) entry) _ (λ domain.
     step IsGroupInRange IsName (needed name_text (names (codes "name")) entry) _ (needed_in IsName name_text name_in _ entry) (λ name is_name.
-    step IsGroupInRange (If IsDescription) (optional description_text (names (codes "description")) entry) _ (optional_in IsDescription description_text description_in _ entry) (λ description is.
+    step IsGroupInRange (If IsDescription) (optional description_text (names (codes "description")) entry) _ (described _ entry) (λ description is.
     (is_name, or_else IsDescription description [] is (omega arith))))))
 
 role_is : (entry : Place) → IfOk (role_in entry) IsRoleInRange
@@ -183,7 +183,7 @@ unfolding role_in
 role_is entry =
     skip IsRoleInRange (needed id_text (names (codes "id")) entry) _ (λ id.
     step IsRoleInRange IsName (needed name_text (names (codes "name")) entry) _ (needed_in IsName name_text name_in _ entry) (λ name is_name.
-    step IsRoleInRange (If IsDescription) (optional description_text (names (codes "description")) entry) _ (optional_in IsDescription description_text description_in _ entry) (λ description is.
+    step IsRoleInRange (If IsDescription) (optional description_text (names (codes "description")) entry) _ (described _ entry) (λ description is.
     (is_name, or_else IsDescription description [] is (omega arith)))))
 
 region_is : (entry : Place) → IfOk (region_in entry) IsRegionInRange
@@ -191,7 +191,7 @@ unfolding region_in
 region_is entry =
     skip IsRegionInRange (needed id_text (names (codes "id")) entry) _ (λ id.
     skip IsRegionInRange (optional id_text (names (codes "parent_region_id")) entry) _ (λ parent.
-    step IsRegionInRange (If IsDescription) (optional description_text (names (codes "description")) entry) _ (optional_in IsDescription description_text description_in _ entry) (λ description is.
+    step IsRegionInRange (If IsDescription) (optional description_text (names (codes "description")) entry) _ (described _ entry) (λ description is.
     or_else IsDescription description [] is (omega arith))))
 
 service_is : (entry : Place) → IfOk (service_in entry) IsServiceInRange
@@ -200,7 +200,7 @@ service_is entry =
     skip IsServiceInRange (needed id_text (names (codes "id")) entry) _ (λ id.
     step IsServiceInRange IsServiceText (needed service_text (names (codes "type")) entry) _ (needed_in IsServiceText service_text service_text_in _ entry) (λ kind is_kind.
     step IsServiceInRange (If IsServiceText) (optional service_text (names (codes "name")) entry) _ (optional_in IsServiceText service_text service_text_in _ entry) (λ name is_name.
-    step IsServiceInRange (If IsDescription) (optional description_text (names (codes "description")) entry) _ (optional_in IsDescription description_text description_in _ entry) (λ description is.
+    step IsServiceInRange (If IsDescription) (optional description_text (names (codes "description")) entry) _ (described _ entry) (λ description is.
     skip IsServiceInRange (optional truth (names (codes "enabled")) entry) _ (λ enabled.
     (is_kind, or_else IsServiceText name [] is_name (omega arith), or_else IsDescription description [] is (omega arith)))))))
 
