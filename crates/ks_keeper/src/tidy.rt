@@ -13,35 +13,18 @@ pub(crate) enum Untidy {
     OtherNumbers,
 }
 
-/// How many entries there are, and the first and the last number, 0 where there is none.
-struct Numbers {
-    count: i64,
-    first: i64,
-    last: i64,
-}
-
-fn read_numbers<S: Alter>(conn: &mut Connection<S>) -> Result<Numbers, Error> {
-    let row = conn.query_row(
-        "SELECT count(*), ifnull(min(id), 0), ifnull(max(id), 0) FROM entry",
-        &[],
-    )?;
-    Ok(Numbers {
-        count: row.get(0)?,
-        first: row.get(1)?,
-        last: row.get(2)?,
-    })
-}
-
 /// Whether a statement shows a row.
 fn shows<S: Alter>(conn: &mut Connection<S>, sql: &str, number: i64) -> Result<bool, Error> {
     Ok(!conn.query_all(sql, params![number])?.is_empty())
 }
 
-/// The first number without an entry, below the count of entries, if there is one.
-fn first_gap<S: Alter>(conn: &mut Connection<S>, count: i64) -> Result<Option<u64>, Error> {
-    for number in 0..count {
+/// The first number from 0 on that no entry has, where one behind it has an entry. Each number is looked up by itself, since
+/// a statement that shows many rows holds them all.
+fn first_gap<S: Alter>(conn: &mut Connection<S>) -> Result<Option<u64>, Error> {
+    for number in 0..i64::MAX {
         if !shows(conn, "SELECT 0 FROM entry WHERE id = ?1", number)? {
-            return Ok(Some(number.unsigned_abs()));
+            let has_more = shows(conn, "SELECT 0 FROM entry WHERE id > ?1 LIMIT 1", number)?;
+            return Ok(has_more.then_some(number.unsigned_abs()));
         }
     }
     Ok(None)
@@ -49,16 +32,12 @@ fn first_gap<S: Alter>(conn: &mut Connection<S>, count: i64) -> Result<Option<u6
 
 /// Why what the tables hold is not tidy, where it is not.
 pub(crate) fn untidiness<S: Alter>(conn: &mut Connection<S>) -> Result<Option<Untidy>, Error> {
-    let Numbers { count, first, last } = read_numbers(conn)?;
-    if first < 0 {
+    if shows(conn, "SELECT 0 FROM entry WHERE id < ?1 LIMIT 1", 0)? {
         return Ok(Some(Untidy::OtherNumbers));
     }
-    if count > 0 && !shows(conn, "SELECT 0 FROM header WHERE id = ?1", 0)? {
+    let has_entries = shows(conn, "SELECT 0 FROM entry WHERE id >= ?1 LIMIT 1", 0)?;
+    if has_entries && !shows(conn, "SELECT 0 FROM header WHERE id = ?1", 0)? {
         return Ok(Some(Untidy::NoHeader));
     }
-    // So many numbers from 0 on are all there are only where the last is one below their count.
-    if count == 0 || last.checked_add(1) == Some(count) {
-        return Ok(None);
-    }
-    Ok(first_gap(conn, count)?.map(Untidy::Gap))
+    Ok(first_gap(conn)?.map(Untidy::Gap))
 }
