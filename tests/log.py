@@ -44,9 +44,14 @@ PATIENCE, AT_ONCE = 10, 2
 STALLED = 1600
 
 
+def shown(method, part):
+    """The body of a login that shows this by a method."""
+    return {"auth": {"identity": {"methods": [method], method: part}}}
+
+
 def by_id(user, password):
     """The body of a login by the user's id."""
-    return {"auth": {"identity": {"methods": ["password"], "password": {"user": {"id": user, "password": password}}}}}
+    return shown("password", {"user": {"id": user, "password": password}})
 
 
 def lines_of(path, count):
@@ -97,6 +102,12 @@ def speak(connection):
             ("POST", TOKENS, login("ann", "wrong-word"), None, None, ("401", "ann@default", "-", "Credentials")),
             ("POST", TOKENS, login(ODD, "wrong-word"), None, None, ("401", ODD_FIELD, "-", "Credentials")),
             ("POST", TOKENS, by_id("nobody", "wrong-word"), None, None, ("401", "nobody", "-", "Credentials")),
+            ("POST", TOKENS, shown("totp", {"user": {"id": "bob", "passcode": "000000"}}), None, None,
+             ("401", "bob", "-", "Credentials")),
+            ("POST", TOKENS, shown("application_credential", {"name": "none", "user": {"id": "bob"}, "secret": "wrong-word"}), None, None,
+             ("401", "bob", "-", "Credentials")),
+            ("POST", TOKENS, shown("application_credential", {"id": "none", "secret": "wrong-word"}), None, None,
+             ("401", "-", "-", "Credentials")),
             ("POST", TOKENS, {"auth": 1}, None, None, ("400", "-", "-", "Shape(Kind)")),
             ("GET", TOKENS, None, token, token, ("200", ANN, f"project:{DEMO}", "-")),
             ("HEAD", TOKENS, None, token, bare, ("200", ANN, f"project:{DEMO}", "-")),

@@ -6,6 +6,7 @@ import random
 
 from machine_examples import K, STAGED, START, login_body, salts, trust_body
 from second_reading.ciphers import time_text
+from second_reading.codes import base32_bytes, base32_text, codes_at
 from second_reading.machine import Machine
 from second_reading.words import CATALOG, KINDS
 
@@ -27,6 +28,8 @@ POLICY = {
     "identity:update_endpoint": "rule:admin_required and True:%(target.endpoint.enabled)s",
     "identity:list_services": "role:reader or compute:%(type)s or rule:admin_required",
     "identity:delete_region": "rule:admin_required and not 'x0':%(target.region.id)s",
+    "identity:create_application_credential": "rule:owner or rule:admin_required and True:%(target.user.enabled)s",
+    "identity:list_credentials": "role:reader or rule:admin_required",
     "identity:get_trust": "trust_id:%(target.trust.trustor_user_id)s or rule:trust_party or rule:admin_required",
 }
 
@@ -67,6 +70,9 @@ def random_opening(rng, from_folder):
     return opening
 
 
+OPTIONS = ({}, {"multi_factor_auth_rules": [["password", "totp"]]}, {"multi_factor_auth_rules": [["totp"], ["password"]]},
+           {"multi_factor_auth_rules": [["totp"]], "multi_factor_auth_enabled": False}, {"multi_factor_auth_rules": [["token"]]},
+           {"lock_password": True}, None, {"multi_factor_auth_rules": [["password", "password"]], "multi_factor_auth_enabled": None})
 URLS = ("http://c", "http://c/$(project_id)s", "%(tenant_id)s/%(project_id)s", "http://c/$(user_id)s?100%", "$$(tenant_id)s")
 
 
@@ -90,7 +96,8 @@ class Caller:
     def __init__(self, rng, opening, rotations):
         self.rng, self.rotations = rng, rotations
         self.ids = {kind: [row["id"] for row in opening[kind + "s"]] for kind in KINDS + CATALOG}
-        self.ids["trust"] = []
+        self.ids.update(trust=[], appcred=[], secret=[])
+        self.credentials, self.secrets = {}, {}
         self.passwords = {row["id"]: row["password"] for row in opening["users"]}
         self.names = {kind: [row["name"] for row in opening[kind + "s"]] for kind in KINDS}
         self.tokens, self.admins, self.of_trusts, self.users = [], [], [], {}
@@ -103,6 +110,11 @@ class Caller:
         """An id of a kind, or now and then one that does not stand."""
         return self.rng.choice(self.ids[kind]) if self.ids[kind] and self.rng.random() < 0.95 else "none"
 
+    def late(self, kind):
+        """An id of a kind that was made of late, mostly."""
+        ids = self.ids[kind][-3:] if self.rng.random() < 0.8 else []
+        return self.rng.choice(ids) if ids else self.pick(kind)
+
     def token(self):
         """A token, mostly one that may do something."""
         groups = [self.admins] * 6 + [self.tokens] * 3 + [self.of_trusts] * 2
@@ -114,7 +126,8 @@ class Caller:
         if not self.admins or self.rng.random() < 0.1:
             return ("POST", "/v3/auth/tokens", None, None, login_body("root", "root", scope={"domain": {"id": "default"}}))
         kinds = ((self.login, 8), (self.about_token, 8), (self.about_row, 10), (self.about_member, 4), (self.about_role, 3),
-                 (self.about_grant, 8), (self.listing, 6), (self.about_trust, 8), (self.about_catalog, 8), (self.other, 2))
+                 (self.about_grant, 8), (self.listing, 6), (self.about_trust, 8), (self.about_catalog, 8),
+                 (self.about_credential, 8), (self.about_secret, 8), (self.other, 2))
         make = self.rng.choices([kind for kind, _ in kinds], [weight for _, weight in kinds])[0]
         self.auth = self.token() if self.rng.random() < 0.98 else None
         method, target, subject, body = make(now)
@@ -192,6 +205,8 @@ class Caller:
             fields = {name: value for name, value in fields.items() if name != "domain_id" or rng.random() < 0.3}
         if kind == "user" and rng.random() < 0.6:
             fields["password"] = f"w{self.made}"
+        if kind == "user" and rng.random() < 0.2:
+            fields["options"] = rng.choice(OPTIONS)
         if kind != "user" and rng.random() < 0.3:
             fields["description"] = 'A "text" with \u00e9, \u2028 and \t.'
         return fields
@@ -244,6 +259,61 @@ class Caller:
         fields = self.catalog_body(kind, method == "POST") if method in ("POST", "PATCH") else None
         body = self.damaged({kind: fields}) if fields is not None else None
         return method, f"/v3/{kind}s" + ("" if method == "POST" else "/" + self.pick(kind)), None, body
+
+    def about_credential(self, now):
+        """An application credential, made, told, listed, dropped or logged in by."""
+        rng, each = self.rng, self.late("appcred")
+        user, name, secret = self.credentials.get(each, (self.pick("user"), "none", "none"))
+        choice = rng.choice(("make", "make", "log in", "log in", "log in", "get", "list", "drop"))
+        choice = "make" if name == "none" and rng.random() < 0.8 else choice
+        if choice == "log in":
+            named = rng.choice(({"id": each}, {"name": name, "user": {"id": user}}))
+            body = login_body(None, token="")
+            body["auth"]["identity"] = {"methods": ["application_credential"], "application_credential": {
+                **named, "secret": secret if rng.random() < 0.95 else "wrong"}}
+            body["auth"].update({"scope": "unscoped"} if rng.random() < 0.05 else {})
+            return "POST", "/v3/auth/tokens", None, self.damaged(body)
+        if choice != "make":
+            self.auth = rng.choice([text for text in self.tokens[-20:] if self.users[text] == user] + [self.auth])
+            path = f"/v3/users/{user if rng.random() < 0.95 else 'none'}/application_credentials"
+            return "DELETE" if choice == "drop" else "GET", path + ("" if choice == "list" else "/" + each), None, None
+        self.made += 1
+        self.auth = rng.choice([text for text in self.tokens[-8:] if self.scopes[text][0] and text not in self.of_trusts] or [self.auth])
+        _, roles = self.scopes.get(self.auth, (None, []))
+        more = {"secret": f"s{self.made}", "roles": [{"id": role} for role in rng.sample(roles, min(len(roles), 1))],
+                "expires_at": time_text(now + rng.choice((-5, 500))), "unrestricted": rng.random() < 0.5, "description": "\u00e9"}
+        likely = {"secret": 0.7, "expires_at": 0.2}
+        given = {member: value for member, value in more.items() if rng.random() < likely.get(member, 0.4)}
+        fields = {"name": rng.choice((f"c{self.made}", name)), **given}
+        path = f"/v3/users/{self.users.get(self.auth, 'none')}/application_credentials"
+        return "POST", path, None, self.damaged({"application_credential": fields})
+
+    def shown_code(self, user, now):
+        """A user with a code that it has now, mostly."""
+        secrets = [secret for owner, secret in self.secrets.values() if owner == user]
+        codes = codes_at(self.rng.choice(secrets), now) if secrets and self.rng.random() < 0.9 else [7]
+        return {"user": {"id": user, "passcode": f"{self.rng.choice(codes):06}"}}
+
+    def about_secret(self, now):
+        """A secret of codes, made, told, listed, dropped or logged in by; or what a user has to log in by."""
+        rng, each = self.rng, self.late("secret")
+        choice = rng.choice(("make", "code", "code", "both", "both", "rules", "get", "list", "drop"))
+        choice = "make" if each not in self.secrets and rng.random() < 0.8 else choice
+        user = self.secrets[each][0] if each in self.secrets and rng.random() < 0.9 else self.pick("user")
+        if choice == "make":
+            secret = base32_text(rng.randbytes(rng.randrange(9, 21)))
+            return "POST", "/v3/credentials", None, self.damaged(
+                {"credential": {"type": "totp", "blob": secret, "user_id": user, "project_id": None}})
+        if choice == "rules" and user != "root":
+            return "PATCH", f"/v3/users/{user}", None, {"user": {"options": rng.choice(OPTIONS)}}
+        if choice in ("code", "both"):
+            password = {"user": {"id": user, "password": self.passwords.get(user, "none")}}
+            shown = {"totp": self.shown_code(user if rng.random() < 0.95 else "root", now)}
+            shown = {"password": password, **shown} if choice == "both" else shown
+            scope = {"scope": {"project": {"id": self.pick("project")}}} if rng.random() < 0.3 else {}
+            return "POST", "/v3/auth/tokens", None, self.damaged({"auth": {"identity": {"methods": list(shown), **shown}, **scope}})
+        path = "/v3/credentials" + ("" if choice == "list" else "/" + each)
+        return "DELETE" if choice == "drop" else "GET", path, None, None
 
     def about_member(self, _):
         """A membership, or a listing of such."""
@@ -349,6 +419,12 @@ class Caller:
             if token in tokens and self.rng.random() < 0.9:
                 tokens.remove(token)
 
+    def forget_credential(self, request):
+        """A credential that is gone, or by which nobody logs in, is mostly not named again."""
+        shown = json.dumps(request[4] or {}) + request[1]
+        for kind in ("appcred", "secret"):
+            self.ids[kind] = [each for each in self.ids[kind] if each not in shown or self.rng.random() < 0.3]
+
     def learn(self, request, reply):
         """Keeps what a reply tells of ids, tokens and passwords."""
         status, fields, data = reply
@@ -363,6 +439,16 @@ class Caller:
             if status == 201 and isinstance(body.get(kind), dict):
                 self.ids[kind].append(body[kind]["id"])
                 self.names.get(kind, []).append(body[kind].get("name"))
+        if status in (204, 401, 404):
+            self.forget_credential(request)
+        if status == 201 and "application_credential" in body:
+            told = body["application_credential"]
+            self.ids["appcred"].append(told["id"])
+            self.credentials[told["id"]] = told["user_id"], told["name"], told["secret"]
+        if status == 201 and "credential" in body:
+            told = body["credential"]
+            self.ids["secret"].append(told["id"])
+            self.secrets[told["id"]] = told["user_id"], base32_bytes(told["blob"])
         if status == 201 and "trust" in body:
             self.trustees[body["trust"]["id"]] = body["trust"]["trustee_user_id"]
             self.parents += [body["trust"]["redelegated_trust_id"]] if body["trust"]["redelegated_trust_id"] else []
@@ -406,8 +492,8 @@ def parts_of(request):
 
 def snapshot(server):
     """All that a refusal leaves as it was."""
-    return copy.deepcopy((server.rows, server.members, server.implications, server.grants, server.events, server.ring.held,
-                          server.ring.following, server.made))
+    return copy.deepcopy((server.rows, server.members, server.implications, server.grants, server.events, server.method_rules,
+                          server.ring.held, server.ring.following, server.made))
 
 
 def sequences(seed, count, length):

@@ -22,6 +22,7 @@ import time
 
 sys.dont_write_bytecode = True
 from machine_calls import Caller, parts_of, random_opening, sequences
+from holding_examples import EXAMPLES as OF_HOLDINGS
 from machine_examples import EXAMPLES, K, STAGED, salts
 from second_reading.machine import Machine, wire
 from second_reading.words import CATALOG, KINDS
@@ -83,10 +84,13 @@ def drawn_in(head, body):
     if not head.startswith(b"HTTP/1.1 201 "):
         return bytes(draw)
     told = json.loads(body)
-    for kind in KINDS + CATALOG + ("trust",):
+    for kind in KINDS + CATALOG + ("trust", "application_credential", "credential"):
         # The id of a region may have been given.
         if isinstance(told.get(kind), dict) and re.fullmatch("[0-9a-f]{32}", told[kind]["id"]):
             draw[:16] = bytes.fromhex(told[kind]["id"])
+    secret = told.get("application_credential", {}).get("secret", "")
+    if len(secret) == 43:
+        draw[32:] = bytes_of_text(secret)
     if "token" in told:
         text = head.split(b"X-Subject-Token: ")[1].split(b"\r\n")[0].decode()
         draw[:16], draw[16:32] = bytes_of_text(told["token"]["audit_ids"][0]), bytes_of_text(text)[9:25]
@@ -134,14 +138,14 @@ def drive(seed, number, length):
 
 def main():
     seed = sys.argv[1] if len(sys.argv) > 1 else "0"
-    for example in EXAMPLES:
+    for example in EXAMPLES + OF_HOLDINGS:
         example()
     statuses = {}
     for _, _, calls in sequences(seed, 12, 150):
         for call in calls:
             statuses[call[-1][0]] = statuses.get(call[-1][0], 0) + 1
     told = ", ".join(f"{count} of {status}" for status, count in sorted(statuses.items()))
-    print(f"machine_table: {len(EXAMPLES)} examples; calls of sequences: {told}")
+    print(f"machine_table: {len(EXAMPLES + OF_HOLDINGS)} examples; calls of sequences: {told}")
     results = [drive(seed, number, 200) for number in range(20)]
     for _, wrong in results:
         if wrong:

@@ -21,7 +21,8 @@ from second_reading.words import CAUSES_OF_BYTES, METHODS, OpeningRefused, REASO
 
 TOP = os.path.dirname(os.path.dirname(os.path.abspath(__file__)))
 DATA = os.path.join(TOP, "crates", "ks_run_cases", "data")
-TABLES = ("logins", "tokens", "rows", "relations", "trusts", "revocations", "keys", "routes", "wire", "faults", "bodies", "opened")
+TABLES = ("logins", "tokens", "credentials", "factors", "rows", "relations", "trusts", "revocations", "keys", "routes", "wire", "faults",
+          "bodies", "opened")
 STATUSES = {"Shape": 7, "Policy": 7, "BadKey": 7, "Folder": 8, "Keys": 9, "Random": 10}
 PIECE = 64
 

@@ -2,6 +2,7 @@
 
 from second_reading.words import CATALOG, LAST_INDEX, LEVELS, LIMITS, REDELEGATIONS, Refusal
 from second_reading.catalog import Catalog
+from second_reading.holdings import Holdings
 from second_reading.ciphers import bare_text, seal, spelling, time_text
 from second_reading.forms import range_unless
 from second_reading.opening import derived, folder_keys
@@ -9,7 +10,11 @@ from second_reading.routes import GRANT_ACTIONS
 from second_reading.state import Invalid, Outcome, Token, made_id
 
 
-class Commands(Catalog):
+# The kind of the row that a path names first, and no other behind it.
+ROWS_OF = {"groups_of": "user", "members_of": "group", "implied": "role", "create_appcred": "user", "list_appcreds": "user"}
+
+
+class Commands(Catalog, Holdings):
     """Each command is a method, named `do_` and the command's name."""
 
     # What is told of rows and tokens (Identity API v3).
@@ -105,8 +110,10 @@ class Commands(Catalog):
         """The keys of a command's target."""
         if call.command in ("get", "update", "delete"):
             return self.row_target(call.about, call.ids[0])
-        if call.command in ("groups_of", "members_of", "implied"):
-            return self.row_target({"groups_of": "user", "members_of": "group", "implied": "role"}[call.command], call.ids[0])
+        if call.command in ROWS_OF:
+            return self.row_target(ROWS_OF[call.command], call.ids[0])
+        if call.command in ("get_appcred", "delete_appcred"):
+            return {"user_id": call.ids[0], "target.user.id": call.ids[0]}
         if call.command == "create":
             return self.body_target(call)
         if call.command == "list":
@@ -194,25 +201,44 @@ class Commands(Catalog):
         domain = self.domain_named(name["domain"])
         return self.with_name(kind, name["name"], domain["id"]) if domain is not None else None
 
-    def shown(self, proof):
-        """Who shows to be whom: the user, and the payload of the token that it shows, if it is one."""
-        if "password" in proof:
-            return self.shows_password(self.homed_named("user", proof["user"]), proof["password"])["id"], None
+    def shown_by_token(self, text):
+        """What a token shows: its user, and what a token that follows it takes over."""
         try:
-            token = self.validity(proof["token"])
+            before = self.validity(text).payload
         except Invalid as invalid:
             raise Refusal("Credentials", *invalid.args) from None
-        if token.payload["kind"] == 3:
+        if before["kind"] in (3, 5):
             raise Refusal("Refused", "TrustToken")
-        return token.payload["user"], token.payload
+        return {"user": before["user"], "methods": before["methods"] | 2, "expires": before["expires"],
+                "chain": before["chain"] or before["audit"]}
+
+    def shown_by_factors(self, proof):
+        """A user that shows a password, a code, or both, and of which no more is asked."""
+        users, methods = [], 0
+        if "password" in proof:
+            users.append(self.shows_password(self.homed_named("user", proof["user"]), proof["password"])["id"])
+            methods += 1
+        if "code" in proof:
+            users.append(self.shows_code(self.homed_named("user", proof["code_user"]), proof["code"])["id"])
+            methods += 4
+        if len(set(users)) > 1 or not self.are_enough(users[0], methods):
+            raise Refusal("Credentials")
+        return {"user": users[0], "methods": methods}
+
+    def shown(self, proof):
+        """What a login shows, as fields of the payload of its token."""
+        if "token" in proof:
+            return self.shown_by_token(proof["token"])
+        if "secret" in proof:
+            row = self.shows_secret(self.credential_named(proof["credential"]), proof["secret"])
+            return {"user": row["user"], "methods": 8, "credential": row["id"]}
+        return self.shown_by_factors(proof)
 
     def do_login(self, call):
         """A token for who shows to be a user, with the scope that is asked for."""
-        user, before = self.shown(call.body["proof"])
         payload = dict.fromkeys(("domain", "project", "trust", "credential", "chain"))
-        payload.update(kind=0, methods=1, user=user, expires=self.high + self.settings["life"], audit=call.draw[:16])
-        if before is not None:
-            payload.update(methods=before["methods"] | 2, expires=before["expires"], chain=before["chain"] or before["audit"])
+        payload.update(kind=0, expires=self.high + self.settings["life"], audit=call.draw[:16])
+        payload.update(self.shown(call.body["proof"]))
         change = self.scope_into(payload, call.body["scope"])
         key = self.ring.held[0][2]
         text = seal(key, self.high, call.draw[16:32], spelling(payload))
@@ -221,6 +247,8 @@ class Commands(Catalog):
 
     def scope_into(self, payload, scope):
         """Puts the scope into a new token's payload; gives the use of a trust that it takes."""
+        if payload["credential"]:
+            return self.credential_into(payload, scope)
         if scope["kind"] == "trust":
             return self.trust_into(payload, scope["id"])
         if scope["kind"] == "system":
@@ -247,12 +275,16 @@ class Commands(Catalog):
         self.refuse_if(self.is_over(trust), "Expired")
         self.refuse_if(trust["remaining"] == 0, "Spent")
         self.refuse_if(self.user_off(trust) is not None, "UserOff")
-        self.scope_unless(self.row("project", trust["project"]) is not None, "Absent")
-        self.scope_unless(self.is_on("project", trust["project"]), "Off")
+        self.require_project(trust["project"])
         self.refuse_if(self.lost_role(trust) is not None, "RoleLost")
         user = trust["trustor"] if trust["impersonation"] else trust["trustee"]
         payload.update(kind=3, user=user, project=trust["project"], trust=each)
         return ("use_trust", each) if trust["remaining"] is not None else None
+
+    def require_project(self, each):
+        """The project of a trust or of an application credential stands and is enabled."""
+        self.scope_unless(self.row("project", each) is not None, "Absent")
+        self.scope_unless(self.is_on("project", each), "Off")
 
     def refuse_if(self, applies, name):
         """A refusal of the trees or of trusts, by its name."""
@@ -311,7 +343,7 @@ class Commands(Catalog):
         if kind == "user":
             row["password"] = self.fresh(call, body["password"]) if "password" in body else None
         self.require_new(kind, row["id"])
-        return Outcome(201, {kind: self.object_of(kind, row)}, ("put", kind, row))
+        return Outcome(201, {kind: self.object_of(kind, row)}, ("put", kind, row, body.get("options")))
 
     def require_parent(self, row):
         """The parent of a new project stands in its domain, not too deep, and all above are enabled."""
@@ -352,7 +384,7 @@ class Commands(Catalog):
         self.require_name(kind, new, row["id"])
         if "password" in body:
             new["password"] = self.fresh(call, body["password"])
-        return Outcome(200, {kind: self.object_of(kind, new)}, ("put", kind, new))
+        return Outcome(200, {kind: self.object_of(kind, new)}, ("put", kind, new, body.get("options")))
 
     def require_unchanged(self, body, row, fields):
         """Of these fields, each with its name in a row, the body gives none another value."""
@@ -553,28 +585,30 @@ class Commands(Catalog):
         self.refuse_if(parent is not None and parent["project"] != call.body["project"], "NotParent")
         return parent
 
-    def roles_named(self, names):
-        """The ids of the roles that a body names, each once; the first that does not stand refuses it."""
+    def roles_named(self, names, path):
+        """The ids of the roles that a list of a body names, each once; the first that does not stand refuses it."""
         ids = []
         for name in names:
             if "id" in name:
                 ids.append(self.standing("role", name["id"])["id"])
             else:
                 row = self.with_name("role", name["name"])
-                range_unless(row is not None, "trust.roles")
+                range_unless(row is not None, path)
                 ids.append(row["id"])
         return sorted(set(ids))
 
     def do_create_trust(self, call):
         """A new trust, by the checks in their order."""
         body = call.body
+        self.require_unrestricted(call)
         self.refuse_if(body["trustor"] != call.caller.payload["user"], "NotTrustor")
         self.standing("user", body["trustee"])
         self.standing("project", body["project"])
         parent = self.parent_of_new(call)
         self.refuse_if(not body["roles"], "NoRoles")
         row = {name: body[name] for name in ("trustor", "trustee", "project", "impersonation", "remaining", "expires")}
-        row.update(id=made_id(call.draw[:16]), roles=self.roles_named(body["roles"]), parent=parent["id"] if parent else None)
+        roles = self.roles_named(body["roles"], "trust.roles")
+        row.update(id=made_id(call.draw[:16]), roles=roles, parent=parent["id"] if parent else None)
         if parent is None:
             row["count"] = self.count_of_first(body)
         else:

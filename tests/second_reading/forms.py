@@ -3,8 +3,9 @@
 import json
 import re
 
-from second_reading.words import Refusal
+from second_reading.words import METHOD_RULES, Refusal
 from second_reading.ciphers import is_id, moment_of
+from second_reading.codes import base32_bytes
 
 MISSING = object()
 
@@ -122,6 +123,7 @@ def text_of(low, high):
 NAME = text_of(1, 255)
 DESCRIPTION = text_of(0, 4096)
 PASSWORD = text_of(1, 4096)
+SECRET = text_of(1, 255)
 SERVICE_TEXT = text_of(0, 255)
 ENDPOINT_URL = text_of(1, 2048)
 
@@ -150,11 +152,18 @@ def only(wanted):
     return reader
 
 
-def interface(path, value):
-    """One of the three interfaces of a service."""
-    any_text(path, value)
-    range_unless(value in ("public", "internal", "admin"), path)
-    return value
+def one_of(*texts):
+    """One of some texts."""
+
+    def reader(path, value):
+        any_text(path, value)
+        range_unless(value in texts, path)
+        return value
+
+    return reader
+
+
+interface = one_of("public", "internal", "admin")
 
 
 def whole(low, high):
@@ -199,11 +208,25 @@ def named_at_home(place):
     return found if "id" in found else {"name": found["name"], "domain": named(at(place, "domain"))}
 
 
-def one_method(path, value):
-    """A list of exactly one method that can be shown alone."""
+def named_of_user(place):
+    """The same, where a name is unique among what is a user's."""
+    found = named(place)
+    return found if "id" in found else {"name": found["name"], "user": named_at_home(at(place, "user"))}
+
+
+def shown_methods(path, value):
+    """A list of one method that can be shown alone, or of a password and a code in either order."""
     a_list(path, value)
-    range_unless(len(value) == 1 and value[0] in ("password", "token"), path)
-    return value[0]
+    alone = [[name] for name in ("password", "totp", "token", "application_credential")]
+    range_unless(value in alone + [["password", "totp"], ["totp", "password"]], path)
+    return value
+
+
+def passcode(path, value):
+    """A code of six digits, as their number."""
+    any_text(path, value)
+    range_unless(re.fullmatch("[0-9]{6}", value), path)
+    return int(value)
 
 
 def scope_field(path, value):
@@ -230,20 +253,47 @@ def scope_field(path, value):
 def login_form(body):
     """The body of a login: who shows by which method to be whom, and the scope that is asked for."""
     identity = at(body, "auth", "identity")
-    method = needed(at(identity, "methods"), one_method)
-    if method == "password":
+    methods, proof = needed(at(identity, "methods"), shown_methods), {}
+    if "password" in methods:
         user = at(identity, "password", "user")
-        proof = {"password": needed(at(user, "password"), PASSWORD), "user": named_at_home(user)}
-    else:
-        proof = {"token": needed(at(identity, "token", "id"), any_text)}
-    return {"proof": proof, "scope": optional(at(body, "auth", "scope"), scope_field, {"kind": "unscoped"})}
+        proof.update(password=needed(at(user, "password"), PASSWORD), user=named_at_home(user))
+    if "totp" in methods:
+        user = at(identity, "totp", "user")
+        proof.update(code=needed(at(user, "passcode"), passcode), code_user=named_at_home(user))
+    if "token" in methods:
+        proof.update(token=needed(at(identity, "token", "id"), any_text))
+    if "application_credential" in methods:
+        place = at(identity, "application_credential")
+        proof.update(credential=named_of_user(place), secret=needed(at(place, "secret"), SECRET))
+    return {"proof": proof, "scope": optional(at(body, "auth", "scope"), scope_field, {"kind": "none"})}
+
+
+def method_rule(path, value):
+    """One method, or two, of which one may come twice; a rule has the path of the list of rules."""
+    a_list(path, value)
+    range_unless(1 <= len(value) <= 2, path)
+    return {one_of("password", "totp")(path, name) for name in value}
+
+
+def method_rules(path, value):
+    """Rules of the methods that a user has to log in by."""
+    a_list(path, value)
+    range_unless(len(value) <= METHOD_RULES, path)
+    return [method_rule(path, rule) for rule in value]
+
+
+def user_options(path, value):
+    """Whether a user has to log in by more methods, and by which."""
+    place = (path, an_object(path, value))
+    return {"enabled": optional(at(place, "multi_factor_auth_enabled"), truth, True),
+            "rules": optional(at(place, "multi_factor_auth_rules"), method_rules, [])}
 
 
 MADE = {
     "domain": (("name", NAME), ("description", DESCRIPTION), ("enabled", truth)),
     "project": (("name", NAME), ("domain_id", id_text), ("parent_id", id_text), ("description", DESCRIPTION), ("enabled", truth),
                 ("is_domain", only(False))),
-    "user": (("name", NAME), ("domain_id", id_text), ("password", PASSWORD), ("enabled", truth)),
+    "user": (("name", NAME), ("domain_id", id_text), ("password", PASSWORD), ("enabled", truth), ("options", user_options)),
     "group": (("name", NAME), ("domain_id", id_text), ("description", DESCRIPTION)),
     "role": (("name", NAME), ("description", DESCRIPTION)),
     "region": (("id", id_text), ("description", DESCRIPTION), ("parent_region_id", id_text)),
@@ -298,3 +348,38 @@ def trust_form(body):
     # A trust that counts its uses can't be passed on.
     range_unless(read["remaining"] is None or not read["redelegate"], "trust.remaining_uses")
     return read
+
+
+def no_rules(path, value):
+    """An empty list."""
+    range_unless(not a_list(path, value), path)
+
+
+def appcred_form(body):
+    """The body that makes an application credential."""
+    place = at(body, "application_credential")
+    read = {
+        "name": needed(at(place, "name"), NAME),
+        "secret": optional(at(place, "secret"), SECRET),
+        "description": optional(at(place, "description"), DESCRIPTION, ""),
+        "expires": optional(at(place, "expires_at"), time_field),
+        "roles": optional(at(place, "roles"), named_roles),
+        "unrestricted": optional(at(place, "unrestricted"), truth, False),
+    }
+    # With access rules it would be meant for less than its roles.
+    optional(at(place, "access_rules"), no_rules)
+    return read
+
+
+def totp_secret(path, value):
+    """A secret of 10 to 64 bytes, in base32."""
+    data = base32_bytes(any_text(path, value))
+    range_unless(data is not None and 10 <= len(data) <= 64, path)
+    return data
+
+
+def secret_form(body):
+    """The body that gives a user a secret of one-time codes."""
+    place = at(body, "credential")
+    needed(at(place, "type"), one_of("totp"))
+    return {"secret": needed(at(place, "blob"), totp_secret), "user": needed(at(place, "user_id"), id_text)}

@@ -1,8 +1,8 @@
 """A plain, slow reading of the identity server: what each call answers, by lists and walks.
 
 It is written from docs/DEFINITIONS.md, docs/FORMATS.md, docs/DECISIONS.md and the public standards (Identity API v3, OS-TRUST,
-OS-INHERIT, OS-REVOKE, the Fernet specification, oslo.policy), and shares nothing with the program or its definitions. Whoever
-wants to know what the server should answer asks a `Machine`:
+OS-INHERIT, OS-REVOKE, the Fernet specification, oslo.policy, HOTP and TOTP), and shares nothing with the program or its
+definitions. Whoever wants to know what the server should answer asks a `Machine`:
 
     machine = Machine(opening_text, salts)
     status, fields, body = machine.call("GET", "/v3/users", "", [("X-Auth-Token", token)], b"", reading, draw, folder)

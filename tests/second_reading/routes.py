@@ -4,7 +4,7 @@ import re
 
 from second_reading.words import CATALOG, KINDS, METHODS, Refusal
 from second_reading.ciphers import is_id
-from second_reading.forms import document, login_form, made_form, password_form, trust_form
+from second_reading.forms import appcred_form, document, login_form, made_form, password_form, secret_form, trust_form
 
 
 def grant_routes():
@@ -22,6 +22,15 @@ def grant_routes():
                 yield method, base + "/{}" + tail, command, about
 
 
+def routes_of_users():
+    """The routes of application credentials, and of secrets of one-time codes."""
+    for path, name in (("/v3/users/{}/application_credentials", "appcred"), ("/v3/credentials", "secret")):
+        yield "GET", path, f"list_{name}s", None
+        yield "POST", path, "create_" + name, None
+        yield "GET", path + "/{}", "get_" + name, None
+        yield "DELETE", path + "/{}", "delete_" + name, None
+
+
 def all_routes():
     """Each method and pattern of a path, the command, and what the route says of it."""
     yield "GET", "/v3", "version", None
@@ -36,6 +45,7 @@ def all_routes():
             yield method, f"/v3/{kind}s/{{}}", command, kind
     yield "POST", "/v3/users/{}/password", "change_password", None
     yield "GET", "/v3/users/{}/groups", "groups_of", None
+    yield from routes_of_users()
     yield "GET", "/v3/groups/{}/users", "members_of", None
     for method, command in (("PUT", "join"), ("HEAD", "is_in"), ("DELETE", "leave")):
         yield method, "/v3/groups/{}/users/{}", command, None
@@ -64,6 +74,10 @@ ACTIONS = {
     "assignments": "list_role_assignments", "create_trust": "create_trust", "list_trusts": "list_trusts",
     "get_trust": "get_trust", "delete_trust": "delete_trust", "roles_of_trust": "list_roles_for_trust",
     "events": "list_revoke_events", "rotate_keys": "rotate_keys", "load_keys": "load_keys",
+    "create_appcred": "create_application_credential", "list_appcreds": "list_application_credentials",
+    "get_appcred": "get_application_credential", "delete_appcred": "delete_application_credential",
+    "create_secret": "create_credential", "list_secrets": "list_credentials", "get_secret": "get_credential",
+    "delete_secret": "delete_credential",
 }
 GRANT_ACTIONS = {"grants_of": ("list", "grants"), "grant": ("create", "grant"), "is_granted": ("check", "grant"),
                  "ungrant": ("revoke", "grant")}
@@ -72,7 +86,7 @@ FILTERS = {"domain": ("name", "enabled"), "project": ("name", "domain_id", "pare
            "region": ("parent_region_id",), "service": ("type", "name"), "endpoint": ("service_id", "region_id", "interface")}
 ASSIGNMENT_FILTERS = ("user.id", "group.id", "role.id", "scope.project.id", "scope.domain.id", "scope.system", "effective")
 TRUST_FILTERS = ("trustor_user_id", "trustee_user_id")
-DRAWING = ("login", "create", "change_password", "create_trust", "rotate_keys")
+DRAWING = ("login", "create", "change_password", "create_trust", "rotate_keys", "create_appcred", "create_secret")
 FOR_ONESELF = ("revoke_token", "change_password", "delete_trust")
 
 
@@ -141,16 +155,11 @@ class Call:
 
 def body_in_form(command, about, data):
     """The body of a command that has a form; of others it is passed over."""
-    if command not in ("login", "create", "update", "change_password", "create_trust"):
-        return None
-    body = ("", document(data))
-    if command == "login":
-        return login_form(body)
-    if command == "change_password":
-        return password_form(body)
-    if command == "create_trust":
-        return trust_form(body)
-    return made_form(body, about, command == "create")
+    forms = {"login": login_form, "change_password": password_form, "create_trust": trust_form, "create_appcred": appcred_form,
+             "create_secret": secret_form}
+    if command in forms:
+        return forms[command](("", document(data)))
+    return made_form(("", document(data)), about, command == "create") if command in ("create", "update") else None
 
 
 def command_of(method, path, query, headers, data):

@@ -3,7 +3,7 @@
 import json
 
 from second_reading.words import (
-    CATALOG, EVENT_GRACE, EXPIRED_WINDOW, KINDS, LEVELS, LIMITS, OpeningRefused, Refusal, SELF_REVOCATIONS,
+    CATALOG, EVENT_GRACE, EXPIRED_WINDOW, KINDS, LEVELS, LIMITS, OF_USERS, OpeningRefused, Refusal, SELF_REVOCATIONS,
 )
 from second_reading.ciphers import envelope_of, key_of, opened, payload_of
 from second_reading.forms import MISSING, an_object, document
@@ -54,9 +54,9 @@ class State:
         self.policy = Policy(rule_texts(policy))
         keys = keys or self.keys_listed(file["keys"])
         self.rows = {kind: file[kind + "s"] for kind in KINDS + CATALOG}
-        self.rows["trust"] = []
+        self.rows.update({kind: [] for kind in ("trust",) + OF_USERS})
         self.members, self.implications, self.grants = file["members"], file["implications"], file["assignments"]
-        self.events, self.high, self.made = [], 0, 0
+        self.method_rules, self.events, self.high, self.made = {}, [], 0, 0
         self.derive_passwords(iter(salts))
         self.refuse_rows()
         self.ring = Ring().loaded(keys)
@@ -293,8 +293,9 @@ class State:
         self.line("User", self.is_on("user", payload["user"]))
         self.line("Scope", self.is_scope_on(payload))
         self.line("Trust", payload["kind"] != 3 or self.is_trust_on(payload))
+        self.line("Credential", payload["kind"] != 5 or self.is_credential_on(payload))
         roles = self.token_roles(payload)
-        self.line("Roles", payload["kind"] == 0 or roles and self.has_trust_roles(payload))
+        self.line("Roles", payload["kind"] == 0 or roles and self.has_listed_roles(payload))
         return Token(payload, issued, roles)
 
     def line(self, name, holds):
@@ -319,11 +320,11 @@ class State:
         self.line("Span", payload["expires"] <= issued + self.settings["life"])
 
     def is_scope_on(self, payload):
-        """The scope stands and is enabled; the system always stands, and no application credential holds."""
-        if payload["kind"] in (1, 2, 3):
-            kind = "domain" if payload["kind"] == 1 else "project"
-            return self.is_on(kind, payload[kind])
-        return payload["kind"] != 5
+        """The domain or the project of the scope stands and is enabled; the system always does."""
+        if payload["kind"] in (0, 4):
+            return True
+        kind = "domain" if payload["kind"] == 1 else "project"
+        return self.is_on(kind, payload[kind])
 
     def is_trust_on(self, payload):
         """The trust stands, is in time, has the token's project and user, and its people are enabled."""
@@ -334,9 +335,16 @@ class State:
             return False
         return payload["user"] == (trust["trustor"] if trust["impersonation"] else trust["trustee"])
 
-    def is_over(self, trust):
-        """A trust has expired."""
-        return trust["expires"] is not None and trust["expires"] <= self.high
+    def is_over(self, row):
+        """A trust or an application credential has expired."""
+        return row["expires"] is not None and row["expires"] <= self.high
+
+    def is_credential_on(self, payload):
+        """The application credential stands, is in time, and has the token's user and project."""
+        row = self.row("appcred", payload["credential"])
+        if row is None or self.is_over(row):
+            return False
+        return row["user"] == payload["user"] and row["project"] == payload["project"]
 
     def user_off(self, trust):
         """The first of trustor, trustee and first trustor that is not enabled, or None."""
@@ -344,15 +352,24 @@ class State:
         return next((user for user in people if not self.is_on("user", user)), None)
 
     def token_roles(self, payload):
-        """The roles of a token: of a trust's the closure of its list, of another's the effective ones at its scope."""
+        """The roles of a token: the closure of what its trust or its credential lists, else the effective ones at its scope."""
         if payload["kind"] == 3:
             return self.closure(self.row("trust", payload["trust"])["roles"])
+        if payload["kind"] == 5:
+            return self.closure(self.row("appcred", payload["credential"])["roles"])
         place = {1: ("domain", payload["domain"]), 2: ("project", payload["project"]), 4: ("system", "")}
         return self.roles_at(payload["user"], place[payload["kind"]]) if payload["kind"] in place else []
 
-    def has_trust_roles(self, payload):
-        """Each role of a token's trust is effective for the first trustor."""
-        return payload["kind"] != 3 or self.lost_role(self.row("trust", payload["trust"])) is None
+    def has_listed_roles(self, payload):
+        """Each role of a token's trust is effective for the first trustor, and each of its credential for the user."""
+        if payload["kind"] == 3:
+            return self.lost_role(self.row("trust", payload["trust"])) is None
+        return payload["kind"] != 5 or self.has_credential_roles(self.row("appcred", payload["credential"]))
+
+    def has_credential_roles(self, row):
+        """Each role of an application credential is effective for its user on its project."""
+        held = self.roles_at(row["user"], ("project", row["project"]))
+        return all(role in held for role in row["roles"])
 
     def lost_role(self, trust):
         """The first role of a trust that is not effective for its first trustor, or None."""
@@ -413,7 +430,7 @@ class State:
         self.events += [(kind, each, self.high) for kind, each in self.ended_by(change)]
         self.ring = self.ring_after(change)
         if change[0] == "put":
-            self.put(change[1], change[2])
+            self.put(*change[1:])
         if change[0] == "drop":
             self.drop(change[1], change[2])
         if change[0] == "use_trust":
@@ -421,8 +438,10 @@ class State:
         self.relate(*change[:2])
         self.made += 1
 
-    def put(self, kind, row):
-        """A row is put over the one with its id."""
+    def put(self, kind, row, rules=None):
+        """A row is put over the one with its id; what a user has to log in by, where it is said, over what was said before."""
+        if rules is not None:
+            self.method_rules[row["id"]] = rules
         self.rows[kind] = sorted([other for other in self.rows[kind] if other["id"] != row["id"]] + [row], key=row_order)
 
     def relate(self, name, row):
@@ -448,8 +467,11 @@ class State:
         dropped |= {("user", user) for user in users} | {("group", group) for group in groups}
         if kind == "service":
             dropped |= {("endpoint", row["id"]) for row in self.rows["endpoint"] if row["service"] == each}
-        for other in KINDS + CATALOG:
+        for other in KINDS + CATALOG + OF_USERS:
             self.keep(other, lambda row, other=other: (other, row["id"]) not in dropped)
+        self.keep("appcred", lambda row: row["user"] not in users and row["project"] not in projects and role not in row["roles"])
+        self.keep("secret", lambda row: row["user"] not in users)
+        self.method_rules = {user: rules for user, rules in self.method_rules.items() if user not in users}
         self.members = [row for row in self.members if row[0] not in groups and row[1] not in users]
         self.implications = [row for row in self.implications if role not in row]
         self.grants = [row for row in self.grants if not dropped & {row[0], row[1], ("role", row[3])}]

@@ -1,7 +1,8 @@
 """The words of the identity server: limits, causes and their messages."""
 
 LIMITS = {"domain": 1024, "project": 65536, "user": 65536, "group": 16384, "member": 262144, "role": 1024, "implication": 8192,
-          "grant": 262144, "trust": 65536, "event": 262144, "region": 256, "service": 1024, "endpoint": 8192}
+          "grant": 262144, "trust": 65536, "event": 262144, "region": 256, "service": 1024, "endpoint": 8192,
+          "appcred": 65536, "secret": 65536}
 SELF_REVOCATIONS = 131072
 LEVELS = 5
 REDELEGATIONS = 3
@@ -10,8 +11,10 @@ LAST_READING = 253370764799
 EXPIRED_WINDOW = 172800
 EVENT_GRACE = 174600
 LAST_INDEX = 999999999
+METHOD_RULES = 16
 KINDS = ("domain", "project", "user", "group", "role")
 CATALOG = ("region", "service", "endpoint")
+OF_USERS = ("appcred", "secret")
 METHODS = ("GET", "HEAD", "POST", "PATCH", "PUT", "DELETE")
 
 REASONS = {200: "OK", 201: "Created", 204: "No Content", 400: "Bad Request", 401: "Unauthorized", 403: "Forbidden",

@@ -29,9 +29,11 @@ use std::sync::Wait;
 use std::thread::Threads;
 
 /// The tables of sessions.
-const TABLES: [&str; 12] = [
+const TABLES: [&str; 14] = [
     "logins",
     "tokens",
+    "credentials",
+    "factors",
     "rows",
     "relations",
     "trusts",

@@ -74,7 +74,7 @@ impl Tables {
             Kind::Region => Ok(of_catalog(self.catalog.add(pair.region(alloc)?))),
             Kind::Service => Ok(of_catalog(self.catalog.add(pair.service(alloc)?))),
             Kind::Endpoint => Ok(of_catalog(self.catalog.add(pair.endpoint(alloc)?))),
-            Kind::Project => bail!("no projects are made"),
+            Kind::Project | Kind::AppCred | Kind::Secret => bail!("none of these is made"),
         }
     }
 
@@ -113,7 +113,9 @@ impl Tables {
             Kind::Region => Ok(self.drop_listed(CatalogKind::Region, pair)),
             Kind::Service => Ok(self.drop_listed(CatalogKind::Service, pair)),
             Kind::Endpoint => Ok(self.drop_listed(CatalogKind::Endpoint, pair)),
-            Kind::Project | Kind::User | Kind::Event => bail!("none of these is taken out"),
+            Kind::Project | Kind::User | Kind::Event | Kind::AppCred | Kind::Secret => {
+                bail!("none of these is taken out")
+            }
         }
     }
 
