@@ -1,13 +1,15 @@
 //! The calls that workers make, all at one reading of the clock.
-ghost use Rattle.std.specs.Prelude.{◌≡◌, IfOk};
-ghost use Rattle.ks_machine.specs.Fit.{AreFields, Fit, IsDrawFor, IsFolderFor};
-ghost use Rattle.ks_machine.specs.Ranges.{IsPassword};
+ghost use Rattle.std.specs.Prelude.{◌≡◌, IfOk, false};
+ghost use Rattle.ks_machine.specs.Fit.{AreFields, Fit, IsDrawFor, IsFolderFor, IsMade};
+ghost use Rattle.ks_machine.specs.Ranges.{IsMfaRule, IsPassword};
 ghost use Rattle.ks_machine.specs.Actions.{requirements};
 
 use anyhow::{Result, bail, ensure};
 use ks_base::limits::PASSWORD_BYTES;
-use ks_base::{Drawn, Id, Text};
-use ks_machine::{Call, Command, FolderRead, LoginBody, ProjectNamed, Proof, ScopeIn, UserNamed};
+use ks_base::{Bytes, Drawn, Id, Text};
+use ks_machine::{
+    Call, Command, FolderRead, LoginBody, Made, MfaIn, ProjectNamed, Proof, ScopeIn, UserNamed,
+};
 use std::alloc::Global;
 
 /// The clock's reading, in seconds since 1970: 1985-10-26T08:20:00Z.
@@ -91,6 +93,40 @@ pub fn rotate(caller: &Text, byte: u8) -> Result<Call>
 {
     let draw = Drawn::Bytes([byte; 64]);
     Ok(asked(Command::RotateKeys, Some(caller.copy()?), None, draw))
+}
+
+/// A rule of the methods of a login: a password and a code.
+const BOTH_METHODS: u8 = 5;
+
+/// What is changed of a user who has to log in by these methods from then on.
+fn rule_of_methods(alloc: Global, methods: u8) -> Result<Made>
+    requires { IsMfaRule methods }
+    ensures { IfOk result (IsMade false) }
+{
+    let rules = Bytes::of(alloc, &[methods])?;
+    Ok(Made::User {
+        id: None,
+        name: None,
+        domain: None,
+        password: None,
+        enabled: None,
+        factors: Some(MfaIn {
+            enabled: true,
+            rules,
+        }),
+    })
+}
+
+/// The owner of a token has a user log in by a password and a code. Each byte drawn is this one.
+#[tactic(auto, unfolding(ks_machine::specs::Actions::requirements))]
+pub fn ask_for_code(alloc: Global, caller: &Text, user: &str, byte: u8) -> Result<Call>
+    ensures { IfOk result Fit }
+{
+    let user = id(user)?;
+    let made = rule_of_methods(alloc, BOTH_METHODS)?;
+    let caller = caller.copy()?;
+    let draw = Drawn::Bytes([byte; 64]);
+    Ok(asked(Command::Update(user, made), Some(caller), None, draw))
 }
 
 /// The user takes a new password. Each byte drawn is this one.

@@ -5,7 +5,7 @@ ghost use Rattle.ks_machine.specs.Fronts.{first_front};
 ghost use Rattle.ks_state.specs.Standing.{StandsWithAllKept};
 
 use crate::links::Links;
-use crate::{aged_token, desks, old_password, opening};
+use crate::{aged_token, desks, new_rule, old_password, opening};
 use anyhow::{Result, bail};
 use ks_base::Text;
 use ks_policy::Opening;
@@ -22,6 +22,7 @@ use std::thread::Threads;
 pub enum Case {
     AgedToken,
     OldPassword,
+    NewRule,
     Meeting,
     TwoDesks,
     FailedAccept,
@@ -32,6 +33,7 @@ impl Case {
         match self {
             Case::AgedToken => "aged token",
             Case::OldPassword => "old password",
+            Case::NewRule => "new rule",
             Case::Meeting => "meeting",
             Case::TwoDesks => "two desks",
             Case::FailedAccept => "failed accept",
@@ -101,6 +103,7 @@ fn try_over<N: First + Send + Sync, R: AllocGlobal + Threads + Wait + Sync>(
     match case {
         Case::AgedToken => aged_token::try_case(alloc, rt, &turn, pass),
         Case::OldPassword => old_password::try_case(alloc, rt, turn, pass, world.file()),
+        Case::NewRule => new_rule::try_case(alloc, rt, &turn, pass),
         Case::Meeting => desks::try_meeting(alloc, rt, &turn, pass, links, url),
         Case::TwoDesks => desks::try_both(alloc, rt, &turn, pass, links, url),
         Case::FailedAccept => desks::try_failed_accept(alloc, rt, &turn, pass, links, url),

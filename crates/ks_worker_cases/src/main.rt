@@ -10,6 +10,7 @@ mod cases;
 mod desks;
 mod gates;
 mod links;
+mod new_rule;
 mod old_password;
 mod opening;
 mod workers;
@@ -17,9 +18,10 @@ mod workers;
 use crate::cases::{Case, World};
 use anyhow::Result;
 
-const CASES: [Case; 5] = [
+const CASES: [Case; 6] = [
     Case::AgedToken,
     Case::OldPassword,
+    Case::NewRule,
     Case::Meeting,
     Case::TwoDesks,
     Case::FailedAccept,
