@@ -8,6 +8,7 @@ a process of its own that is forked from one which has loaded the client. The pr
 environment's KS names another. The exit status is 1 where a command prints otherwise.
 """
 
+import json
 import math
 import os
 import shlex
@@ -17,6 +18,7 @@ import time
 
 sys.dont_write_bytecode = True
 from cloud import cloud, require_module
+from second_reading.codes import base32_bytes, codes_at
 from served import TOP, Failure, program_of
 from tables import expanded, rows
 
@@ -25,7 +27,11 @@ from openstackclient import shell
 
 TABLE = os.path.join(TOP, "tests", "client_commands.txt")
 
-# What the words for callers stand for: the environment of the client beside the address.
+# The secret of the codes of `demo`, in base32.
+SECRET = "GEZDGNBVGY3TQOJQGEZDGNBVGY3TQOJQ"
+
+# What the words for callers stand for: the environment of the client beside the address. <cred> is what the table has under this name,
+# and <code> the code of the moment.
 DEFAULT = {"OS_USER_DOMAIN_ID": "default", "OS_PROJECT_DOMAIN_ID": "default", "OS_IDENTITY_API_VERSION": "3"}
 CALLERS = {
     "admin": {**DEFAULT, "OS_USERNAME": "admin", "OS_PASSWORD": "secret", "OS_PROJECT_NAME": "admin"},
@@ -36,6 +42,13 @@ CALLERS = {
     "nova": {**DEFAULT, "OS_USERNAME": "nova", "OS_PASSWORD": "nova", "OS_PROJECT_NAME": "service"},
     "eve": {"OS_USERNAME": "eve", "OS_PASSWORD": "e2", "OS_USER_DOMAIN_NAME": "apart", "OS_DOMAIN_NAME": "apart",
             "OS_IDENTITY_API_VERSION": "3"},
+    "deploys": {"OS_AUTH_TYPE": "v3applicationcredential", "OS_APPLICATION_CREDENTIAL_ID": "<cred>",
+                "OS_APPLICATION_CREDENTIAL_SECRET": "s3cret", "OS_IDENTITY_API_VERSION": "3"},
+    "named": {"OS_AUTH_TYPE": "v3applicationcredential", "OS_APPLICATION_CREDENTIAL_NAME": "deploys", "OS_USERNAME": "demo",
+              "OS_USER_DOMAIN_NAME": "Default", "OS_APPLICATION_CREDENTIAL_SECRET": "s3cret", "OS_IDENTITY_API_VERSION": "3"},
+    "coded": {**DEFAULT, "OS_AUTH_TYPE": "v3totp", "OS_USERNAME": "demo", "OS_PASSCODE": "<code>", "OS_PROJECT_NAME": "demo"},
+    # The client reads a list of methods from a file alone.
+    "both": {"OS_CLOUD": "both", "OS_CLIENT_CONFIG_FILE": "<clouds>"},
 }
 
 
@@ -68,6 +81,26 @@ def client(words, environment):
         return os.waitstatus_to_exitcode(status), printed, err.read().decode()
 
 
+def code_now():
+    """The code of the moment, or of the 30 seconds before, which is taken as well."""
+    return f"{codes_at(base32_bytes(SECRET), int(time.time()))[0]:06}"
+
+
+def clouds(folder, url):
+    """A file that tells the client of `both`, who shows a password and a code."""
+    shown = {"auth_url": url, "auth_methods": ["v3password", "v3totp"], "username": "demo", "password": "demo",
+             "passcode": code_now(), "user_domain_id": "default", "project_name": "demo", "project_domain_id": "default"}
+    with open(os.path.join(folder, "clouds.yaml"), "w", encoding="utf-8") as file:
+        json.dump({"clouds": {"both": {"auth_type": "v3multifactor", "auth": shown, "identity_api_version": "3"}}}, file)
+    return file.name
+
+
+def environment_of(caller, names, url):
+    """The environment of the client for a caller."""
+    told = {name: expanded(value.encode(), names).decode() for name, value in CALLERS[caller].items()}
+    return told if "OS_CLOUD" in told else {"OS_AUTH_URL": url, **told}
+
+
 def wait_for_next_second():
     """A token ends by a revocation of the very second of its issue."""
     time.sleep(math.floor(time.time()) + 1.01 - time.time())
@@ -77,7 +110,7 @@ def wrong_of(case, names, url):
     """What is otherwise with a command, or None; what it prints is kept under its name."""
     name, caller, command, status, wanted = (part.decode() for part in case)
     words = shlex.split(expanded(command.encode(), names).decode())
-    ended, printed, said = client(words, {"OS_AUTH_URL": url, **CALLERS[caller]})
+    ended, printed, said = client(words, environment_of(caller, names, url))
     if name:
         names[name] = printed.encode()
     told = expanded(wanted.encode(), names).decode()
@@ -91,12 +124,13 @@ def main():
     for name in [name for name in os.environ if name.startswith("OS_")]:
         del os.environ[name]
     cases, wrong, names, commands = rows(TABLE), [], {}, set()
-    with cloud(program_of(sys.argv[1:])) as server:
+    with cloud(program_of(sys.argv[1:])) as server, tempfile.TemporaryDirectory() as folder:
         names["address"] = server.url.removesuffix("/v3").encode()
         for case in cases:
             if not case[2]:
                 wait_for_next_second()
                 continue
+            names.update(code=code_now().encode(), clouds=clouds(folder, server.url).encode())
             commands.add((case[1], case[2]))
             found = wrong_of(case, names, server.url)
             if found is not None:
