@@ -105,11 +105,3 @@ xor_bytes-at [] bs i p q = absurd (omega arith)
 xor_bytes-at (a ∷ as') [] i p q = absurd (omega arith)
 xor_bytes-at (a ∷ as') (b ∷ bs) zero p q = refl
 xor_bytes-at (a ∷ as') (b ∷ bs) (suc i) p q = xor_bytes-at as' bs i (omega arith) (omega arith)
-
--- a list of 16 whose elements are the sums is the sum
-pub xor_bytes_from : (out a b : List ℕ) → length out ≡ 16 → length a ≡ 16 → length b ≡ 16
-    → ((k : ℕ) → k < 16 → slice_index out k ≡ bit_xor (slice_index a k) (slice_index b k)) → out ≡ xor_bytes a b
-xor_bytes_from out a b lo la lb each =
-    fill_by_all (λ k. bit_xor (slice_index a k) (slice_index b k)) out 16 0 lo each
-    ∙ sym (fill_by_all (λ k. bit_xor (slice_index a k) (slice_index b k)) (xor_bytes a b) 16 0 (length-xor_bytes a b 16 la lb)
-    (λ k lt. xor_bytes-at a b k (omega arith) (omega arith)))

@@ -57,10 +57,10 @@ AreFirst-more key keys i next lt held e =
     )
 
 -- a block sealed: its first key, a round more, and the last round
-pub sealed_begun : (key block state columns k : List ℕ) → block_of columns ≡ block → block_of k ≡ round_key key 0
-    → block_of state ≡ xor_bytes (block_of columns) (block_of k) → block_of state ≡ after_rounds key block 0
+pub sealed_begun : (key block state k : List ℕ) → block_of k ≡ round_key key 0
+    → block_of state ≡ xor_bytes (block_of block) (block_of k) → block_of state ≡ after_rounds key (block_of block) 0
 unfolding after_rounds
-sealed_begun key block state columns k e0 e1 e2 = e2 ∙ ap (λ b. xor_bytes b (block_of k)) e0 ∙ ap (xor_bytes block) e1
+sealed_begun key block state k e0 e1 = e1 ∙ ap (xor_bytes (block_of block)) e0
 
 pub sealed_on : (key block state next k : List ℕ) (n : ℕ) → block_of state ≡ after_rounds key block n → block_of k ≡ round_key key (n + 1)
     → block_of next ≡ xor_bytes (mix_columns (shift_rows (sub_bytes (block_of state)))) (block_of k)
@@ -70,18 +70,18 @@ sealed_on key block state next k n e0 e1 e2 =
     ∙ ap (xor_bytes (mix_columns (shift_rows (sub_bytes (after_rounds key block n))))) e1
     ∙ sym (after_rounds_more key block n)
 
-pub sealed_through : (key block state next k out : List ℕ) (n : ℕ) → n ≡ 9 → block_of state ≡ after_rounds key block n → block_of k ≡ round_key key 10
-    → block_of next ≡ xor_bytes (shift_rows (sub_bytes (block_of state))) (block_of k) → out ≡ block_of next → out ≡ aes key block
+pub sealed_through : (key block state next k : List ℕ) (n : ℕ) → n ≡ 9 → block_of state ≡ after_rounds key block n → block_of k ≡ round_key key 10
+    → block_of next ≡ xor_bytes (shift_rows (sub_bytes (block_of state))) (block_of k) → block_of next ≡ aes key block
 unfolding aes
-sealed_through key block state next k out n nine e0 e1 e2 e3 =
-    e3 ∙ e2 ∙ ap (λ s. xor_bytes (shift_rows (sub_bytes s)) (block_of k)) (e0 ∙ ap (after_rounds key block) nine)
+sealed_through key block state next k n nine e0 e1 e2 =
+    e2 ∙ ap (λ s. xor_bytes (shift_rows (sub_bytes s)) (block_of k)) (e0 ∙ ap (after_rounds key block) nine)
     ∙ ap (xor_bytes (shift_rows (sub_bytes (after_rounds key block 9)))) e1
 
 -- a block opened, likewise
-pub opened_begun : (key block state columns k : List ℕ) → block_of columns ≡ block → block_of k ≡ round_key key 10
-    → block_of state ≡ xor_bytes (block_of columns) (block_of k) → block_of state ≡ undone_rounds key block 0
+pub opened_begun : (key block state k : List ℕ) → block_of k ≡ round_key key 10
+    → block_of state ≡ xor_bytes (block_of block) (block_of k) → block_of state ≡ undone_rounds key (block_of block) 0
 unfolding undone_rounds
-opened_begun key block state columns k e0 e1 e2 = e2 ∙ ap (λ b. xor_bytes b (block_of k)) e0 ∙ ap (xor_bytes block) e1
+opened_begun key block state k e0 e1 = e1 ∙ ap (xor_bytes (block_of block)) e0
 
 pub opened_on : (key block state next k : List ℕ) (n : ℕ) → IsBlock key → IsBlock block → block_of state ≡ undone_rounds key block n
     → block_of k ≡ unmix_columns (round_key key (9 - n))
@@ -95,9 +95,9 @@ opened_on key block state next k n hk hb e0 e1 e2 =
     (unsub_block (unshift_rows s) (unshift_block s (undone_rounds_block key block n hk hb))) (round_key_block key (9 - n) hk))
     ∙ sym (undone_rounds_more key block n)
 
-pub opened_through : (key block state next k out : List ℕ) (n : ℕ) → n ≡ 9 → block_of state ≡ undone_rounds key block n → block_of k ≡ round_key key 0
-    → block_of next ≡ xor_bytes (unsub_bytes (unshift_rows (block_of state))) (block_of k) → out ≡ block_of next → out ≡ unaes key block
+pub opened_through : (key block state next k : List ℕ) (n : ℕ) → n ≡ 9 → block_of state ≡ undone_rounds key block n → block_of k ≡ round_key key 0
+    → block_of next ≡ xor_bytes (unsub_bytes (unshift_rows (block_of state))) (block_of k) → block_of next ≡ unaes key block
 unfolding unaes
-opened_through key block state next k out n nine e0 e1 e2 e3 =
-    e3 ∙ e2 ∙ ap (λ s. xor_bytes (unsub_bytes (unshift_rows s)) (block_of k)) (e0 ∙ ap (undone_rounds key block) nine)
+opened_through key block state next k n nine e0 e1 e2 =
+    e2 ∙ ap (λ s. xor_bytes (unsub_bytes (unshift_rows s)) (block_of k)) (e0 ∙ ap (undone_rounds key block) nine)
     ∙ ap (xor_bytes (unsub_bytes (unshift_rows (undone_rounds key block 9)))) e1

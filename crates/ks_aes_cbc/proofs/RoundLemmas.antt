@@ -1,5 +1,5 @@
 -- Rounds on words: four columns at once, and sums of blocks.
-use Rattle.std.proofs.Common.{◌≡◌, ℕ, ◌<◌, List, [], ◌∷◌, ◌++◌, length, slice_index, refl, ap, ◌∙◌, arith}
+use Rattle.std.proofs.Common.{◌≡◌, ℕ, ◌<◌, List, [], ◌∷◌, ◌++◌, length, slice_index, refl, ap, ◌∙◌, arith, append_assoc}
 use Rattle.std.specs.Prelude.{bit_xor}
 use Rattle.std.specs.Int.{w32, to_be_bytes, from_be_bytes, byte_at}
 use Rattle.std.proofs.lemmas.Nat.Bits.{same_from_bits, bit_at_xor}
@@ -8,8 +8,8 @@ use Rattle.ks_aes_cbc.specs.Aes.{AreBytes, IsBlock, sbox, sub_bytes, shift_rows,
 use Rattle.ks_aes_cbc.specs.Inverse.{unsbox, unsub_bytes, unshift_rows, unmix_columns}
 use Rattle.ks_aes_cbc.specs.Columns.{block_of}
 use Rattle.ks_aes_cbc.proofs.Fields.{product_xor}
-use Rattle.ks_aes_cbc.proofs.BlockLemmas.{written_out, xor_bytes-at}
-use Rattle.ks_aes_cbc.proofs.WordLemmas.{bytes-xor, from_bytes}
+use Rattle.ks_aes_cbc.proofs.BlockLemmas.{AreBytes-four, written_out, xor_bytes-at}
+use Rattle.ks_aes_cbc.proofs.WordLemmas.{bytes-xor, from_bytes, AreBytes-word}
 
 -- the sum of two blocks, word by word
 pub summed_columns : (a b : List ℕ)
@@ -47,6 +47,29 @@ columns_of_block b n0 n1 n2 n3 long h e0 e1 e2 e3 =
     (from_bytes _ _ _ _ n0 (h 0) (h 1) (h 2) (h 3) e0) (from_bytes _ _ _ _ n1 (h 4) (h 5) (h 6) (h 7) e1)
     (from_bytes _ _ _ _ n2 (h 8) (h 9) (h 10) (h 11) e2) (from_bytes _ _ _ _ n3 (h 12) (h 13) (h 14) (h 15) e3)
     ∙ written_out b long
+
+-- columns stand for a block
+pub block_of_block : (columns : List ℕ) → IsBlock (block_of columns)
+unfolding block_of
+block_of_block columns =
+    let word : ℕ → List ℕ = λ i. to_be_bytes w32 (slice_index columns i) in
+    let fit : (i : ℕ) → AreBytes (word i) = λ i. AreBytes-word (slice_index columns i) in
+    record {
+      long = refl;
+      bytes = AreBytes-four (word 0) (word 1) (word 2) (word 3) (fit 0) (fit 1) (fit 2) (fit 3);
+    }
+
+-- a block behind bytes, a column after the other
+pub appended : (columns o0 o1 o2 o3 o4 b0 b1 b2 b3 : List ℕ) → b0 ≡ to_be_bytes w32 (slice_index columns 0)
+    → b1 ≡ to_be_bytes w32 (slice_index columns 1) → b2 ≡ to_be_bytes w32 (slice_index columns 2)
+    → b3 ≡ to_be_bytes w32 (slice_index columns 3) → o1 ≡ o0 ++ b0 → o2 ≡ o1 ++ b1 → o3 ≡ o2 ++ b2 → o4 ≡ o3 ++ b3
+    → o4 ≡ o0 ++ block_of columns
+unfolding block_of
+appended columns o0 o1 o2 o3 o4 b0 b1 b2 b3 e0 e1 e2 e3 p0 p1 p2 p3 =
+    let word : ℕ → List ℕ = λ i. to_be_bytes w32 (slice_index columns i) in
+    rw (p3, p2, p1, p0, e0, e1, e2, e3)
+    (append_assoc ((o0 ++ word 0) ++ word 1) (word 2) (word 3) ∙ append_assoc (o0 ++ word 0) (word 1) (word 2 ++ word 3)
+    ∙ append_assoc o0 (word 0) (word 1 ++ (word 2 ++ word 3)))
 
 -- the byte in row r of a word
 abbrev row0 : List ℕ → ℕ → ℕ

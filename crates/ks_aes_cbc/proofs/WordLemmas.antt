@@ -7,7 +7,7 @@ use Rattle.std.proofs.lemmas.Nat.{xor_shr, xor_mod, be_bytes_4}
 use Rattle.std.proofs.lemmas.Slice.Eq.{bytes_eq-Decides}
 use Rattle.ks_aes_cbc.specs.declared.tables.TheConstants.{SBOX, INVERSE_SBOX, ROUND_CONSTANTS, SEAL_ROW_0, SEAL_ROW_1, SEAL_ROW_2, SEAL_ROW_3, OPEN_ROW_0, OPEN_ROW_1, OPEN_ROW_2, OPEN_ROW_3}
 use Rattle.ks_aes_cbc.specs.Field.{product, partial_product}
-use Rattle.ks_aes_cbc.specs.Aes.{sbox, sum4, circulant, xor_bytes, round_constant}
+use Rattle.ks_aes_cbc.specs.Aes.{AreBytes, sbox, sum4, circulant, xor_bytes, round_constant}
 use Rattle.ks_aes_cbc.specs.Inverse.{unsbox}
 use Rattle.ks_aes_cbc.proofs.Fields.{all_below, all_below_at, same_below}
 use Rattle.ks_aes_cbc.proofs.BlockLemmas.{AreBytes-written}
@@ -117,6 +117,9 @@ mixed_words_added p q r s a b c d t0 t1 t2 t3 key e0 e1 e2 e3 =
 
 low : (n : ℕ) → n % 256 < 256
 low n = omega arith
+
+pub AreBytes-word : (n : ℕ) → AreBytes (to_be_bytes w32 n)
+AreBytes-word n = AreBytes-written (to_be_bytes w32 n) (low (n / 16777216), (low (n / 65536), (low (n / 256), (low n, tt))))
 
 -- a column of a round, and of an inverse round
 pub sealed_word : (a b c d key : ℕ)

@@ -1,6 +1,7 @@
 //! AES-128.
 ghost use Rattle.std.specs.Prelude.{◌≡◌, ℕ, List};
 ghost use Rattle.ks_aes_cbc.specs.Aes.{IsBlock, aes};
+ghost use Rattle.ks_aes_cbc.specs.Columns.{block_of};
 
 use crate::columns::{Columns, bytes, columns, summed};
 use crate::keys::{opening_keys, sealing_keys};
@@ -47,11 +48,7 @@ impl Aes128 {
     pub fn seal_block(&self, block: &[u8; 16]) -> [u8; 16]
         ensures { result ≡ aes self.now block.now }
     {
-        let mut state = summed(&columns(block), &self.sealing[0]);
-        for i in 0..MIXING_ROUNDS {
-            state = sealed_round(&state, &self.sealing[i + 1]);
-        }
-        bytes(&last_sealed_round(&state, &self.sealing[10]))
+        bytes(&self.seal_columns(&columns(block)))
     }
 
     /// The one block that [`Aes128::seal_block`] makes this one of: the inverse cipher of FIPS 197,
@@ -60,10 +57,31 @@ impl Aes128 {
         ensures sealed { aes self.now result ≡ block.now }
         ensures only { (p : List ℕ) → IsBlock p → aes self.now p ≡ block.now → result ≡ p }
     {
-        let mut state = summed(&columns(block), &self.sealing[10]);
+        bytes(&self.open_columns(&columns(block)))
+    }
+
+    /// [`Aes128::seal_block`] on columns.
+    #[inline(never)]
+    pub(crate) fn seal_columns(&self, block: &Columns) -> Columns
+        ensures { block_of result ≡ aes self.now (block_of block.now) }
+    {
+        let mut state = summed(block, &self.sealing[0]);
+        for i in 0..MIXING_ROUNDS {
+            state = sealed_round(&state, &self.sealing[i + 1]);
+        }
+        last_sealed_round(&state, &self.sealing[10])
+    }
+
+    /// [`Aes128::open_block`] on columns.
+    #[inline(never)]
+    pub(crate) fn open_columns(&self, block: &Columns) -> Columns
+        ensures sealed { aes self.now (block_of result) ≡ block_of block.now }
+        ensures only { (p : List ℕ) → IsBlock p → aes self.now p ≡ block_of block.now → block_of result ≡ p }
+    {
+        let mut state = summed(block, &self.sealing[10]);
         for i in 0..MIXING_ROUNDS {
             state = opened_round(&state, &self.opening[i]);
         }
-        bytes(&last_opened_round(&state, &self.sealing[0]))
+        last_opened_round(&state, &self.sealing[0])
     }
 }

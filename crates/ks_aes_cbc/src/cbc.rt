@@ -5,7 +5,7 @@ ghost use Rattle.ks_aes_cbc.specs.Cbc.{pad, cbc, uncbc};
 ghost use Rattle.ks_aes_cbc.specs.Inverse.{uncbc_blocks};
 
 use crate::aes::Aes128;
-use crate::blocks::xored;
+use crate::columns::{append, columns, summed};
 use std::alloc::{AllocError, Global};
 
 /// The bytes of one block at most, less one, with their padding.
@@ -63,14 +63,17 @@ pub fn cbc_seal(
 {
     let aes = Aes128::new(key);
     let mut out = Vec::with_capacity(alloc, (plain.len() / 16 + 1) * 16)?;
-    let mut previous = *iv;
+    let mut previous = columns(iv);
     let mut left = plain;
     while let Some((block, rest)) = left.split_first_chunk::<16>() {
-        previous = aes.seal_block(&xored(block, &previous));
-        out.extend_from_slice(&previous)?;
+        previous = aes.seal_columns(&summed(&columns(block), &previous));
+        append(&mut out, &previous)?;
         left = rest;
     }
-    out.extend_from_slice(&aes.seal_block(&xored(&padded(left), &previous)))?;
+    append(
+        &mut out,
+        &aes.seal_columns(&summed(&columns(&padded(left)), &previous)),
+    )?;
     Ok(out)
 }
 
@@ -87,11 +90,15 @@ fn opened_blocks(
 {
     let aes = Aes128::new(key);
     let mut out = Vec::with_capacity(alloc, sealed.len())?;
-    let mut previous = *iv;
+    let mut previous = columns(iv);
     let mut left = sealed;
     while let Some((block, rest)) = left.split_first_chunk::<16>() {
-        out.extend_from_slice(&xored(&aes.open_block(block), &previous))?;
-        previous = *block;
+        let sealed_block = columns(block);
+        append(
+            &mut out,
+            &summed(&aes.open_columns(&sealed_block), &previous),
+        )?;
+        previous = sealed_block;
         left = rest;
     }
     Ok(out)

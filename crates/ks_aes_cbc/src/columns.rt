@@ -1,8 +1,10 @@
 //! Blocks as four words of 32 bits, a column each, whose highest byte stands in row 0.
-ghost use Rattle.std.specs.Prelude.{◌≡◌};
+ghost use Rattle.std.specs.Prelude.{◌≡◌, ◌++◌, OnOk};
 ghost use Rattle.std.specs.Int.{w32, to_be_bytes};
 ghost use Rattle.ks_aes_cbc.specs.Aes.{xor_bytes};
 ghost use Rattle.ks_aes_cbc.specs.Columns.{block_of};
+
+use std::alloc::AllocError;
 
 /// The columns of a block.
 pub type Columns = [u32; 4];
@@ -31,6 +33,17 @@ pub fn bytes(columns: &Columns) -> [u8; 16]
     [
         a0, a1, a2, a3, b0, b1, b2, b3, c0, c1, c2, c3, d0, d1, d2, d3,
     ]
+}
+
+/// Puts a block's bytes behind others. The one error is want of memory.
+pub fn append(out: &mut Vec<u8>, block: &Columns) -> Result<(), AllocError>
+    ensures { OnOk result (out.new.items ≡ out.old.items ++ block_of block.now) }
+{
+    out.extend_from_slice(&block[0].to_be_bytes())?;
+    out.extend_from_slice(&block[1].to_be_bytes())?;
+    out.extend_from_slice(&block[2].to_be_bytes())?;
+    out.extend_from_slice(&block[3].to_be_bytes())?;
+    Ok(())
 }
 
 /// The sum of two blocks.

@@ -3,7 +3,6 @@
 #![tactic(auto)]
 
 mod aes;
-mod blocks;
 mod cbc;
 mod columns;
 mod keys;

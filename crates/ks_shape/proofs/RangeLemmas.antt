@@ -73,7 +73,7 @@ password_in value = text_in 1 PASSWORD_BYTES value
 pub cred_secret_in : (value : Data) → IfOk (cred_secret value) IsCredSecret
 cred_secret_in value = text_in 1 NAME_BYTES value
 
-description_in : (value : Data) → IfOk (description_text value) IsDescription
+pub description_in : (value : Data) → IfOk (description_text value) IsDescription
 description_in value =
     weaken IsDescription (λ text. IsInRange 0 DESCRIPTION_BYTES (length text)) (description_text value) (text_in 0 DESCRIPTION_BYTES value) (λ text is. is.1)
 

@@ -62,14 +62,10 @@ fn code_in(text: &[u8]) -> Option<u32>
     Some(two_at(text, 0) * 10_000 + two_at(text, 2) * 100 + two_at(text, 4))
 }
 
-/// Each byte is below 256, which no clause says of a list: this walk reads them, and is compiled away.
-fn bytes_fit(bytes: &[u8])
-    ensures { (k : ℕ) → k < length bytes.now → slice_index bytes.now k < 256 }
-{
-    for i in 0..bytes.len() {
-        let _ = bytes[i];
-    }
-}
+/// Each byte is below 256, which no clause says of a list of bytes. The function does nothing: its contract is the fact.
+fn bytes_fit(_bytes: &[u8])
+    ensures { (k : ℕ) → k < length _bytes.now → slice_index _bytes.now k < 256 }
+{}
 
 /// The bytes of which a text is the base32.
 #[tactic(auto, using(crate::proofs::Base32Lemmas::bytes_read, crate::proofs::Base32Lemmas::no_bytes))]

@@ -1,7 +1,7 @@
 use Rattle.std.proofs.Common.{◌≡◌}
 use Rattle.ks_aes_cbc.specs.Inverse.{undone_rounds}
 use Rattle.ks_aes_cbc.specs.Columns.{block_of}
-use Rattle.ks_aes_cbc.proofs.aes.Aes128.open_block.Given as goal
+use Rattle.ks_aes_cbc.proofs.aes.Aes128.open_columns.Given as goal
 
 abbrev pub invariant-loop-i : goal.invariant-loop-i
-invariant-loop-i l = block_of l.state ≡ undone_rounds l.self-inside.key l.block l.i
+invariant-loop-i l = block_of l.state ≡ undone_rounds l.self-inside.key (block_of l.block) l.i
