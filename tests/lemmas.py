@@ -16,19 +16,8 @@ FACTS = ("≡", "≢", "≤", "<", "⊥", "Among", "Decides", "↔")
 COMPUTED = ("Examples", "Vectors")
 # What stands twice until a crate below both shows it, which proves all crates above it again.
 KNOWN = [
-    ["and_none of crates/ks_base/proofs/NameLemmas.antt", "both of crates/ks_catalog/proofs/OfferLemmas.antt"],
     ["all_below_at of crates/ks_aes_cbc/proofs/Fields.antt", "below_at of crates/ks_totp/proofs/LetterLemmas.antt"],
-    ["fewer of crates/ks_appcred/proofs/BothLemmas.antt", "fewer_left of crates/ks_revoke/proofs/RowsLemmas.antt"],
-    ["find_alike of crates/ks_appcred/proofs/BothLemmas.antt", "find_alike of crates/ks_base/proofs/RowLemmas.antt"],
-    ["get_among of crates/ks_appcred/proofs/BothLemmas.antt", "get_among of crates/ks_base/proofs/NameLemmas.antt"],
-    ["is_not of crates/ks_appcred/proofs/BothLemmas.antt", "other_by of crates/ks_base/proofs/LinkLemmas.antt"],
-    ["none_among of crates/ks_opening/proofs/PutLemmas.antt", "none_among of crates/ks_totp/proofs/OwnerLemmas.antt"],
-    ["none_in of crates/ks_appcred/proofs/BothLemmas.antt", "none_left of crates/ks_base/proofs/LinkLemmas.antt"],
-    ["not_is of crates/ks_appcred/proofs/BothLemmas.antt", "tied_not of crates/ks_base/proofs/LinkLemmas.antt"],
     ["over_zeros of crates/ks_hmac/proofs/HmacLemmas.antt", "over_zeros of crates/ks_totp/proofs/HmacLemmas.antt"],
-    ["stays_if of crates/ks_laws/proofs/TrustLemmas.antt", "not_if of crates/ks_shape/proofs/Base32Lemmas.antt", "not_by of crates/ks_totp/proofs/OwnerLemmas.antt"],
-    ["then_both of crates/ks_appcred/proofs/BothLemmas.antt", "both_eq of crates/ks_opening/proofs/NameLemmas.antt"],
-    ["unless_fault of crates/ks_laws/proofs/ListLemmas.antt", "not_applies of crates/ks_totp/proofs/OwnerLemmas.antt"],
 ]
 
 

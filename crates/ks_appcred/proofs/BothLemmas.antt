@@ -11,18 +11,18 @@ use Rattle.std.specs.List.Sorted.{IsPermutation}
 use Rattle.std.proofs.lemmas.List.{take-append-drop, get_or-map}
 use Rattle.std.proofs.lemmas.List.Sorted.{IsPermutation-sym}
 use Rattle.ks_appcred.specs.Orders.{AreBoth, AreNamed, name_of}
-use Rattle.ks_base.specs.Indexes.{Name, is_named, name_cmp}
+use Rattle.ks_index.specs.Indexes.{Name, is_named, name_cmp}
 use Rattle.ks_base.specs.OrderLaws.{id_exact, then_equal}
 use Rattle.ks_base.specs.Places.{IsFoundAt, IsGapAt}
 use Rattle.ks_base.specs.Rows.{Id, same}
 use Rattle.ks_base.specs.Tables.{Among, IsAscending, drop_row, find_row, has_key, id_cmp}
-use Rattle.ks_base.proofs.AmongLemmas.{among_left, among_mapped, among_parts, among_right, map_among}
-use Rattle.ks_base.proofs.LinkLemmas.{AreParts, among_moved, ascending_same}
-use Rattle.ks_base.proofs.ListLemmas.{length_filter}
-use Rattle.ks_base.proofs.NameLemmas.{name_total}
+use Rattle.ks_base.proofs.AmongLemmas.{among_left, among_mapped, among_parts, among_right, fewer_left, get_among, map_among}
+use Rattle.ks_base.proofs.LinkLemmas.{AreParts, among_moved, ascending_same, none_left, other_by, tied_not}
+use Rattle.ks_index.proofs.NameLemmas.{name_total}
 use Rattle.ks_base.proofs.PlaceLemmas.{ascending_insert, ascending_remove, drop_found, find_found, find_gap}
-use Rattle.ks_base.proofs.RowLemmas.{among_drop, among_filter, among_found, filter_among, found_among, id_same, same_row}
+use Rattle.ks_base.proofs.RowLemmas.{among_drop, among_filter, among_found, filter_among, find_alike, found_among, id_same, same_row}
 use Rattle.ks_base.proofs.TableLemmas.{ascending_filter, some_ids_ascend}
+use Rattle.ks_base.proofs.PairLemmas.{then_both}
 
 pub name_exact : (a b : Name) → name_cmp a b ≡ Equal → a ≡ b
 name_exact a b e =
@@ -76,16 +76,6 @@ both_insert {X} cmp key less other o p row rows names i j both gap space = recor
 
 -- one row less
 
-is_not : (o : Ordering) → (o ≡ Equal → ⊥) → not (is_eq o) ≡ true
-is_not Less other = refl
-is_not Equal other = absurd (other refl)
-is_not Greater other = refl
-
-not_is : (o : Ordering) → o ≡ Equal → not (is_eq o) ≡ true → ⊥
-not_is Less is other = cc
-not_is Equal is other = cc
-not_is Greater is other = cc
-
 drop_among : {X K : Type 0} (cmp : K → K → Ordering) (key : X → K) (k : K) (rows : List X) (x : X) → Among rows x → not (has_key cmp key k x) ≡ true → Among (drop_row cmp key k rows) x
 unfolding drop_row
 drop_among cmp key k rows x among other = filter_among (λ row. not (has_key cmp key k row)) rows x among other
@@ -128,18 +118,18 @@ both_remove {X} cmp key less other o p exact exactly k row rows names i j both f
     forth x among =
         let stays = among_drop cmp key k rows x among in
         drop_among less other (other row) names x (both.forth x stays.0)
-        (is_not (less (other x) (other row)) (λ tied.
+        (other_by (less (other x) (other row)) (λ tied.
         let one : x ≡ row = same_row less other p names x row both.across (both.forth x stays.0) (both.forth row here.0) (exactly (other x) (other row) tied) in
-        not_is (cmp (key x) k) (ap (λ y. cmp (key y) k) one ∙ here.1) stays.1))
+        tied_not (cmp (key x) k) (ap (λ y. cmp (key y) k) one ∙ here.1) stays.1))
 
     back : (x : X) → Among (drop_row less other (other row) names) x → Among (drop_row cmp key k rows) x
     back x among =
         let stays = among_drop less other (other row) names x among in
         drop_among cmp key k rows x (both.back x stays.0)
-        (is_not (cmp (key x) k) (λ tied.
+        (other_by (cmp (key x) k) (λ tied.
         let keys : key x ≡ key row = exact (key x) k tied ∙ sym (exact (key row) k here.1) in
         let one : x ≡ row = same_row cmp key o rows x row both.up (both.back x stays.0) here.0 keys in
-        not_is (less (other x) (other row)) (ap (λ y. less (other y) (other row)) one ∙ tied_itself p (other row)) stays.1))
+        tied_not (less (other x) (other row)) (ap (λ y. less (other y) (other row)) one ∙ tied_itself p (other row)) stays.1))
 
 -- the rows that pass
 pub both_filter : {X K J : Type 0} (cmp : K → K → Ordering) (key : X → K) (less : J → J → Ordering) (other : X → J) (test : X → Bool) (rows names : List X) →
@@ -189,19 +179,10 @@ found_across {X} {K} {J} cmp key less other p exactly k rows names both = by (fi
     by None is None there = there ∙ sym is
     by None is (Some x) there = absurd (none x there is)
 
-then_both : (o p : Ordering) → is_eq (ordering_then o p) ≡ (is_eq o && is_eq p)
-then_both Less p = refl
-then_both Equal p = refl
-then_both Greater p = refl
-
 has_name : {R : Type 0} (home naming : R → List ℕ) (h n : List ℕ) (row : R) → has_key name_cmp (name_of home naming) (h, n) row ≡ is_named home naming h n row
 has_name home naming h n row =
     then_both (id_cmp (home row) h) (id_cmp (naming row) n) ∙ ap (λ b. b && is_eq (id_cmp (naming row) n)) (id_same (home row) h)
     ∙ ap (λ b. same (home row) h && b) (id_same (naming row) n)
-
-find_alike : {X : Type 0} (p q : X → Bool) → ((row : X) → p row ≡ q row) → (rows : List X) → find p rows ≡ find q rows
-find_alike p q alike [] = refl
-find_alike p q alike (row ∷ rows) = rw (alike row) (ap (cond (q row) (Some row)) (find_alike p q alike rows))
 
 find_name : {R : Type 0} (home naming : R → List ℕ) (h n : List ℕ) (rows : List R) → find_row name_cmp (name_of home naming) (h, n) rows ≡ find (is_named home naming h n) rows
 unfolding find_row
@@ -259,7 +240,7 @@ pub filter_dropped : {X K : Type 0} (cmp : K → K → Ordering) (key : X → K)
 unfolding drop_row
 filter_dropped {X} cmp key fails o exact row rows up among fail =
     filter_again (λ x. not (fails x)) (λ x. not (has_key cmp key (key row) x)) rows
-    (λ x there passes. is_not (cmp (key x) (key row)) (λ tied.
+    (λ x there passes. other_by (cmp (key x) (key row)) (λ tied.
     let one : x ≡ row = same_row cmp key o rows x row up there among (exact (key x) (key row) tied) in
     not_true (fails x) (ap fails one ∙ fail) passes))
 
@@ -272,28 +253,12 @@ pub none_of_home : {X K J : Type 0} (cmp : K → K → Ordering) (key : X → K)
     AreBoth cmp key less other rows names → ((x : X) → Among names x → fails x ≡ false) → filter (λ x. not (fails x)) rows ≡ rows
 none_of_home cmp key less other fails rows names both passes = none_fails fails rows (λ x among. passes x (both.forth x among))
 
--- without a row that stands there are fewer
-fewer_by : {X : Type 0} (p : X → Bool) (next x : X) (xs : List X) (b : Bool) → p next ≡ b → p x ≡ false → (next ≡ x) ⊎ Among xs x →
-    (Among xs x → length (filter p xs) < length xs) → length (filter p xs) ≤ length xs → length (cond b (next ∷ filter p xs) (filter p xs)) < length (next ∷ xs)
-fewer_by p next x xs true is fails (inl same) later short = let here : p next ≡ p x = ap p same in cc
-fewer_by p next x xs true is fails (inr among) later short = omega (arith, later among)
-fewer_by p next x xs false is fails among later short = omega (arith, short)
-
-fewer : {X : Type 0} (p : X → Bool) (xs : List X) (x : X) → Among xs x → p x ≡ false → length (filter p xs) < length xs
-fewer p [] x among fails = absurd among
-fewer p (next ∷ xs) x among fails = fewer_by p next x xs (p next) refl fails among (λ later. fewer p xs x later fails) (length_filter p xs)
-
 pub fewer_dropped : {X K : Type 0} (cmp : K → K → Ordering) (key : X → K) → IsTotalOrder cmp → (row : X) (rows : List X) → Among rows row →
     length (drop_row cmp key (key row) rows) < length rows
 unfolding drop_row
-fewer_dropped cmp key o row rows among = fewer (λ x. not (has_key cmp key (key row) x)) rows row among (ap (λ o. not (is_eq o)) (tied_itself o (key row)))
+fewer_dropped cmp key o row rows among = fewer_left (λ x. not (has_key cmp key (key row) x)) rows row among (ap (λ o. not (is_eq o)) (tied_itself o (key row)))
 
 -- what stands at a place
-
-get_among : {X : Type 0} (xs : List X) (i : ℕ) (d : X) → i < length xs → Among xs (get_or xs i d)
-get_among [] i d lt = absurd (omega arith)
-get_among (x ∷ xs) zero d lt = inl refl
-get_among (x ∷ xs) (suc i) d lt = inr (get_among xs i d (omega arith))
 
 pub get_mapped : {A X : Type 0} (value : A → X) (xs : List A) (i : ℕ) (a : A) → a ≡ get_or xs i a → i < length xs → value a ≡ get_or (map value xs) i (value a)
 get_mapped value xs i a is lt = ap value is ∙ sym (get_or-map value xs i a (value a) lt)
@@ -323,14 +288,10 @@ if_none (Some x) P holds = tt
 
 -- ids that went one by one into their order
 
-none_in : {X : Type 0} (left : List X) (x : X) → length left ≡ 0 → Among left x → ⊥
-none_in [] x none among = among
-none_in (next ∷ left) x none among = absurd (omega (arith, none))
-
 pub sorted_parts : {X : Type 0} (done left sorted given : List X) → length left ≡ 0 → AreParts done left sorted → IsPermutation given sorted → (x : X) → Among done x ↔ Among given x
 sorted_parts {X} done left sorted given none parts moved x =
     (λ among. among_moved given sorted x moved ((parts x).0 (inl among)), λ among. by ((parts x).1 (among_moved sorted given x (IsPermutation-sym given sorted moved) among)))
   where
     by : Among done x ⊎ Among left x → Among done x
     by (inl among) = among
-    by (inr among) = absurd (none_in left x none among)
+    by (inr among) = absurd (none_left left x none among)

@@ -7,7 +7,7 @@ use Rattle.std.specs.Ordering.{is_eq, ordering_then}
 use Rattle.std.proofs.lemmas.Cmp.{nat_list_cmp_total}
 use Rattle.ks_appcred.proofs.MappedLemmas.{ascending_unmapped, filter_mapped}
 use Rattle.ks_appcred.specs.Orders.{name_of}
-use Rattle.ks_base.specs.Indexes.{name_cmp}
+use Rattle.ks_index.specs.Indexes.{name_cmp}
 use Rattle.ks_base.specs.OrderLaws.{keyed_run}
 use Rattle.ks_base.specs.Rows.{same}
 use Rattle.ks_base.specs.Runs.{IsRun}

@@ -2,7 +2,7 @@
 use Rattle.std.specs.Prelude.{ℕ, List}
 use Rattle.std.specs.declared.cmp.Ordering.{Ordering}
 use Rattle.ks_base.specs.Tables.{Among, IsAscending, id_cmp}
-use Rattle.ks_base.specs.Indexes.{Name, name_cmp}
+use Rattle.ks_index.specs.Indexes.{Name, name_cmp}
 
 -- the same rows in both lists, each of which ascends by a key of its own
 pub record AreBoth {X K J : Type 0} (cmp : K → K → Ordering) (key : X → K) (less : J → J → Ordering) (other : X → J) (rows names : List X) : Type 0 where

@@ -1,7 +1,7 @@
 //! Rows that are found by their ids, by their homes and by their names there.
 ghost use Rattle.std.specs.Prelude.{◌≡◌, [], not, filter, find, is_some, length, map, None, option_copied, IfOk, OnErr, OnOk};
 ghost use Rattle.std.specs.Arc.{arc_value};
-ghost use Rattle.ks_base.specs.Indexes.{is_named};
+ghost use Rattle.ks_index.specs.Indexes.{is_named};
 ghost use Rattle.ks_base.specs.Rows.{same};
 ghost use Rattle.ks_base.specs.Tables.{id_cmp, IsAscending, find_row, put_row, drop_row};
 

@@ -1,12 +1,13 @@
 -- What stands in a list.
-use Rattle.std.proofs.Common.{◌≡◌, Bool, true, false, ◌||◌, ◌⊎◌, inl, inr, List, [], ◌∷◌, ◌++◌, map, refl, ap, subst, ◌∙◌, sym}
-use Rattle.std.specs.List.{AllByRecursion, flat_map, list_any}
+use Rattle.std.proofs.Common.{◌≡◌, ℕ, zero, suc, ◌<◌, Bool, true, false, ◌||◌, ◌⊎◌, inl, inr, List, [], ◌∷◌, ◌++◌, length, map, get_or, refl, ap, subst, ◌∙◌, sym, arith}
+use Rattle.std.specs.List.{AllByRecursion, filter, flat_map, list_any}
 use Rattle.std.proofs.lemmas.Bool.{or_right}
 use Rattle.std.proofs.lemmas.Bool.Decides.{Decides-or, Decides-like}
 use Rattle.std.proofs.lemmas.Slice.Eq.{bytes_eq-Decides}
 use Rattle.std.specs.Bool.{Decides}
 use Rattle.ks_base.specs.Tables.{Among}
 use Rattle.ks_base.specs.Rows.{Id, has_id, same}
+use Rattle.ks_base.proofs.ListLemmas.{fewer_behind, fewer_here, length_filter}
 
 -- what holds of each
 
@@ -125,3 +126,18 @@ among-Decides {X} test item each xs = Decides-like (list_any test xs) forth (λ 
 
 pub has_id-Decides : (id : Id) (ids : List Id) → Decides (has_id ids id) (Among ids id)
 has_id-Decides id ids = among-Decides (λ other. same other id) id (λ other. bytes_eq-Decides other id) ids
+
+-- what stands at a place
+
+pub get_among : {X : Type 0} (xs : List X) (i : ℕ) (d : X) → i < length xs → Among xs (get_or xs i d)
+get_among [] i d lt = absurd (omega arith)
+get_among (x ∷ xs) zero d lt = inl refl
+get_among (x ∷ xs) (suc i) d lt = inr (get_among xs i d (omega arith))
+
+-- where one does not pass, fewer are left
+pub fewer_left : {X : Type 0} (test : X → Bool) (rows : List X) (row : X) → Among rows row → test row ≡ false → length (filter test rows) < length rows
+fewer_left test [] row among fails = absurd among
+fewer_left test (next ∷ rows) row (inl same) fails =
+    fewer_here (test next) true next (filter test rows) rows (ap test same ∙ fails) refl (length_filter test rows)
+fewer_left test (next ∷ rows) row (inr later) fails =
+    fewer_behind (test next) true next (filter test rows) rows (λ passes. refl) (fewer_left test rows row later fails)

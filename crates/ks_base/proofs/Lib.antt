@@ -2,11 +2,8 @@ pub mod AmongLemmas
 pub mod ChainLemmas
 pub mod GrantLemmas
 pub mod IdLemmas
-pub mod IndexLemmas
-pub mod KeepLemmas
 pub mod LinkLemmas
 pub mod ListLemmas
-pub mod NameLemmas
 pub mod OptionLemmas
 pub mod PairLemmas
 pub mod PlaceLemmas

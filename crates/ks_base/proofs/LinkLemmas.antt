@@ -34,12 +34,12 @@ drop_among : {X : Type 0} (cmp : X → X → Ordering) (k : X) (rows : List X) (
 unfolding drop_row
 drop_among cmp k rows x among other = filter_among (λ row. not (has_key cmp (λ r. r) k row)) rows x among other
 
-other_by : (o : Ordering) → (o ≡ Equal → ⊥) → not (is_eq o) ≡ true
+pub other_by : (o : Ordering) → (o ≡ Equal → ⊥) → not (is_eq o) ≡ true
 other_by Less other = refl
 other_by Equal other = absurd (other refl)
 other_by Greater other = refl
 
-tied_not : (o : Ordering) → o ≡ Equal → not (is_eq o) ≡ true → ⊥
+pub tied_not : (o : Ordering) → o ≡ Equal → not (is_eq o) ≡ true → ⊥
 tied_not Less is other = cc
 tied_not Equal is other = cc
 tied_not Greater is other = cc
@@ -239,7 +239,7 @@ parts_moved {X} cmp exact done new left rest whole side is put parts x = (forth,
     back (inl among) = inl (subst (λ l. Among l x) (sym put) (kept_beside cmp exact side done x among))
     back (inr among) = last (among_push rest side x (subst (λ l. Among l x) is among))
 
-none_left : {X : Type 0} (left : List X) (x : X) → length left ≡ 0 → Among left x → ⊥
+pub none_left : {X : Type 0} (left : List X) (x : X) → length left ≡ 0 → Among left x → ⊥
 none_left [] x none among = among
 none_left (next ∷ left) x none among = absurd (omega (arith, none))
 

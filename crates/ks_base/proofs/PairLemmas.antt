@@ -1,13 +1,18 @@
 -- Rows that ascend by two ids: those with one of the two ascend by the other.
-use Rattle.std.proofs.Common.{◌≡◌, ℕ, true, List, map, filter, refl, sym, ap, ◌∙◌}
+use Rattle.std.proofs.Common.{◌≡◌, ℕ, true, ◌&&◌, List, map, filter, refl, sym, ap, ◌∙◌}
 use Rattle.std.specs.declared.cmp.Ordering.{Ordering}
 use Rattle.std.specs.declared.cmp.Ordering.TheVariants.{Less, Equal, Greater}
-use Rattle.std.specs.Ordering.{ordering_then, then_cmp, on}
+use Rattle.std.specs.Ordering.{is_eq, ordering_then, then_cmp, on}
 use Rattle.std.specs.Str.{bytes_eq}
 use Rattle.std.proofs.lemmas.Cmp.{tied_itself, nat_list_cmp_total}
 use Rattle.std.proofs.lemmas.Slice.Eq.{bytes_eq-Decides}
 use Rattle.ks_base.specs.Tables.{id_cmp, IsAscending}
 use Rattle.ks_base.proofs.TableLemmas.{ascending_part}
+
+pub then_both : (first second : Ordering) → is_eq (ordering_then first second) ≡ (is_eq first && is_eq second)
+then_both Less second = refl
+then_both Equal second = refl
+then_both Greater second = refl
 
 tied : (id a b : List ℕ) → bytes_eq a id ≡ true → bytes_eq b id ≡ true → id_cmp a b ≡ Equal
 tied id a b is also = rw ((bytes_eq-Decides a id).0 is, (bytes_eq-Decides b id).0 also) (tied_itself nat_list_cmp_total id)

@@ -26,9 +26,20 @@ id_same a b =
     same_tests (id_cmp a b) (bytes_eq a b) (λ e. (bytes_eq-Decides a b).1 (id_exact a b e))
     (λ t. let e = (bytes_eq-Decides a b).0 t in rw e (tied_itself nat_list_cmp_total b))
 
-find_alike : {X : Type 0} (p q : X → Bool) → ((row : X) → p row ≡ q row) → (rows : List X) → find p rows ≡ find q rows
+pub find_alike : {X : Type 0} (p q : X → Bool) → ((row : X) → p row ≡ q row) → (rows : List X) → find p rows ≡ find q rows
 find_alike p q same [] = refl
 find_alike p q same (row ∷ rows) = rw (same row) (ap (cond (q row) (Some row)) (find_alike p q same rows))
+
+-- what is not found is not there
+none_among_by : {X : Type 0} (test : X → Bool) (next row : X) (rows : List X) (b : Bool) → test next ≡ b → cond b (Some next) (find test rows) ≡ None →
+    Among (next ∷ rows) row → (find test rows ≡ None → Among rows row → test row ≡ false) → test row ≡ false
+none_among_by test next row rows true is none among later = cc
+none_among_by test next row rows false is none (inl same) later = ap test (sym same) ∙ is
+none_among_by test next row rows false is none (inr among) later = later none among
+
+pub none_among : {X : Type 0} (test : X → Bool) (rows : List X) (row : X) → find test rows ≡ None → Among rows row → test row ≡ false
+none_among test [] row none among = absurd among
+none_among test (next ∷ rows) row none among = none_among_by test next row rows (test next) refl none among (none_among test rows row)
 
 -- a look-up by id is the first row whose id has these bytes
 pub find_by_id : {X : Type 0} (key : X → List ℕ) (id : List ℕ) (rows : List X) → find_row id_cmp key id rows ≡ find (λ row. bytes_eq (key row) id) rows

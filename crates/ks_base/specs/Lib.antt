@@ -7,7 +7,6 @@ pub mod Filters
 pub mod Grants
 pub mod IdFields
 pub mod Ids
-pub mod Indexes
 pub mod Limits
 pub mod Links
 pub mod OrderLaws

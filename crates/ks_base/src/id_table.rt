@@ -1,7 +1,7 @@
 ghost use Rattle.std.specs.Prelude.{◌≡◌, [], find, filter, is_some, length, map, option_copied, IfOk, IsOk, IsSome, OnOk, OnErr};
 ghost use Rattle.ks_base.specs.Tables.{id_cmp, IsAscending, find_row, put_row, drop_row};
 
-use crate::table::{ids_of, ids_passing, place};
+use crate::by_id::{ids_of, ids_passing, place};
 use crate::{Id, IdList, Memory, Row, Test};
 use std::alloc::Global;
 use std::marker::Model;

@@ -3,6 +3,7 @@
 #![tactic(auto)]
 
 mod app_creds;
+pub mod by_id;
 mod bytes;
 mod catalog;
 mod events;
@@ -12,12 +13,10 @@ mod grants;
 mod id;
 mod id_table;
 mod ids;
-mod index;
 mod key;
 mod kinds;
 mod laws;
 pub mod limits;
-mod links;
 mod list;
 mod lists;
 mod memory;
@@ -26,10 +25,11 @@ mod named;
 mod near;
 mod receipt;
 mod refusal;
+mod row;
 mod row_set;
 mod rows;
 mod shapes;
-mod table;
+mod sides;
 mod text;
 mod trusts;
 mod users;
@@ -53,7 +53,6 @@ pub use laws::{
     inherited_misses_its_domain, named_is_implied, new_trust_leads_as_its_parent,
     on_domain_is_direct, trust_goes_with_those_above, trust_leads_to_its_first_trustor,
 };
-pub use links::{Far, Links, Side};
 pub use list::{ListOf, TryCopy};
 pub use lists::{
     AppCredList, DomainList, EndpointList, EventList, FieldList, GrantList, GroupList, IdList,
@@ -62,14 +61,15 @@ pub use lists::{
 };
 pub use memory::Memory;
 pub use method::Method;
-pub use named::{Homed, InDomain, Named, NamedIn, OtherNamedIn, OtherWithName, Outside, WithName};
+pub use named::{Homed, InDomain, Named, Outside};
 pub use near::{Near, run_of};
 pub use receipt::{Drawn, Receipt};
 pub use refusal::refuse_if;
+pub use row::{Row, Test};
 pub use row_set::{Ordered, RowSet};
 pub use rows::{DomainRow, GroupRow, ProjectRow, RoleRow};
 pub use shapes::{Filter, ShapeFault, ShapeRefusal};
-pub use table::{Row, Table, Test};
+pub use sides::{Far, Side};
 pub use text::Text;
 pub use trusts::TrustRow;
 pub use users::{ByUser, InGroup, MemberRow, OfUser, PasswordRow, UserRow};

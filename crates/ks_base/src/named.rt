@@ -28,20 +28,6 @@ pub trait Homed: Row {
         ensures { result.now ≡ home self.now };
 }
 
-/// Rows with this name.
-#[derive(Drop)]
-pub struct WithName<'a> {
-    pub name: &'a Text,
-}
-
-impl<R: Named> Test<R> for WithName<'_> {
-    ghost test = { λ wanted row. same (R.naming row) wanted.name.now };
-
-    fn test(&self, row: &R) -> bool {
-        *row.name() == *self.name
-    }
-}
-
 /// Rows of this domain.
 #[derive(Drop)]
 pub struct InDomain<'a> {
@@ -67,50 +53,5 @@ impl<R: Homed> Test<R> for Outside<'_> {
 
     fn test(&self, row: &R) -> bool {
         *row.domain() != *self.domain
-    }
-}
-
-/// Rows of this domain with this name.
-#[derive(Drop)]
-pub struct NamedIn<'a> {
-    pub domain: &'a Id,
-    pub name: &'a Text,
-}
-
-impl<R: Homed + Named> Test<R> for NamedIn<'_> {
-    ghost test = { λ wanted row. same (R.home row) wanted.domain.now && same (R.naming row) wanted.name.now };
-
-    fn test(&self, row: &R) -> bool {
-        *row.domain() == *self.domain && *row.name() == *self.name
-    }
-}
-
-/// Other rows with the name of this one.
-#[derive(Drop)]
-pub struct OtherWithName<'a, R> {
-    pub row: &'a R,
-}
-
-impl<R: Named> Test<R> for OtherWithName<'_, R> {
-    ghost test = { λ wanted row. not (same (R.key row) (R.key wanted.row.now)) && same (R.naming row) (R.naming wanted.row.now) };
-
-    fn test(&self, row: &R) -> bool {
-        *row.id() != *self.row.id() && *row.name() == *self.row.name()
-    }
-}
-
-/// Other rows with the domain and name of this one.
-#[derive(Drop)]
-pub struct OtherNamedIn<'a, R> {
-    pub row: &'a R,
-}
-
-impl<R: Homed + Named> Test<R> for OtherNamedIn<'_, R> {
-    ghost test = { λ wanted row. not (same (R.key row) (R.key wanted.row.now)) && (same (R.home row) (R.home wanted.row.now) && same (R.naming row) (R.naming wanted.row.now)) };
-
-    fn test(&self, row: &R) -> bool {
-        *row.id() != *self.row.id()
-            && *row.domain() == *self.row.domain()
-            && *row.name() == *self.row.name()
     }
 }

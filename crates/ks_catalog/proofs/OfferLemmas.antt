@@ -21,6 +21,7 @@ use Rattle.ks_catalog.specs.declared.offers.EndpointOut.{EndpointOut}
 use Rattle.ks_catalog.specs.declared.offers.ServiceOut.{ServiceOut}
 use Rattle.ks_catalog.specs.ProjectCatalog.{endpoint_out, endpoints_out, serves, service_out, services_out}
 use Rattle.ks_catalog.specs.steps.Offers.{bare_services, with_endpoint}
+use Rattle.ks_base.proofs.TruthLemmas.{and_none}
 
 -- ---- the endpoints so far, and one more
 
@@ -117,19 +118,15 @@ disabled project row [] is = refl
 disabled project row (service ∷ services) is =
     past project row service services services (disabled_at row service.id is) (disabled project row services is)
 
-both : (a b : Bool) → b ≡ false → (a && b) ≡ false
-both true b is = is
-both false b is = refl
-
 -- by how the service's id compares with the endpoint's service
 compared : (row : EndpointRow) (id : Id) (o : Ordering) → id_cmp id row.service ≡ o → same row.service id ≡ is_eq (ordering_reverse o)
 compared row id o is = sym (id_same row.service id) ∙ ap is_eq (nat_list_cmp_total.antisymm row.service id ∙ ap ordering_reverse is)
 
 below : (row : EndpointRow) (id : Id) → id_cmp id row.service ≡ Less → serves id row ≡ false
-below row id is = both row.enabled (same row.service id) (compared row id Less is)
+below row id is = and_none row.enabled (same row.service id) (compared row id Less is)
 
 above : (row : EndpointRow) (id : Id) → id_cmp id row.service ≡ Greater → serves id row ≡ false
-above row id is = both row.enabled (same row.service id) (compared row id Greater is)
+above row id is = and_none row.enabled (same row.service id) (compared row id Greater is)
 
 at_service : (row : EndpointRow) (id : Id) → row.enabled ≡ true → id_cmp id row.service ≡ Equal → serves id row ≡ true
 at_service row id enabled is = ap (λ (b : Bool). b && same row.service id) enabled ∙ compared row id Equal is

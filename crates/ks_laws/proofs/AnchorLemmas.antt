@@ -44,13 +44,14 @@ use Rattle.ks_base.proofs.AmongLemmas.{among_mapped, any_to}
 use Rattle.ks_base.proofs.ListLemmas.{find_kept}
 use Rattle.ks_laws.specs.Orderly.{AreAnchored, AreCredentialsAnchored, Each, IsCatalogAnchored, IsCredAnchored, IsGrantAnchored, IsImplicationAnchored, IsMemberAnchored, IsTrustAnchored, UserStands}
 use Rattle.ks_laws.proofs.CatalogLemmas.{anchored_endpoint_dropped, anchored_endpoint_put, anchored_region_dropped, anchored_region_put, anchored_service_dropped, anchored_service_put}
-use Rattle.ks_laws.proofs.ListLemmas.{after_drop, each_drop, each_of_all, each_put, found_is_among, is_same, is_there, none_apply, other_stands, same_is, stands_put, unless_fault}
+use Rattle.ks_laws.proofs.ListLemmas.{after_drop, each_drop, each_of_all, each_put, found_is_among, is_same, is_there, none_apply, other_stands, same_is, stands_put}
 use Rattle.ks_machine.specs.declared.change.Change.{Change}
 use Rattle.ks_machine.specs.declared.change.Change.TheVariants as change
 use Rattle.ks_machine.specs.Changes.{domain_dropped, group_dropped, is_actor_gone, is_cred_left, is_domain_group, is_domain_project, is_domain_user, is_grant_left, is_id_of, is_left, is_of_domain, is_target_gone, project_dropped, role_dropped, rows_after, touches, user_dropped}
 use Rattle.ks_machine.specs.Lawful.{ActorStands, Fits, IsAppCredMade, IsStanding, IsTrustMade, TargetStands}
 use Rattle.ks_machine.specs.States.{State}
 use Rattle.ks_machine.specs.Tables.{catalogs, factors, people, put_factors, put_people, roles}
+use Rattle.ks_base.proofs.RefusalLemmas.{unless_fault}
 
 -- tests
 

@@ -17,9 +17,10 @@ use Rattle.ks_base.proofs.OptionLemmas.{none_mapped}
 use Rattle.ks_base.proofs.RowLemmas.{among_drop, among_filter}
 use Rattle.ks_base.proofs.TableLemmas.{ascending_drop, ascending_filter, ascending_put}
 use Rattle.ks_laws.specs.Orderly.{Each, IsCatalogAnchored, IsCatalogInOrder, IsCatalogInRange, IsEndpointAnchored, RegionStands}
-use Rattle.ks_laws.proofs.ListLemmas.{each_drop, each_filter, each_put, found_none, is_there, none_apply, other_stands, put_gives, stands_put, unless_fault}
+use Rattle.ks_laws.proofs.ListLemmas.{each_drop, each_filter, each_put, found_none, is_there, none_apply, other_stands, put_gives, stands_put}
 use Rattle.ks_machine.specs.Lawful.{IsPut, IsStanding}
 use Rattle.ks_machine.specs.Ranges.{IsEndpointInRange, IsRegionInRange, IsServiceInRange}
+use Rattle.ks_base.proofs.RefusalLemmas.{unless_fault}
 
 -- ranges
 

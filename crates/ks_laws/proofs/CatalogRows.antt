@@ -18,7 +18,7 @@ use Rattle.ks_base.specs.Rows.{Id, Text}
 use Rattle.ks_base.proofs.OptionLemmas.{none_is}
 use Rattle.ks_laws.specs.Orderly.{IsOrderly}
 use Rattle.ks_laws.proofs.GivesLemmas.{Gives, IsGood, gives_bind, gives_fault, gives_found, gives_past, good_changes}
-use Rattle.ks_laws.proofs.ListLemmas.{found_by_own, found_is_among, none_apply, put_new, put_standing, unless_fault}
+use Rattle.ks_laws.proofs.ListLemmas.{found_by_own, found_is_among, none_apply, put_new, put_standing}
 use Rattle.ks_laws.proofs.RowCommands.{description_or, made_description}
 use Rattle.ks_machine.specs.declared.body_out.BodyOut.TheVariants as body
 use Rattle.ks_machine.specs.declared.body_out.Row.TheVariants as row
@@ -35,6 +35,7 @@ use Rattle.ks_machine.specs.Ranges.{IsEndpointInRange, IsEndpointUrl, IsServiceI
 use Rattle.ks_machine.specs.States.{State}
 use Rattle.ks_machine.specs.Tables.{catalog_cause, catalogs, standing_endpoint, standing_region, standing_service, unless_catalog}
 use Rattle.ks_machine.specs.Updates.{unchanged}
+use Rattle.ks_base.proofs.RefusalLemmas.{unless_fault}
 
 -- fields
 

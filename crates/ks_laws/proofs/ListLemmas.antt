@@ -177,10 +177,6 @@ two_none None None first second = refl
 two_none None (Some fault) first second = cc
 two_none (Some fault) b first second = cc
 
-pub unless_fault : {F : Type 0} (applies : Bool) (fault : F) → fault_if applies fault ≡ None → applies ≡ false
-unless_fault true fault none = cc
-unless_fault false fault none = refl
-
 pub is_there : {R : Type 0} (row : Option R) → not (is_some row) ≡ false → is_some row ≡ true
 is_there None none = cc
 is_there (Some row) none = refl

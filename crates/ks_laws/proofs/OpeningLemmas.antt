@@ -45,7 +45,7 @@ use Rattle.ks_base.proofs.AmongLemmas.{among_parts, among_left, among_right, any
 use Rattle.ks_laws.specs.Ancestries.{HasAncestry}
 use Rattle.ks_laws.specs.Laws.{OpenedIsOrderly}
 use Rattle.ks_laws.specs.Orderly.{AreAnchored, AreInOrder, AreNamesUnique, ArePeopleOrderly, AreTreesOrderly, AreTrustsOrderly, DomainStands, Each, IsCatalogAnchored, IsCatalogInOrder, IsCatalogInRange, IsEndpointAnchored, IsGrantAnchored, IsImplicationAnchored, IsMemberAnchored, RegionStands}
-use Rattle.ks_laws.proofs.ListLemmas.{after_put, each_of_all, found_none, is_same, is_there, none_apply, same_is, unless_fault}
+use Rattle.ks_laws.proofs.ListLemmas.{after_put, each_of_all, found_none, is_same, is_there, none_apply, same_is}
 use Rattle.ks_machine.specs.declared.settings.OpenFault.{OpenFault}
 use Rattle.ks_machine.specs.declared.settings.OpenFault.TheVariants as fault
 use Rattle.ks_machine.specs.Lawful.{ActorStands, IsOpeningInRange, IsStanding, TargetStands}
@@ -55,6 +55,7 @@ use Rattle.ks_machine.specs.Ranges.{IsDomainInRange, IsEndpointInRange, IsGroupI
 use Rattle.ks_machine.specs.Tables.{catalogs}
 use Rattle.ks_ring.specs.Rings.{no_ring, refusal_of}
 use Rattle.ks_ring.proofs.LawLemmas.{loading_adds_few}
+use Rattle.ks_base.proofs.RefusalLemmas.{unless_fault}
 
 -- rows that are put one after the other
 

@@ -24,7 +24,7 @@ use Rattle.ks_base.proofs.TruthLemmas.{not_both}
 use Rattle.ks_base.proofs.OptionLemmas.{none_is}
 use Rattle.ks_laws.specs.Orderly.{AreNamesUnique, IsOrderly}
 use Rattle.ks_laws.proofs.GivesLemmas.{Gives, IsGood, gives_bind, gives_fault, gives_found, gives_go, gives_past, good_changes}
-use Rattle.ks_laws.proofs.ListLemmas.{found_by_own, found_is_among, is_same, none_apply, none_found, put_new, put_standing, same_is, two_none, unless_fault}
+use Rattle.ks_laws.proofs.ListLemmas.{found_by_own, found_is_among, is_same, none_apply, none_found, put_new, put_standing, same_is, two_none}
 use Rattle.ks_machine.specs.declared.bodies.Made.{Made}
 use Rattle.ks_machine.specs.declared.bodies.Made.TheVariants as made
 use Rattle.ks_machine.specs.declared.bodies.MfaIn.{MfaIn}
@@ -45,6 +45,7 @@ use Rattle.ks_machine.specs.States.{State, is_user_on}
 use Rattle.ks_machine.specs.Tables.{row_cause, tree_cause, people, roles, standing_domain, standing_group, standing_project, standing_role, standing_user, trees, unless_row, unless_tree}
 use Rattle.ks_machine.specs.Updates.{unchanged, update, update_domain, update_group, update_project, update_role, update_user}
 use Rattle.ks_machine.specs.Validity.{Valid}
+use Rattle.ks_base.proofs.RefusalLemmas.{unless_fault}
 
 -- fields
 

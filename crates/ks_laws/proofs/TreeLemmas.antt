@@ -20,9 +20,10 @@ use Rattle.ks_base.proofs.OptionLemmas.{none_mapped}
 use Rattle.ks_base.proofs.ListLemmas.{find_kept, length_filter}
 use Rattle.ks_laws.specs.Ancestries.{HasAncestry, IsAncestry}
 use Rattle.ks_laws.specs.Orderly.{AreTreesOrderly, DomainStands, Each}
-use Rattle.ks_laws.proofs.ListLemmas.{after_drop, after_put, each_drop, each_filter, each_put, found_is_among, found_none, is_same, is_there, more_pass, none_apply, same_is, stands_put, unless_fault}
+use Rattle.ks_laws.proofs.ListLemmas.{after_drop, after_put, each_drop, each_filter, each_put, found_is_among, found_none, is_same, is_there, more_pass, none_apply, same_is, stands_put}
 use Rattle.ks_machine.specs.Lawful.{IsPut}
 use Rattle.ks_machine.specs.Ranges.{IsDomainInRange, IsProjectInRange}
+use Rattle.ks_base.proofs.RefusalLemmas.{unless_fault}
 
 -- domains
 

@@ -7,7 +7,7 @@ use Rattle.ks_base.specs.Rows.{Id, Rows, same}
 use Rattle.ks_base.specs.Tables.{Among, id_cmp, put_row}
 use Rattle.ks_base.specs.Trusts.{goes, trusts_left, use_trust, used}
 use Rattle.ks_base.proofs.ChainLemmas.{goes_down}
-use Rattle.ks_base.proofs.TruthLemmas.{not_both}
+use Rattle.ks_base.proofs.TruthLemmas.{not_both, not_if}
 use Rattle.ks_base.proofs.AmongLemmas.{among_mapped}
 use Rattle.ks_base.proofs.TrustLemmas.{chained_put, chained_left, chained_used, made_new, made_chained, after_use, use_leaves, IsSameBut}
 use Rattle.ks_laws.specs.Orderly.{AreTrustsOrderly, IsTrustHeld}
@@ -42,16 +42,12 @@ trusts_put rows moment new made old = record {
 
 -- trusts that go take those below with them
 
-stays_if : (b : Bool) → (b ≡ true → ⊥) → not b ≡ true
-stays_if true fails = absurd (fails refl)
-stays_if false fails = refl
-
 pub trusts_gone_from : (trusts : List TrustRow) (touched : TrustRow → Bool) → AreTrustsOrderly trusts → AreTrustsOrderly (trusts_left trusts touched)
 trusts_gone_from trusts touched old = record {
   range = each_filter IsTrustHeld (λ trust. not (goes trusts touched trust)) trusts old.range;
   chains =
       chained_left (λ trust. not (goes trusts touched trust)) trusts old.chains
-      (λ trust parent among stays found. stays_if (goes trusts touched parent)
+      (λ trust parent among stays found. not_if (goes trusts touched parent)
       (λ gone. not_both (goes trusts touched trust) stays (goes_down trusts touched trust parent old.chains among found gone)));
 }
 

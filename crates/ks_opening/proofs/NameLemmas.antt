@@ -21,6 +21,7 @@ use Rattle.ks_machine.specs.declared.settings.OpenFault.TheVariants as fault
 use Rattle.ks_machine.specs.Opened.{first_in, name_repeated}
 use Rattle.ks_opening.specs.steps.Indexed.{has_name_of}
 use Rattle.ks_opening.proofs.FindLemmas.{first_end, first_here, first_later, same_test}
+use Rattle.ks_base.proofs.PairLemmas.{then_both}
 
 -- homes and names in their order
 
@@ -42,16 +43,11 @@ full_total = then_total (on_total (λ t. t.0) nat_list_cmp_total) (on_total (λ 
 abbrev pub full_of : {R : Type 0} → (R → Id) → (R → Text) → R → Full
 full_of home name row = (home row, name row)
 
-both_eq : (o p : Ordering) → is_eq (ordering_then o p) ≡ (is_eq o && is_eq p)
-both_eq Less p = refl
-both_eq Equal p = refl
-both_eq Greater p = refl
-
 -- a row has the name of another exactly if it is found by it
 named_is : {R : Type 0} (home : R → Id) (name : R → Text) (row other : R) →
     has_key full_cmp (full_of home name) (home row, name row) other ≡ has_name_of home name row other
 named_is home name row other =
-    both_eq (id_cmp (home other) (home row)) (id_cmp (name other) (name row))
+    then_both (id_cmp (home other) (home row)) (id_cmp (name other) (name row))
     ∙ ap (λ b. b && is_eq (id_cmp (name other) (name row))) (id_same (home other) (home row))
     ∙ ap (λ b. same (home other) (home row) && b) (id_same (name other) (name row))
 

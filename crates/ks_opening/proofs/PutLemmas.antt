@@ -9,7 +9,7 @@ use Rattle.std.specs.Ordering.{is_eq, ordering_reverse}
 use Rattle.std.proofs.lemmas.Cmp.{alike_right, tied_back, tied_itself}
 use Rattle.std.proofs.lemmas.List.Sorted.{IsPermutation-sym}
 use Rattle.ks_base.specs.Tables.{Among, AreAbove, IsAscending, find_row, has_key, put_row}
-use Rattle.ks_base.proofs.RowLemmas.{find_put, find_put_other, found_among, eq_is, find_above}
+use Rattle.ks_base.proofs.RowLemmas.{eq_is, find_above, find_put, find_put_other, found_among, none_among}
 use Rattle.ks_base.proofs.TableLemmas.{ascending_put}
 use Rattle.ks_base.proofs.AmongLemmas.{all_among}
 use Rattle.ks_base.proofs.LinkLemmas.{among_moved}
@@ -127,16 +127,6 @@ apart_tells cmp key o (row ∷ rows) apart a b (inl left) (inr second) is =
 apart_tells cmp key o (row ∷ rows) apart a b (inr first) (inl right) is =
     absurd (apart_from cmp key row a rows apart.0 first (ap (λ (x : _). cmp (key a) (key x)) right ∙ is))
 apart_tells cmp key o (row ∷ rows) apart a b (inr first) (inr second) is = apart_tells cmp key o rows apart.1 a b first second is
-
-none_among_by : {X : Type 0} (test : X → Bool) (next row : X) (rows : List X) (b : Bool) → test next ≡ b → cond b (Some next) (find test rows) ≡ None →
-    Among (next ∷ rows) row → (find test rows ≡ None → Among rows row → test row ≡ false) → test row ≡ false
-none_among_by test next row rows true is none among later = cc
-none_among_by test next row rows false is none (inl same) later = ap test (sym same) ∙ is
-none_among_by test next row rows false is none (inr among) later = later none among
-
-none_among : {X : Type 0} (test : X → Bool) (rows : List X) (row : X) → find test rows ≡ None → Among rows row → test row ≡ false
-none_among test [] row none among = absurd among
-none_among test (next ∷ rows) row none among = none_among_by test next row rows (test next) refl none among (none_among test rows row)
 
 found_there : {K X : Type 0} (cmp : K → K → Ordering) (key : X → K) (k : K) (rows others : List X) (row : X) → find_row cmp key k rows ≡ Some row →
     find_row cmp key k others ≡ None → (Among rows row → Among others row) → ⊥

@@ -8,9 +8,10 @@ ghost use Rattle.ks_opening.specs.steps.Tables.{catalog_with, grants_with, peopl
 use ks_assign::Grants;
 use ks_base::{
     DomainList, EndpointList, GrantList, GroupList, IdTable, ImplyList, ListOf, MemberList, Memory,
-    Named, Ordered, ProjectList, RegionList, RoleList, Row, RowSet, ServiceList, Table, UserList,
+    Named, Ordered, ProjectList, RegionList, RoleList, Row, RowSet, ServiceList, UserList,
 };
 use ks_catalog::Catalog;
+use ks_index::Table;
 use ks_people::People;
 use ks_roles::Roles;
 use ks_tree::Tree;

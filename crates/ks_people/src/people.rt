@@ -1,6 +1,7 @@
 ghost use Rattle.std.specs.Prelude.{◌≡◌, [], filter, IfOk};
 
-use ks_base::{ByUser, GroupRow, Links, MemberRow, Memory, RowSet, Table, Test, UserRow};
+use ks_base::{ByUser, GroupRow, MemberRow, Memory, RowSet, Test, UserRow};
+use ks_index::{Links, Table};
 use std::alloc::Global;
 use std::marker::Model;
 

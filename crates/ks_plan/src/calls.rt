@@ -32,6 +32,9 @@ use ks_checks::{Caller, Halt, Plan};
 use ks_delegations::app_cred_creations::create_app_cred;
 use ks_delegations::app_creds::{delete_app_cred, get_app_cred, list_app_creds};
 use ks_delegations::trusts::{create_trust, delete_trust, get_trust, list_trusts, roles_of_trust};
+use ks_listings::catalog_shown::show_catalog;
+use ks_listings::listings::list;
+use ks_listings::secrets::{get_secret, list_secrets};
 use ks_logins::login::login;
 use ks_machine::{BodyOut, Call, Cause, Change, Command};
 use ks_policy::Rules;
@@ -41,11 +44,9 @@ use ks_relations::members::{
     groups_of, implication, implied, imply, is_implied, is_in, join, leave, members_of, unimply,
 };
 use ks_rows::catalog_creations::create_catalog;
-use ks_rows::catalog_shown::show_catalog;
 use ks_rows::catalog_updates::update_catalog;
 use ks_rows::creations::create;
-use ks_rows::factors::{create_secret, delete_secret, get_secret, list_secrets};
-use ks_rows::listings::list;
+use ks_rows::factors::{create_secret, delete_secret};
 use ks_rows::single::{delete, get};
 use ks_rows::updates::update;
 use ks_targets::catalog_kinds::catalog_kind;

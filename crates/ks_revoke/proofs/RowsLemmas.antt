@@ -10,6 +10,7 @@ use Rattle.std.proofs.lemmas.Cmp.{tied_itself}
 use Rattle.ks_base.specs.Tables.{Among, IsAscending, has_key, put_by, put_row}
 use Rattle.ks_base.proofs.ListLemmas.{fewer_behind, fewer_here, length_filter}
 use Rattle.ks_base.proofs.RowLemmas.{above_among, filter_among}
+use Rattle.ks_base.proofs.AmongLemmas.{fewer_left}
 
 pub push_among : {X : Type 0} (rows : List X) (last row : X) → Among rows row → Among (rows ++ last ∷ []) row
 push_among [] last row among = absurd among
@@ -43,14 +44,6 @@ pub filter_again : {X : Type 0} (wide narrow : X → Bool) → ((row : X) → na
     filter narrow (filter wide rows) ≡ filter narrow rows
 filter_again wide narrow within [] = refl
 filter_again wide narrow within (row ∷ rows) = again_by wide narrow row rows (filter wide rows) (wide row) refl (within row) (filter_again wide narrow within rows)
-
--- where one does not pass, fewer are left
-fewer_left : {X : Type 0} (test : X → Bool) (rows : List X) (row : X) → Among rows row → test row ≡ false → length (filter test rows) < length rows
-fewer_left test [] row among fails = absurd among
-fewer_left test (next ∷ rows) row (inl same) fails =
-    fewer_here (test next) true next (filter test rows) rows (ap test same ∙ fails) refl (length_filter test rows)
-fewer_left test (next ∷ rows) row (inr later) fails =
-    fewer_behind (test next) true next (filter test rows) rows (λ passes. refl) (fewer_left test rows row later fails)
 
 -- rows that ascend are no more than those among which each of them is
 pub ascending_few : {K X : Type 0} (cmp : K → K → Ordering) (key : X → K) → IsTotalOrder cmp → (rows others : List X) → IsAscending cmp key rows →

@@ -3,7 +3,8 @@ ghost use Rattle.ks_base.specs.Rows.{role_of};
 ghost use Rattle.ks_base.specs.Tables.{id_cmp, IsAscending};
 ghost use Rattle.ks_base.specs.RoleLists.{is_named};
 
-use ks_base::{Id, ImplyRow, RoleRow, RowSet, Table, Text};
+use ks_base::{Id, ImplyRow, RoleRow, RowSet, Text};
+use ks_index::Table;
 use std::alloc::Global;
 use std::marker::Model;
 

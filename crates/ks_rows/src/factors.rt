@@ -1,22 +1,20 @@
 //! Second factors: secrets of one-time codes (Identity API v3, credentials of type `totp`), and the methods that a user has
 //! to log in by.
-ghost use Rattle.std.specs.Prelude.{◌≡◌, map, IfOk};
+ghost use Rattle.std.specs.Prelude.{◌≡◌, IfOk};
 ghost use Rattle.ks_auth.specs.Answers.{rows_told};
 ghost use Rattle.ks_base.specs.declared.receipt.Drawn.TheVariants as drawns;
 ghost use Rattle.ks_machine.specs.Attempts.{Go};
 ghost use Rattle.ks_machine.specs.Creations.{put_user};
-ghost use Rattle.ks_machine.specs.FactorCommands.{create_secret, delete_secret, get_secret, list_secrets};
+ghost use Rattle.ks_machine.specs.FactorCommands.{create_secret, delete_secret};
 ghost use Rattle.ks_machine.specs.Outcomes.{changes};
-ghost use Rattle.ks_checks.specs.Plans.{Plans, outcome_of};
+ghost use Rattle.ks_checks.specs.Plans.{Plans};
 
 use ks_auth::Tables;
-use ks_base::{Id, Memory, MfaRow, SecretRow, Text, UserRow};
+use ks_base::{Id, Memory, MfaRow, SecretRow, UserRow};
 use ks_checks::checks::{row, standing_secret, standing_user};
 use ks_checks::draws::made_id;
 use ks_checks::{Halt, Plan};
-use ks_machine::{BodyOut, Change, MfaIn, Row, RowList, SecretBody};
-use ks_totp::Factors;
-use std::alloc::Global;
+use ks_machine::{BodyOut, Change, MfaIn, Row, SecretBody};
 
 /// The change that puts a user. What a body says of the methods that the user has to log in by is the whole of it.
 fn put_user(row: UserRow, said: &Option<MfaIn>) -> Result<Change, Memory>
@@ -63,47 +61,6 @@ pub fn create_secret(tables: &Tables, drawn: &[u8; 64], asked: &SecretBody) -> R
     row(tables.factors.may_add_secret(&new))?;
     let told = BodyOut::One(Row::Secret(new.copy()?), true);
     Ok(Plan::changes(Change::PutSecret(new), told))
-}
-
-/// The secrets of these ids, which are those of all of them.
-fn secrets_of(alloc: Global, factors: &Factors, ids: &[Id]) -> Result<RowList, Memory>
-    requires { ids.now ≡ map (λ row. row.id) factors.now.state.secrets }
-    ensures { IfOk result (λ rows. rows ≡ map (λ found. Row.Secret found) factors.now.state.secrets) }
-{
-    let mut rows = RowList::new(alloc);
-    for id in ids {
-        match factors.secret(id) {
-            Some(secret) => rows.push(Row::Secret(secret.copy()?))?,
-            None => unreachable!(),
-        }
-    }
-    Ok(rows)
-}
-
-/// All secrets.
-pub fn all_secrets(alloc: Global, factors: &Factors) -> Result<RowList, Memory>
-    ensures { IfOk result (λ rows. rows ≡ map (λ found. Row.Secret found) factors.now.state.secrets) }
-{
-    let ids = factors.secret_ids()?;
-    secrets_of(alloc, factors, ids.as_slice())
-}
-
-#[tactic(auto, unfolding(ks_machine::specs::FactorCommands::list_secrets))]
-pub fn list_secrets(alloc: Global, tables: &Tables) -> Result<Plan, Memory>
-    ensures { IfOk result (λ plan. outcome_of plan ≡ list_secrets (rows_told tables.now)) }
-{
-    let rows = all_secrets(alloc, tables.factors)?;
-    let path = Text::of(alloc, "/v3/credentials")?;
-    Ok(Plan::tells(BodyOut::Secrets(rows, path)))
-}
-
-#[tactic(auto, unfolding(ks_machine::specs::FactorCommands::get_secret))]
-pub fn get_secret(tables: &Tables, id: &Id) -> Result<Plan, Halt>
-    ensures { Plans result (get_secret (rows_told tables.now) id.now) }
-{
-    let secret = standing_secret(tables, id)?;
-    let told = BodyOut::One(Row::Secret(secret.copy()?), false);
-    Ok(Plan::tells(told))
 }
 
 #[tactic(auto, unfolding(ks_machine::specs::FactorCommands::delete_secret))]

@@ -14,15 +14,12 @@ use Rattle.ks_totp.proofs.Base32Lemmas.{letter_at, letters_read, one_text, too_m
 use Rattle.ks_totp.proofs.BitLemmas.{bit_small, five_small}
 use Rattle.ks_totp.proofs.LetterLemmas.{letter_pad, letter_ranges}
 use Rattle.ks_shape.specs.Secrets.{base32_bytes, bytes_of, filled, five_of, letters_in, spelled_bytes, spells}
+use Rattle.ks_base.proofs.TruthLemmas.{not_if}
 
 abbrev AreBytes : List ℕ → Type 0
 AreBytes bytes = (k : ℕ) → slice_index bytes k < 256
 
 -- the letters of a text
-
-not_if : (b : Bool) → (b ≡ true → ⊥) → not b ≡ true
-not_if true other = absurd (other refl)
-not_if false other = refl
 
 not_pad : (b : ℕ) → b ≢ 61 → not (b == 61) ≡ true
 not_pad b other = not_if (b == 61) (λ is. other (eqb-true b 61 is))

@@ -14,10 +14,11 @@ use Rattle.ks_base.specs.Tables.{id_cmp, Among, IsAscending, drop_row, find_row,
 use Rattle.ks_base.proofs.AmongLemmas.{any_from, any_to}
 use Rattle.ks_base.proofs.LinkLemmas.{kept_beside}
 use Rattle.ks_base.proofs.OptionLemmas.{none_is}
-use Rattle.ks_base.proofs.RowLemmas.{among_drop, among_filter, among_found, among_put, among_put_other, eq_is, filter_among, id_found, id_same, found_among, put_among, same_row}
-use Rattle.ks_base.proofs.TruthLemmas.{equal_truths, not_both}
+use Rattle.ks_base.proofs.RowLemmas.{among_drop, among_filter, among_found, among_put, among_put_other, eq_is, filter_among, found_among, id_found, id_same, none_among, put_among, same_row}
+use Rattle.ks_base.proofs.TruthLemmas.{equal_truths, not_both, not_if}
 use Rattle.ks_totp.specs.declared.owners.OwnerRow.{OwnerRow}
 use Rattle.ks_totp.specs.Owners.{AreOwners, owner_cmp, owner_exact, owner_of, owner_total}
+use Rattle.ks_base.proofs.RefusalLemmas.{unless_fault}
 
 abbrev key : SecretRow → Id
 key row = row.id
@@ -38,20 +39,6 @@ owners_without owner owners = drop_row owner_cmp (λ o. o) owner owners
 
 -- what is not found is not there
 
-none_by : {X : Type 0} (p : X → Bool) (next x : X) (rest : Option X) (b : Bool) → p next ≡ b → cond b (Some next) rest ≡ None → (next ≡ x) ⊎ (p x ≡ false) → p x ≡ false
-none_by p next x rest true is none which = cc
-none_by p next x rest false is none (inl same) = ap p (sym same) ∙ is
-none_by p next x rest false is none (inr other) = other
-
-rest_by : {X : Type 0} (next : X) (rest : Option X) (b : Bool) → cond b (Some next) rest ≡ None → rest ≡ None
-rest_by next rest true none = cc
-rest_by next rest false none = none
-
-none_among : {X : Type 0} (p : X → Bool) (xs : List X) (x : X) → find p xs ≡ None → Among xs x → p x ≡ false
-none_among p [] x none among = absurd among
-none_among p (next ∷ xs) x none (inl is) = none_by p next x (find p xs) (p next) refl none (inl is)
-none_among p (next ∷ xs) x none (inr among) = none_among p xs x (rest_by next (find p xs) (p next) none) among
-
 new_among : (id : Id) (secrets : List SecretRow) (x : SecretRow) → secret_of id secrets ≡ None → Among secrets x → is_eq (id_cmp x.id id) ≡ false
 unfolding find_row
 new_among id secrets x none among = none_among (has_key id_cmp key id) secrets x none among
@@ -63,10 +50,6 @@ same_id a b is = ap (λ id. is_eq (id_cmp id b)) is ∙ ap is_eq (tied_itself na
 
 same_owner : (a b : OwnerRow) → a ≡ b → is_eq (owner_cmp a b) ≡ true
 same_owner a b is = ap (λ owner. is_eq (owner_cmp owner b)) is ∙ ap is_eq (tied_itself owner_total b)
-
-not_by : (b : Bool) → (b ≡ true → ⊥) → not b ≡ true
-not_by true never = absurd (never refl)
-not_by false never = refl
 
 -- changes
 
@@ -97,13 +80,13 @@ owner_left : (owner : OwnerRow) (owners : List OwnerRow) (other : OwnerRow) → 
 unfolding drop_row
 owner_left owner owners other among apart =
     filter_among (λ o. not (has_key owner_cmp (λ p. p) owner o)) owners other among
-    (not_by (is_eq (owner_cmp other owner)) (λ is. apart (owner_exact other owner (eq_is (owner_cmp other owner) is))))
+    (not_if (is_eq (owner_cmp other owner)) (λ is. apart (owner_exact other owner (eq_is (owner_cmp other owner) is))))
 
 secret_left : (id : Id) (secrets : List SecretRow) (x : SecretRow) → Among secrets x → (x.id ≡ id → ⊥) → Among (secrets_without id secrets) x
 unfolding drop_row
 secret_left id secrets x among apart =
     filter_among (λ row. not (has_key id_cmp key id row)) secrets x among
-    (not_by (is_eq (id_cmp x.id id)) (λ is. apart (id_exact x.id id (eq_is (id_cmp x.id id) is))))
+    (not_if (is_eq (id_cmp x.id id)) (λ is. apart (id_exact x.id id (eq_is (id_cmp x.id id) is))))
 
 -- the owner of a secret that found no room goes again
 pub owners_undone : (row : SecretRow) (secrets : List SecretRow) (owners : List OwnerRow) → secret_of row.id secrets ≡ None → AreOwners secrets owners →
@@ -217,10 +200,6 @@ any_by_owner test user secrets owners up are =
 
 -- a secret that is not refused has a new id
 
-not_applies : {F : Type 0} (applies : Bool) (fault : F) → fault_if applies fault ≡ None → applies ≡ false
-not_applies true fault none = cc
-not_applies false fault none = refl
-
 second_none : {F : Type 0} (a b : Option F) → first_of (a ∷ b ∷ []) ≡ None → b ≡ None
 second_none None None none = refl
 second_none None (Some fault) none = cc
@@ -228,4 +207,4 @@ second_none (Some fault) b none = cc
 
 pub new_secret : (state : FactorState) (row : SecretRow) → add_secret_fault state row ≡ None → secret_of row.id state.secrets ≡ None
 unfolding add_secret_fault
-new_secret state row none = none_is (secret_of row.id state.secrets) (not_applies _ _ (second_none _ _ none))
+new_secret state row none = none_is (secret_of row.id state.secrets) (unless_fault _ _ (second_none _ _ none))

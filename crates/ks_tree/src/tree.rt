@@ -3,7 +3,8 @@ ghost use Rattle.ks_base.specs.Rows.{domain_of, project_of};
 ghost use Rattle.ks_base.specs.Tables.{id_cmp, IsAscending};
 ghost use Rattle.ks_base.specs.Trees.{is_domain_named, is_project_named};
 
-use ks_base::{DomainRow, Id, ProjectRow, Table, Text};
+use ks_base::{DomainRow, Id, ProjectRow, Text};
+use ks_index::Table;
 use std::alloc::Global;
 use std::marker::Model;
 

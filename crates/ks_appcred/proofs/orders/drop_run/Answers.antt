@@ -5,7 +5,7 @@ use Rattle.std.specs.Arc.{arc_value}
 use Rattle.std.specs.List.{filter}
 use Rattle.ks_appcred.specs.Orders.{name_of}
 use Rattle.ks_appcred.proofs.BothLemmas.{fewer_dropped, filter_dropped, none_of_home}
-use Rattle.ks_base.specs.Indexes.{name_cmp}
+use Rattle.ks_index.specs.Indexes.{name_cmp}
 use Rattle.ks_base.specs.OrderLaws.{id_exact}
 use Rattle.ks_base.specs.Rows.{Id, same}
 use Rattle.ks_base.specs.Tables.{Among, drop_row, id_cmp}

@@ -4,9 +4,9 @@ use Rattle.std.specs.Arc.{arc_value}
 use Rattle.std.specs.List.{insert}
 use Rattle.ks_appcred.specs.Orders.{name_of}
 use Rattle.ks_appcred.proofs.BothLemmas.{both_insert, both_is, named_across}
-use Rattle.ks_base.specs.Indexes.{name_cmp}
+use Rattle.ks_index.specs.Indexes.{name_cmp}
 use Rattle.ks_base.specs.Tables.{id_cmp}
-use Rattle.ks_base.proofs.NameLemmas.{name_total}
+use Rattle.ks_index.proofs.NameLemmas.{name_total}
 use Rattle.ks_base.proofs.PlaceLemmas.{find_found, put_gap}
 use Rattle.ks_appcred.proofs.orders.put_shared.Goals as goal
 

@@ -3,7 +3,7 @@ use Rattle.std.specs.Prelude.{◌↔◌}
 use Rattle.std.specs.Arc.{arc_value}
 use Rattle.ks_appcred.specs.Orders.{name_of}
 use Rattle.ks_appcred.proofs.BothLemmas.{ids_across}
-use Rattle.ks_base.specs.Indexes.{name_cmp}
+use Rattle.ks_index.specs.Indexes.{name_cmp}
 use Rattle.ks_base.specs.Rows.{Id, same}
 use Rattle.ks_base.specs.Tables.{Among}
 use Rattle.ks_base.proofs.ListLemmas.{map_twice}

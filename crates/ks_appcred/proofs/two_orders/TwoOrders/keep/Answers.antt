@@ -2,7 +2,7 @@ use Rattle.std.proofs.Common.{map, filter}
 use Rattle.std.specs.Arc.{arc_value}
 use Rattle.ks_appcred.specs.Orders.{name_of}
 use Rattle.ks_appcred.proofs.BothLemmas.{both_filter, both_is}
-use Rattle.ks_base.specs.Indexes.{name_cmp}
+use Rattle.ks_index.specs.Indexes.{name_cmp}
 use Rattle.ks_base.specs.Tables.{id_cmp}
 use Rattle.ks_appcred.proofs.two_orders.TwoOrders.keep.Goals as goal
 

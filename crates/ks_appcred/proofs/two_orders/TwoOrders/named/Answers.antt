@@ -2,7 +2,7 @@ use Rattle.std.proofs.Common.{Some, ◌∙◌, ap, find, map, sym}
 use Rattle.std.specs.Arc.{arc_value}
 use Rattle.ks_appcred.specs.Orders.{name_of}
 use Rattle.ks_appcred.proofs.BothLemmas.{get_mapped, named_across}
-use Rattle.ks_base.specs.Indexes.{is_named, name_cmp}
+use Rattle.ks_index.specs.Indexes.{is_named, name_cmp}
 use Rattle.ks_base.proofs.PlaceLemmas.{find_found, find_gap}
 use Rattle.ks_appcred.proofs.two_orders.TwoOrders.named.Goals as goal
 

@@ -1,0 +1,302 @@
+-- Indexes: places in the order of the keys of the rows there, and what each change of the rows leaves of them.
+use Rattle.std.proofs.Common.{◌≡◌, ◌≢◌, ℕ, zero, suc, ◌+◌, ◌-◌, ◌<◌, ◌≤◌, Bool, true, false, not, ◌⊎◌, inl, inr, List, [], ◌∷◌, ◌++◌, length, map, take, drop, get_or, refl, sym, ap, subst, ◌∙◌, arith}
+use Rattle.std.proofs.Math.ListN.{set}
+use Rattle.std.specs.List.{AllByRecursion, filter, insert, remove}
+use Rattle.std.specs.declared.cmp.Ordering.{Ordering}
+use Rattle.std.specs.declared.cmp.Ordering.TheVariants.{Equal}
+use Rattle.std.specs.Ordering.{is_eq}
+use Rattle.std.specs.Cmp.{IsTotalOrder}
+use Rattle.std.proofs.lemmas.Bool.Decides.{nat_tests}
+use Rattle.std.proofs.lemmas.Cmp.{tied_itself, tied_back}
+use Rattle.std.proofs.lemmas.Grind.{common_steps}
+use Rattle.std.proofs.lemmas.List.{get_or-set_other, length-set}
+use Rattle.std.proofs.lemmas.List.Edits.{length-insert, length-remove, get_or-insert_below, get_or-insert_above, get_or-remove_below, get_or-remove_above}
+use Rattle.ks_base.specs.Tables.{AreAbove, IsAscending, Among, has_key, drop_row}
+use Rattle.ks_base.specs.Places.{IsGapAt}
+use Rattle.ks_index.specs.Indexes.{IsIndex, IsIndexBut, raised, lowered}
+use Rattle.ks_base.proofs.AmongLemmas.{all_among, among_all, map_among, among_mapped}
+use Rattle.ks_base.proofs.PlaceLemmas.{above_at, ascending_insert}
+use Rattle.ks_base.proofs.RowLemmas.{eq_is, same_row, among_drop, filter_among}
+use Rattle.ks_base.proofs.TableLemmas.{ascending_drop}
+
+-- places
+
+pub get_any : {X : Type 0} (xs : List X) (i : ℕ) (d e : X) → i < length xs → get_or xs i d ≡ get_or xs i e
+get_any [] i d e lt = absurd (omega arith)
+get_any (x ∷ xs) zero d e lt = refl
+get_any (x ∷ xs) (suc i) d e lt = get_any xs i d e (omega arith)
+
+pub below_or_not : (a b : ℕ) → (a < b) ⊎ (b ≤ a)
+below_or_not a zero = inr (omega arith)
+below_or_not zero (suc b) = inl (omega arith)
+below_or_not (suc a) (suc b) = by (below_or_not a b)
+  where
+    by : (a < b) ⊎ (b ≤ a) → (suc a < suc b) ⊎ (suc b ≤ suc a)
+    by (inl lt) = inl (omega arith)
+    by (inr le) = inr (omega arith)
+
+raised_below : (at p : ℕ) → p < at → raised at p ≡ p
+unfolding raised
+raised_below at p lt = grind (arith, nat_tests)
+
+raised_above : (at p : ℕ) → at ≤ p → raised at p ≡ p + 1
+unfolding raised
+raised_above at p le = grind (arith, nat_tests)
+
+lowered_below : (at p : ℕ) → p ≤ at → lowered at p ≡ p
+unfolding lowered
+lowered_below at p le = grind (arith, nat_tests)
+
+lowered_above : (at p : ℕ) → at < p → lowered at p ≡ p - 1
+unfolding lowered
+lowered_above at p lt = grind (arith, nat_tests)
+
+-- keys that are the same at each
+
+above_alike : {K X : Type 0} (cmp : K → K → Ordering) (f g : X → K) (low : K) (xs : List X) →
+    ((x : X) → Among xs x → f x ≡ g x) → AreAbove cmp f low xs → AreAbove cmp g low xs
+above_alike cmp f g low [] alike above = tt
+above_alike cmp f g low (x ∷ xs) alike above =
+    (ap (cmp low) (sym (alike x (inl refl))) ∙ above.0, above_alike cmp f g low xs (λ y among. alike y (inr among)) above.1)
+
+pub ascending_alike : {K X : Type 0} (cmp : K → K → Ordering) (f g : X → K) (xs : List X) →
+    ((x : X) → Among xs x → f x ≡ g x) → IsAscending cmp f xs → IsAscending cmp g xs
+ascending_alike cmp f g [] alike up = tt
+ascending_alike cmp f g (x ∷ xs) alike up = (
+  subst (λ (k : _). AreAbove cmp g k xs) (alike x (inl refl)) (above_alike cmp f g (f x) xs (λ y among. alike y (inr among)) up.0),
+  ascending_alike cmp f g xs (λ y among. alike y (inr among)) up.1,
+)
+
+above_mapped : {K X Y : Type 0} (cmp : K → K → Ordering) (key : Y → K) (f : X → Y) (low : K) (xs : List X) →
+    AreAbove cmp (λ x. key (f x)) low xs → AreAbove cmp key low (map f xs)
+above_mapped cmp key f low [] above = tt
+above_mapped cmp key f low (x ∷ xs) above = (above.0, above_mapped cmp key f low xs above.1)
+
+pub ascending_mapped : {K X Y : Type 0} (cmp : K → K → Ordering) (key : Y → K) (f : X → Y) (xs : List X) →
+    IsAscending cmp (λ x. key (f x)) xs → IsAscending cmp key (map f xs)
+ascending_mapped cmp key f [] up = tt
+ascending_mapped cmp key f (x ∷ xs) up = (above_mapped cmp key f (key (f x)) xs up.0, ascending_mapped cmp key f xs up.1)
+
+-- it is all one which row stands for a place outside
+pub index_any : {K X : Type 0} (cmp : K → K → Ordering) (key : X → K) (rows : List X) (places : List ℕ) (e d : X) →
+    AllByRecursion (λ place. place < length rows) places → IsAscending cmp (λ place. key (get_or rows place e)) places →
+    IsAscending cmp (λ place. key (get_or rows place d)) places
+index_any cmp key rows places e d within up =
+    ascending_alike cmp (λ place. key (get_or rows place e)) (λ place. key (get_or rows place d)) places
+    (λ p among. ap key (get_any rows p e d (all_among (λ q. q < length rows) places p within among))) up
+
+-- a row comes in
+
+get_raised : {X : Type 0} (rows : List X) (at p : ℕ) (row d : X) → at ≤ length rows → get_or (insert rows at row) (raised at p) d ≡ get_or rows p d
+get_raised {X} rows at p row d le = by (below_or_not p at)
+  where
+    by : (p < at) ⊎ (at ≤ p) → get_or (insert rows at row) (raised at p) d ≡ get_or rows p d
+    by (inl lt) = ap (λ q. get_or (insert rows at row) q d) (raised_below at p lt) ∙ get_or-insert_below rows at row d p lt le
+    by (inr ge) = ap (λ q. get_or (insert rows at row) q d) (raised_above at p ge) ∙ get_or-insert_above rows at row d p ge le
+
+raised_within : (at p n : ℕ) → p < n → raised at p < n + 1
+raised_within at p n lt = by (below_or_not p at)
+  where
+    by : (p < at) ⊎ (at ≤ p) → raised at p < n + 1
+    by (inl less) = omega (arith, raised_below at p less)
+    by (inr more) = omega (arith, raised_above at p more)
+
+raised_other : (at p : ℕ) → raised at p ≢ at
+raised_other at p is = by (below_or_not p at)
+  where
+    by : (p < at) ⊎ (at ≤ p) → ⊥
+    by (inl less) = omega (arith, raised_below at p less, is)
+    by (inr more) = omega (arith, raised_above at p more, is)
+
+raised_all : (places : List ℕ) (at n q : ℕ) → ((p : ℕ) → p < n → Among places p) → at ≤ n → q < n + 1 → q ≢ at → Among (map (raised at) places) q
+raised_all places at n q all le lt other = by (below_or_not q at)
+  where
+    by : (q < at) ⊎ (at ≤ q) → Among (map (raised at) places) q
+    by (inl less) = subst (Among (map (raised at) places)) (raised_below at q less) (map_among (raised at) places q (all q (omega arith)))
+    by (inr more) =
+        let above : at ≤ q - 1 = omega (arith, other) in
+        let back : q - 1 + 1 ≡ q = omega (arith, other) in
+        let inside : q - 1 < n = omega (arith, other) in
+        subst (Among (map (raised at) places)) (raised_above at (q - 1) above ∙ back) (map_among (raised at) places (q - 1) (all (q - 1) inside))
+
+pub raised_index : {K X : Type 0} (cmp : K → K → Ordering) (key : X → K) (rows : List X) (places : List ℕ) (at : ℕ) (row : X) →
+    at ≤ length rows → IsIndex cmp key rows places → IsIndexBut cmp key (insert rows at row) (map (raised at) places) at
+raised_index {K} {X} cmp key rows places at row le index = record {
+  within = among_all (λ p. p < length (insert rows at row)) (map (raised at) places) inside;
+  others = outside;
+  all = λ q lt other. raised_all places at (length rows) q index.all le (omega (arith, length-insert rows at row le)) other;
+  up = λ d. ascending_mapped cmp (λ p. key (get_or (insert rows at row) p d)) (raised at) places
+      (ascending_alike cmp (λ p. key (get_or rows p d)) (λ p. key (get_or (insert rows at row) (raised at p) d)) places
+      (λ p among. ap key (sym (get_raised rows at p row d le))) (index.up d));
+}
+  where
+    inside : (q : ℕ) → Among (map (raised at) places) q → q < length (insert rows at row)
+    inside q among =
+        let found = among_mapped (raised at) places q among in
+        let below = raised_within at found.0 (length rows) (all_among (λ p. p < length rows) places found.0 index.within found.1) in
+        omega (arith, below, found.2, length-insert rows at row le)
+
+    outside : (q : ℕ) → Among (map (raised at) places) q → q ≢ at
+    outside q among is = let found = among_mapped (raised at) places q among in raised_other at found.0 (found.2 ∙ is)
+
+-- a row goes
+
+get_lowered : {X : Type 0} (rows : List X) (at p : ℕ) (d : X) → at < length rows → p ≢ at → get_or (remove rows at) (lowered at p) d ≡ get_or rows p d
+get_lowered {X} rows at p d lt other = by (below_or_not p at)
+  where
+    by : (p < at) ⊎ (at ≤ p) → get_or (remove rows at) (lowered at p) d ≡ get_or rows p d
+    by (inl less) = ap (λ q. get_or (remove rows at) q d) (lowered_below at p (omega arith)) ∙ get_or-remove_below rows at d p less lt
+    by (inr more) =
+        let above : at < p = omega (arith, other) in
+        let back : p - 1 + 1 ≡ p = omega arith in
+        ap (λ q. get_or (remove rows at) q d) (lowered_above at p above) ∙ get_or-remove_above rows at d (p - 1) (omega arith) lt ∙ ap (λ q. get_or rows q d) back
+
+lowered_within : (at p n : ℕ) → p < n + 1 → at < n + 1 → p ≢ at → lowered at p < n
+lowered_within at p n lt inside other = by (below_or_not p at)
+  where
+    by : (p < at) ⊎ (at ≤ p) → lowered at p < n
+    by (inl less) = let is = lowered_below at p (omega arith) in omega (arith, is)
+    by (inr more) = let above : at < p = omega (arith, other) in omega (arith, lowered_above at p above)
+
+lowered_all : (places : List ℕ) (at n q : ℕ) → ((p : ℕ) → p < n + 1 → p ≢ at → Among places p) → q < n → Among (map (lowered at) places) q
+lowered_all places at n q all lt = by (below_or_not q at)
+  where
+    by : (q < at) ⊎ (at ≤ q) → Among (map (lowered at) places) q
+    by (inl less) = subst (Among (map (lowered at) places)) (lowered_below at q (omega arith)) (map_among (lowered at) places q (all q (omega arith) (λ is. omega arith)))
+    by (inr more) =
+        let back : q + 1 - 1 ≡ q = omega arith in
+        subst (Among (map (lowered at) places)) (lowered_above at (q + 1) (omega arith) ∙ back) (map_among (lowered at) places (q + 1) (all (q + 1) (omega arith) (λ is. omega arith)))
+
+pub lowered_index : {K X : Type 0} (cmp : K → K → Ordering) (key : X → K) (rows : List X) (places : List ℕ) (at : ℕ) →
+    at < length rows → IsIndexBut cmp key rows places at → IsIndex cmp key (remove rows at) (map (lowered at) places)
+lowered_index {K} {X} cmp key rows places at lt but = record {
+  within = among_all (λ p. p < length (remove rows at)) (map (lowered at) places) inside;
+  all = λ q below. lowered_all places at (length (remove rows at)) q (λ p less other. but.all p (omega (arith, length-remove rows at lt)) other) below;
+  up = λ d. ascending_mapped cmp (λ p. key (get_or (remove rows at) p d)) (lowered at) places
+      (ascending_alike cmp (λ p. key (get_or rows p d)) (λ p. key (get_or (remove rows at) (lowered at p) d)) places
+      (λ p among. ap key (sym (get_lowered rows at p d lt (but.others p among)))) (but.up d));
+}
+  where
+    inside : (q : ℕ) → Among (map (lowered at) places) q → q < length (remove rows at)
+    inside q among =
+        let found = among_mapped (lowered at) places q among in
+        let n = length-remove rows at lt in
+        let below : found.0 < length (remove rows at) + 1 = omega (arith, n, all_among (λ p. p < length rows) places found.0 but.within found.1) in
+        let less = lowered_within at found.0 (length (remove rows at)) below (omega (arith, n)) (but.others found.0 found.1) in
+        omega (arith, less, found.2)
+
+-- a row takes the place of another
+
+pub set_index : {K X : Type 0} (cmp : K → K → Ordering) (key : X → K) (rows : List X) (places : List ℕ) (at : ℕ) (row : X) →
+    IsIndexBut cmp key rows places at → IsIndexBut cmp key (set rows at row) places at
+set_index {K} {X} cmp key rows places at row but = record {
+  within = among_all (λ p. p < length (set rows at row)) places
+      (λ p among. omega (arith, length-set rows at row, all_among (λ q. q < length rows) places p but.within among));
+  others = but.others;
+  all = λ p lt other. but.all p (omega (arith, length-set rows at row)) other;
+  up = λ d. ascending_alike cmp (λ p. key (get_or rows p d)) (λ p. key (get_or (set rows at row) p d)) places
+      (λ p among. ap key (sym (get_or-set_other rows at p row d (but.others p among)))) (but.up d);
+}
+
+-- a place goes out of the index, and one comes in
+
+pub out_index : {K X : Type 0} (cmp : K → K → Ordering) (key : X → K) → IsTotalOrder cmp → ((a b : K) → cmp a b ≡ Equal → a ≡ b) →
+    (rows : List X) (places : List ℕ) (at : ℕ) (e : X) → at < length rows → IsIndex cmp key rows places →
+    IsIndexBut cmp key rows (drop_row cmp (λ p. key (get_or rows p e)) (key (get_or rows at e)) places) at
+unfolding drop_row
+out_index {K} {X} cmp key o exact rows places at e lt index = record {
+  within = among_all (λ p. p < length rows) rest (λ p among. all_among (λ q. q < length rows) places p index.within (among_drop cmp there k places p among).0);
+  others = λ p among is. gone p is (among_drop cmp there k places p among).1;
+  all = λ p below other. filter_among (λ p. not (has_key cmp there k p)) places p (index.all p below) (stays p (index.all p below) other (has_key cmp there k p) refl);
+  up = λ d. ascending_drop_any d;
+}
+  where
+    there : ℕ → K
+    there p = key (get_or rows p e)
+
+    k : K
+    k = key (get_or rows at e)
+
+    rest : List ℕ
+    rest = filter (λ p. not (has_key cmp there k p)) places
+
+    gone : (p : ℕ) → p ≡ at → not (has_key cmp there k p) ≡ true → ⊥
+    gone p is kept =
+        let same : cmp (there p) k ≡ Equal = subst (λ q. cmp (there q) k ≡ Equal) (sym is) (tied_itself o k) in
+        let out : not (is_eq (cmp (there p) k)) ≡ false = ap (λ c. not (is_eq c)) same in
+        cc
+
+    stays : (p : ℕ) → Among places p → p ≢ at → (b : Bool) → has_key cmp there k p ≡ b → not b ≡ true
+    stays p among other false is = refl
+    stays p among other true is =
+        absurd (other (same_row cmp there o places p at (index.up e) among (index.all at lt) (exact (there p) k (eq_is (cmp (there p) k) is))))
+
+    ascending_drop_any : (d : X) → IsAscending cmp (λ p. key (get_or rows p d)) rest
+    ascending_drop_any d =
+        index_any cmp key rows rest e d
+        (among_all (λ p. p < length rows) rest (λ p among. all_among (λ q. q < length rows) places p index.within (among_drop cmp there k places p among).0))
+        (ascending_drop cmp there k places (index.up e))
+
+among_insert : {X : Type 0} (xs : List X) (i : ℕ) (y x : X) → Among xs x → Among (insert xs i y) x
+among_insert [] i y x among = absurd among
+among_insert (next ∷ xs) zero y x among = inr among
+among_insert (next ∷ xs) (suc i) y x (inl is) = inl is
+among_insert (next ∷ xs) (suc i) y x (inr among) = inr (among_insert xs i y x among)
+
+insert_among : {X : Type 0} (xs : List X) (i : ℕ) (y : X) → Among (insert xs i y) y
+insert_among [] zero y = inl refl
+insert_among [] (suc i) y = inl refl
+insert_among (next ∷ xs) zero y = inl refl
+insert_among (next ∷ xs) (suc i) y = inr (insert_among xs i y)
+
+all_insert : {X : Type 0} (P : X → Type 0) (xs : List X) (i : ℕ) (y : X) → P y → AllByRecursion P xs → AllByRecursion P (insert xs i y)
+all_insert P [] zero y is all = (is, tt)
+all_insert P [] (suc i) y is all = (is, tt)
+all_insert P (next ∷ xs) zero y is all = (is, all)
+all_insert P (next ∷ xs) (suc i) y is all = (all.0, all_insert P xs i y is all.1)
+
+pub in_index : {K X : Type 0} (cmp : K → K → Ordering) (key : X → K) → IsTotalOrder cmp → (rows : List X) (places : List ℕ) (at slot : ℕ) (e : X) →
+    at < length rows → IsIndexBut cmp key rows places at → IsGapAt cmp (λ p. key (get_or rows p e)) (key (get_or rows at e)) places slot →
+    IsIndex cmp key rows (insert places slot at)
+in_index {K} {X} cmp key o rows places at slot e lt but gap = record {
+  within = inside;
+  all = λ p below. by p below (below_or_not p at) (below_or_not at p);
+  up = λ d. index_any cmp key rows (insert places slot at) e d inside
+      (ascending_insert cmp (λ p. key (get_or rows p e)) o at places slot (but.up e) gap);
+}
+  where
+    inside : AllByRecursion (λ p. p < length rows) (insert places slot at)
+    inside = all_insert (λ p. p < length rows) places slot at lt but.within
+
+    by : (p : ℕ) → p < length rows → (p < at) ⊎ (at ≤ p) → (at < p) ⊎ (p ≤ at) → Among (insert places slot at) p
+    by p below (inl less) any = among_insert places slot at p (but.all p below (λ is. omega arith))
+    by p below (inr ge) (inl more) = among_insert places slot at p (but.all p below (λ is. omega arith))
+    by p below (inr ge) (inr le) = let is : at ≡ p = omega arith in subst (Among (insert places slot at)) is (insert_among places slot at)
+
+-- rows with one key are one
+
+pub same_place : {K X : Type 0} (cmp : K → K → Ordering) (key : X → K) → IsTotalOrder cmp → (rows : List X) (p q : ℕ) (d : X) →
+    IsAscending cmp key rows → p < length rows → q < length rows → cmp (key (get_or rows p d)) (key (get_or rows q d)) ≡ Equal → p ≡ q
+same_place cmp key o [] p q d up first second same = absurd (omega arith)
+same_place cmp key o (row ∷ rows) zero zero d up first second same = refl
+same_place cmp key o (row ∷ rows) zero (suc q) d up first second same =
+    let above = above_at cmp key (key row) rows q d up.0 (omega arith) in cc
+same_place cmp key o (row ∷ rows) (suc p) zero d up first second same =
+    let above = above_at cmp key (key row) rows p d up.0 (omega arith) in
+    let back = tied_back o (key (get_or rows p d)) (key row) same in
+    cc
+same_place cmp key o (row ∷ rows) (suc p) (suc q) d up first second same =
+    ap suc (same_place cmp key o rows p q d up.1 (omega arith) (omega arith) same)
+
+-- what a call leaves in a whole slice of a vector
+pub written_back : {X : Type 0} (new old : List X) (n : ℕ) → (length new ≡ length old) × (length old ≡ n) → take n (new ++ drop (length new) old) ≡ new
+written_back new old n e =
+    let none : drop (length new) old ≡ [] = grind (arith, common_steps) in
+    let end : new ++ drop (length new) old ≡ new = grind (arith, common_steps) in
+    grind (arith, common_steps)
+
+-- places before a row that comes in behind them stay
+pub raised_none : (places : List ℕ) (at n : ℕ) → AllByRecursion (λ place. place < n) places → n ≤ at → places ≡ map (raised at) places
+raised_none [] at n all le = refl
+raised_none (p ∷ places) at n all le =
+    ap (λ q. q ∷ places) (sym (raised_below at p (omega (arith, all.0)))) ∙ ap (λ (rest : List ℕ). raised at p ∷ rest) (raised_none places at n all.1 le)

@@ -1,0 +1,163 @@
+//! Rows in two orders.
+ghost use Rattle.std.specs.Prelude.{◌≡◌, List, [], filter, map, is_none, is_some, length, IfOk, IsSome, OnErr, Ok, false};
+ghost use Rattle.std.specs.Ordering.{is_eq};
+ghost use Rattle.ks_base.specs.Links.{AreLinked};
+ghost use Rattle.ks_base.specs.Tables.{IsAscending, find_row, put_row, drop_row};
+
+use ks_base::{Far, Memory, Near, Ordered, RowSet, Side, Test};
+use std::alloc::{AllocError, Global};
+use std::marker::{Model, PhantomData};
+
+/// Rows in their order, each once, and beside them their sides in the second order.
+#[derive(Drop)]
+pub struct Links<A: Ordered, B: Side<A>> {
+    rows: RowSet<A>,
+    sides: RowSet<B>,
+}
+
+impl<A: Ordered, B: Side<A>> Model for Links<A, B> {
+    ghost use Rattle.std.specs.Prelude.{List};
+    ghost use Rattle.ks_base.specs.Links.{AreLinked};
+
+    ghost Value = { List A };
+
+    ghost view = { λ links. links.rows };
+
+    ghost invariant = { λ links. AreLinked B.seen links.rows links.sides };
+}
+
+/// The sides whose rows pass.
+#[derive(Drop)]
+struct RowTest<'a, A, T> {
+    test: &'a T,
+    rows: PhantomData<A>,
+}
+
+impl<A: Ordered, B: Side<A>, T: Test<A>> Test<B> for RowTest<'_, A, T> {
+    ghost test = { λ wanted side. T.test wanted.test.now (B.row_of side) };
+
+    fn test(&self, side: &B) -> bool {
+        self.test.test(side.row())
+    }
+}
+
+/// The sides of the rows.
+fn seen<A: Ordered, B: Side<A>>(alloc: Global, rows: &[A]) -> Result<Vec<B>, AllocError>
+    ensures { IfOk result (λ sides. sides.items ≡ map B.seen rows.now) }
+{
+    rows.iter().map(|row| B::of(row)).collect(alloc)
+}
+
+/// The set of these sides. They go in by their order, so that each comes behind those that stand.
+fn sides_of<A: Ordered, B: Side<A>>(alloc: Global, rows: &[A]) -> Result<RowSet<B>, Memory>
+    ensures { IfOk result (λ sides. AreLinked B.seen rows.now sides) }
+{
+    let mut left = seen::<A, B>(alloc, rows)?;
+    left.sort_unstable_by(|a, b| b.compare(a));
+    let mut sides = RowSet::new(alloc);
+    while let Some(side) = left.pop() {
+        let _new = sides.add(side)?;
+    }
+    Ok(sides)
+}
+
+impl<A: Ordered, B: Side<A>> Links<A, B> {
+    /// No rows, which take no memory yet.
+    pub fn new(alloc: Global) -> Links<A, B>
+        ensures { result ≡ [] }
+    {
+        Links {
+            rows: RowSet::new(alloc),
+            sides: RowSet::new(alloc),
+        }
+    }
+
+    /// These rows, with the second order made beside their own.
+    pub fn from_rows(alloc: Global, rows: RowSet<A>) -> Result<Links<A, B>, Memory>
+        ensures { IfOk result (λ links. links ≡ rows) }
+    {
+        let sides = sides_of(alloc, rows.rows())?;
+        Ok(Links { rows, sides })
+    }
+
+    /// Whether the row stands.
+    pub fn has(&self, row: &A) -> bool
+        ensures { result ≡ is_some (find_row A.cmp (λ next. next) row.now self.now) }
+    {
+        self.rows.has(row)
+    }
+
+    /// Puts the row in its places and says whether it is new. Only a new row takes memory; one that
+    /// found none is dropped.
+    pub fn add(&mut self, row: A) -> Result<bool, Memory>
+        ensures ok { IfOk result (λ new. (self.new ≡ put_row A.cmp (λ next. next) row self.old) × (new ≡ is_none (find_row A.cmp (λ next. next) row self.old))) }
+        ensures err { OnErr result (self.new ≡ self.old) }
+        ensures stands { IsSome (find_row A.cmp (λ next. next) row self.old) → (result ≡ Ok false) × (self.new ≡ self.old) }
+    {
+        if self.rows.has(&row) {
+            return self.rows.add(row);
+        }
+        let _ascending = self.rows.rows();
+        let side = B::of(&row);
+        self.sides.add(B::of(&row))?;
+        match self.rows.add(row) {
+            Ok(new) => Ok(new),
+            Err(memory) => {
+                self.sides.remove(&side);
+                Err(memory)
+            }
+        }
+    }
+
+    /// Takes the row out and says whether it was there. It takes no memory.
+    pub fn remove(&mut self, row: &A) -> bool
+        ensures rows { self.new ≡ drop_row A.cmp (λ next. next) row.now self.old }
+        ensures was { result ≡ is_some (find_row A.cmp (λ next. next) row.now self.old) }
+    {
+        self.sides.remove(&B::of(row));
+        self.rows.remove(row)
+    }
+
+    /// Leaves the rows that pass the test. It takes no memory.
+    pub fn keep<T: Test<A>>(&mut self, test: &T)
+        ensures { self.new ≡ filter (T.test test.now) self.old }
+    {
+        self.rows.keep(test);
+        self.sides.keep(&RowTest {
+            test,
+            rows: PhantomData,
+        });
+    }
+
+    /// The rows of a run, which are found by where it begins and ends.
+    pub fn of<W: Near<A>>(&self, near: &W) -> &[A]
+        ensures rows { result.now ≡ filter (λ row. is_eq (W.side near.now row)) self.now }
+        ensures ascending { IsAscending A.cmp (λ next. next) result.now }
+    {
+        self.rows.of(near)
+    }
+
+    /// The rows of a run of the second order, seen from that side and in the first order of the rows.
+    pub fn at<W: Far<A, B>>(&self, far: &W) -> &[B]
+        ensures { map B.row_of result.now ≡ filter (λ row. is_eq (W.side far.now (B.seen row))) self.now }
+    {
+        let _ascending = self.rows.rows();
+        let _sides_ascending = self.sides.rows();
+        self.sides.of(far)
+    }
+
+    /// The rows, in their order.
+    pub fn rows(&self) -> &[A]
+        ensures rows { result.now ≡ self.now }
+        ensures ascending { IsAscending A.cmp (λ next. next) self.now }
+    {
+        self.rows.rows()
+    }
+
+    /// How many rows there are.
+    pub fn len(&self) -> usize
+        ensures { result ≡ length self.now }
+    {
+        self.rows.len()
+    }
+}

@@ -1,0 +1,153 @@
+ghost use Rattle.std.specs.Prelude.{◌≡◌, [], find, filter, is_some, length, map, option_copied, IfOk, IsOk, IsSome, OnOk, OnErr};
+ghost use Rattle.ks_base.specs.Tables.{id_cmp, IsAscending, find_row, put_row, drop_row};
+ghost use Rattle.ks_index.specs.Indexes.{is_named, is_other_named};
+
+use crate::index;
+use ks_base::by_id::{ids_of, ids_passing, place};
+use ks_base::{Id, IdList, Memory, Named, Test, Text};
+use std::alloc::Global;
+use std::marker::Model;
+
+/// Rows in the order of their ids, one for each id, which are found by their ids and by their names.
+#[derive(Drop)]
+pub struct Table<R: Named> {
+    rows: Vec<R>,
+    /// The places of the rows, in the order of their homes, names and ids.
+    names: Vec<usize>,
+}
+
+impl<R: Named> Model for Table<R> {
+    ghost use Rattle.std.specs.Prelude.{List};
+    ghost use Rattle.ks_base.specs.Tables.{id_cmp, IsAscending};
+    ghost use Rattle.ks_index.specs.Indexes.{AreNamesOf};
+
+    ghost Value = { List R };
+
+    ghost view = { λ table. table.rows.items };
+
+    ghost invariant = { λ table. IsAscending id_cmp R.key table.rows.items × AreNamesOf R.within R.naming R.key table.rows.items table.names.items };
+}
+
+impl<R: Named> Table<R> {
+    /// The empty table, which takes no memory yet.
+    pub fn new(alloc: Global) -> Table<R>
+        ensures { result ≡ [] }
+    {
+        Table {
+            rows: Vec::new(alloc),
+            names: Vec::new(alloc),
+        }
+    }
+
+    /// The row with this id.
+    pub fn get(&self, id: &Id) -> Option<&R>
+        ensures found { option_copied result ≡ find_row id_cmp R.key id.now self.now }
+        ensures ascending { IsAscending id_cmp R.key self.now }
+    {
+        match place(self.rows.as_slice(), id) {
+            Ok(at) => Some(&self.rows[at]),
+            Err(_) => None,
+        }
+    }
+
+    /// Whether a row has this id.
+    pub fn contains(&self, id: &Id) -> bool
+        ensures { result ≡ is_some (find_row id_cmp R.key id.now self.now) }
+    {
+        self.get(id).is_some()
+    }
+
+    /// Puts the row in its place, over the row with its id, if there is one. Only a row with a new id
+    /// takes memory; one that found none is dropped.
+    pub fn put(&mut self, row: R) -> Result<(), Memory>
+        ensures ok { OnOk result (self.new ≡ put_row id_cmp R.key row self.old) }
+        ensures err { OnErr result (self.new ≡ self.old) }
+        ensures stands { IsSome (find_row id_cmp R.key (R.key row) self.old) → IsOk result }
+    {
+        match place(self.rows.as_slice(), row.id()) {
+            Ok(at) => {
+                index::replace(&mut self.rows, &mut self.names, at, row);
+                Ok(())
+            }
+            Err(at) => {
+                index::insert(&mut self.rows, &mut self.names, at, row)?;
+                Ok(())
+            }
+        }
+    }
+
+    /// Takes the row with this id out, if there is one. It takes no memory.
+    pub fn remove(&mut self, id: &Id)
+        ensures { self.new ≡ drop_row id_cmp R.key id.now self.old }
+    {
+        match place(self.rows.as_slice(), id) {
+            Ok(at) => index::remove(&mut self.rows, &mut self.names, at),
+            Err(_) => {}
+        }
+    }
+
+    /// Leaves the rows that pass the test. It takes no memory.
+    pub fn keep<T: Test<R>>(&mut self, test: &T)
+        ensures { self.new ≡ filter (T.test test.now) self.old }
+    {
+        index::keep(self.rows.as_slice(), &mut self.names, test);
+        self.rows.retain(|row| test.test(row));
+    }
+
+    /// The first row of this home and name, in the order of ids. Names are compared by bytes.
+    pub fn named(&self, home: &[u8], name: &Text) -> Option<&R>
+        ensures { option_copied result ≡ find (is_named R.within R.naming home.now name.now) self.now }
+    {
+        index::named(
+            self.rows.as_slice(),
+            self.names.as_slice(),
+            home,
+            name.as_slice(),
+        )
+    }
+
+    /// The first other row with the home and the name of this one, in the order of ids.
+    pub fn other_named(&self, row: &R) -> Option<&R>
+        ensures { option_copied result ≡ find (is_other_named R.within R.naming R.key row.now) self.now }
+    {
+        index::other_named(self.rows.as_slice(), self.names.as_slice(), row)
+    }
+
+    /// The first row that passes the test, in the order of ids.
+    pub fn first<T: Test<R>>(&self, test: &T) -> Option<&R>
+        ensures { option_copied result ≡ find (T.test test.now) self.now }
+    {
+        self.rows.iter().find(|row| test.test(row))
+    }
+
+    /// The rows, in the order of their ids.
+    pub fn rows(&self) -> &[R]
+        ensures rows { result.now ≡ self.now }
+        ensures ascending { IsAscending id_cmp R.key self.now }
+    {
+        self.rows.as_slice()
+    }
+
+    /// The ids of the rows, in their order.
+    pub fn ids(&self) -> Result<IdList, Memory>
+        ensures { IfOk result (λ ids. ids ≡ map R.key self.now) }
+    {
+        let ids = ids_of(*self.rows.allocator(), self.rows.as_slice())?;
+        Ok(IdList::from_vec(ids))
+    }
+
+    /// The ids of the rows that pass the test, in their order.
+    pub fn ids_where<T: Test<R>>(&self, test: &T) -> Result<IdList, Memory>
+        ensures { IfOk result (λ ids. ids ≡ map R.key (filter (T.test test.now) self.now)) }
+    {
+        let ids = ids_passing(*self.rows.allocator(), self.rows.as_slice(), test)?;
+        Ok(IdList::from_vec(ids))
+    }
+
+    /// How many rows there are.
+    pub fn len(&self) -> usize
+        ensures { result ≡ length self.now }
+    {
+        self.rows.len()
+    }
+}
