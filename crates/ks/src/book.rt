@@ -3,8 +3,8 @@ ghost use Rattle.std.specs.Prelude.{IfOk};
 ghost use Rattle.ks_keeper.specs.Keeper.{IsTidy};
 
 use ks_base::Bytes;
+use ks_commands::Fault;
 use ks_keeper::{FileBook, KeepFault, Keeper};
-use ks_top::Fault;
 use ks_words::Words;
 use std::alloc::{AllocError, Global};
 use std::process::ExitCode;

@@ -16,9 +16,10 @@ mod threads;
 
 use book::{book_of, path_of_book};
 use ks_base::{Memory, Text};
+use ks_commands::Fault;
 use ks_outside::{Folder, RealSink, RealSource};
 use ks_pool::{Log, Pool, RealDesk};
-use ks_top::{Ended, Fault, run};
+use ks_top::{Ended, run};
 use ks_words::{Words, read_words};
 use listening::{desks, listen, serving};
 use log_file::open_log;

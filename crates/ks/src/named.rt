@@ -1,9 +1,9 @@
 //! What is said on the standard error where a command did not end whole.
 
 use ks_base::{KeysFault, Memory, Text};
+use ks_commands::Fault;
 use ks_lines::{opening_line, state_line};
 use ks_machine::OpenFault;
-use ks_top::Fault;
 use std::rt::Files;
 use std::{fs, io};
 

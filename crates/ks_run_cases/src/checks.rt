@@ -2,8 +2,8 @@
 
 use crate::run::{End, Outside, WHOLE, run};
 use anyhow::{Result, ensure};
+use ks_commands::Fault;
 use ks_tables::Case;
-use ks_top::Fault;
 use std::alloc::Global;
 use std::sync::Wait;
 use std::thread::Threads;

@@ -6,11 +6,12 @@ use crate::fails::Fails;
 use crate::kept::Kept;
 use anyhow::{Context, Result, bail, ensure};
 use ks_base::Text;
+use ks_commands::Fault;
 use ks_keeper::{Keeper, MemoryKeeper};
 use ks_outside::{
     Desk, KeyDir, MemoryDesk, MemoryDir, MemoryLink, MemorySink, MemorySource, Sink, Source,
 };
-use ks_top::{Ended, Fault};
+use ks_top::Ended;
 use std::alloc::Global;
 use std::sync::Wait;
 use std::thread::Threads;

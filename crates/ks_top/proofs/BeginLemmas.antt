@@ -29,18 +29,18 @@ use Rattle.ks_written.specs.Written.{file_of}
 use Rattle.ks_state.specs.Restoring.{last_moment_in, restored_front}
 use Rattle.ks_state.specs.Standing.{StandsWithAllKept}
 use Rattle.ks_top.specs.declared.begun.Start.{Start}
-use Rattle.ks_top.specs.declared.fault.Fault.{Fault}
-use Rattle.ks_top.specs.declared.fault.Fault.TheVariants as fault
+use Rattle.ks_commands.specs.declared.fault.Fault.{Fault}
+use Rattle.ks_commands.specs.declared.fault.Fault.TheVariants as fault
 use Rattle.ks_top.specs.declared.opened.NotOpened.{NotOpened}
 use Rattle.ks_top.specs.declared.opened.Opened.{Opened}
 use Rattle.ks_top.specs.Identities.{Begins, StaysKept, Stopped, Stops}
 use Rattle.ks_top.specs.Identities as stop
-use Rattle.ks_top.specs.Opened.{IsGiven, IsOther, IsText, ReadsFile}
+use Rattle.ks_commands.specs.Opened.{IsGiven, IsOther, IsText, ReadsFile}
 use Rattle.ks_top.specs.World.{World}
 use Rattle.ks_top.specs.steps.Beginnings.{BegunAgain, BegunAnew, DidNotGoOn, GoesOnFrom, IsHeaderFor, IsOpenedAt, OpensAt, StartsAgain, StaysAnew, StopsAgain, WentOn, bad_opening, bad_state, front_of, no_memory, of_other, opening_of}
-use Rattle.ks_top.specs.steps.Openings.{IsRead, of_header, of_keeper, of_unread}
-use Rattle.ks_top.proofs.CountLemmas.{counts_for, counts_later, counts_none, looks_for, looks_none, reads_for, reads_none}
-use Rattle.ks_top.proofs.OpeningLemmas.{formed_text, is_opening, longer, reached_none, refuses_form}
+use Rattle.ks_commands.specs.steps.Openings.{IsRead, of_header, of_keeper, of_unread}
+use Rattle.ks_commands.proofs.CountLemmas.{counts_for, counts_later, counts_none, looks_for, looks_none, reads_for, reads_none}
+use Rattle.ks_commands.proofs.OpeningLemmas.{formed_text, is_opening, longer, reached_none, refuses_form}
 
 -- how a server began is seen at the end of its run too, where its keeper is whole all along, and its folder was left alone since
 

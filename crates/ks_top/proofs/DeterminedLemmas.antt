@@ -26,7 +26,7 @@ use Rattle.ks_server.specs.Laws.{IsPlaced}
 use Rattle.ks_server.specs.Workers.{Place, exchanges_of}
 use Rattle.ks_service.specs.Called.{made_by, numbered}
 use Rattle.ks_words.specs.declared.words.Words.{Words}
-use Rattle.ks_top.specs.declared.fault.Fault.{Fault}
+use Rattle.ks_commands.specs.declared.fault.Fault.{Fault}
 use Rattle.ks_top.specs.Headline.{Headline, TellsOf, Worker, exchanges_by}
 use Rattle.ks_top.specs.Laws.{ChangesAreDetermined, RequestsComplete, checked_at}
 use Rattle.ks_top.specs.World.{World}

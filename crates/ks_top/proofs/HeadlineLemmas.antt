@@ -23,7 +23,7 @@ use Rattle.ks_words.specs.declared.words.Places.{Places}
 use Rattle.ks_words.specs.declared.words.Words.{Words}
 use Rattle.ks_words.specs.declared.words.Words.TheVariants as asked
 use Rattle.ks_words.specs.Words.{words_of}
-use Rattle.ks_top.specs.declared.fault.Fault.{Fault}
+use Rattle.ks_commands.specs.declared.fault.Fault.{Fault}
 use Rattle.ks_top.specs.Headline.{AreWorkers, HasLinks, Headline, TellsOf, Worker, exchanges_by, serves, talks}
 use Rattle.ks_top.specs.Identities.{Begins, HadNoRoom}
 use Rattle.ks_top.specs.Runs.{Does, Runs}

@@ -19,11 +19,11 @@ use Rattle.ks_setup.specs.declared.opening.OpeningFault.TheVariants as refusal
 use Rattle.ks_words.specs.declared.words.Words.{Words}
 use Rattle.ks_words.specs.declared.words.Words.TheVariants as asked
 use Rattle.ks_words.specs.Words.{words_of}
-use Rattle.ks_top.specs.declared.fault.Fault.{Fault}
-use Rattle.ks_top.specs.declared.fault.Fault.TheVariants as fault
+use Rattle.ks_commands.specs.declared.fault.Fault.{Fault}
+use Rattle.ks_commands.specs.declared.fault.Fault.TheVariants as fault
 use Rattle.ks_top.specs.Identities.{Begins, Opened, Stopped, Stops, anew, early, given, other, unformed, unread}
 use Rattle.ks_top.specs.Laws.{CommandsComplete, ConnectionsComplete, DeskFaultsAreCounted, EndsUnfailed, IsCounted, IsUnfailed, NothingFailed, SomeAcceptRose, StoodStill, places_of}
-use Rattle.ks_top.specs.Opened.{StopsOpening, StopsRestoring}
+use Rattle.ks_commands.specs.Opened.{StopsOpening, StopsRestoring}
 use Rattle.ks_top.specs.Runs.{ChangesKeys, Checks, Does, MakesRecord, Runs}
 use Rattle.ks_top.specs.Serve.{serving, workers_fault}
 use Rattle.ks_top.specs.Serve as serve

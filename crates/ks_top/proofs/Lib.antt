@@ -1,12 +1,5 @@
-pub mod LineLemmas
-pub mod CheckLemmas
-pub mod CheckerLemmas
-pub mod KeyFolderLemmas
-pub mod CountLemmas
-pub mod OpeningLemmas
 pub mod StartLemmas
 pub mod BeginLemmas
-pub mod PasswordLemmas
 pub mod TalkLemmas
 pub mod RunLemmas
 pub mod ServeLemmas

@@ -7,7 +7,7 @@ use Rattle.ks_outside.specs.Files.{OnlyLooks}
 use Rattle.ks_outside.specs.Streams.{OnlyReads, StreamState}
 use Rattle.ks_top.specs.declared.opened.Opened.{Opened}
 use Rattle.ks_top.specs.Identities as end
-use Rattle.ks_top.specs.Opened.{ReadsFile}
+use Rattle.ks_commands.specs.Opened.{ReadsFile}
 use Rattle.ks_top.specs.World.{World}
 use Rattle.ks_top.specs.steps.Beginnings.{IsOpenedAt, front_of}
 use Rattle.ks_top.proofs.BeginLemmas.{begins_later}

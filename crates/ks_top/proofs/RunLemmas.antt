@@ -11,14 +11,14 @@ use Rattle.ks_outside.specs.Streams.{OnlyReads, OnlyWrites, StreamState}
 use Rattle.ks_server.specs.Workers.{Place}
 use Rattle.ks_words.specs.declared.words.Words.{Words}
 use Rattle.ks_words.specs.Words.{words_of}
-use Rattle.ks_top.specs.declared.fault.Fault.{Fault}
-use Rattle.ks_top.specs.declared.fault.Fault.TheVariants as fault
-use Rattle.ks_top.specs.Ending.{EndsCheck, IsStreamFault, result_of}
-use Rattle.ks_top.specs.KeyFolders.{EndsRotation, EndsSetup, IsFolderFault, OnlyDraws}
-use Rattle.ks_top.specs.Passwords.{DrawsOnce, EndsPassword, IsPasswordFault, ReadsFront}
+use Rattle.ks_commands.specs.declared.fault.Fault.{Fault}
+use Rattle.ks_commands.specs.declared.fault.Fault.TheVariants as fault
+use Rattle.ks_commands.specs.Ending.{EndsCheck, IsStreamFault, result_of}
+use Rattle.ks_commands.specs.KeyFolders.{EndsRotation, EndsSetup, IsFolderFault, OnlyDraws}
+use Rattle.ks_commands.specs.Passwords.{DrawsOnce, EndsPassword, IsPasswordFault, ReadsFront}
 use Rattle.ks_top.specs.Runs.{ChangesKeys, Checks, Does, MakesRecord, Rotates, Runs, SetsUp, outside}
 use Rattle.ks_top.specs.World.{World}
-use Rattle.ks_top.proofs.CountLemmas.{counts_for, reads_for}
+use Rattle.ks_commands.proofs.CountLemmas.{counts_for, reads_for}
 
 pub runs_by : {Link Seat K : Type 0} (keeping : Keeping K) (view : Seat → Place Link) (stream : Link → StreamState) (words : List (List ℕ)) (asked : Words) (old new : World Link Seat K) (f : Option Fault) (state : Option (BookedState K))
     → asked ≡ words_of words → Does keeping view stream asked old new f state → Runs keeping view stream words old new f state

@@ -20,8 +20,8 @@ use Rattle.ks_server.specs.Work.{IsReadingAmong}
 use Rattle.ks_server.specs.Workers.{AreServed, Place, ServesAll, Shift, all_exchanges, exchanges_of}
 use Rattle.ks_state.specs.Shown.{Shown}
 use Rattle.ks_state.specs.Standing.{StandsWithAllKept}
-use Rattle.ks_top.specs.declared.fault.Fault.{Fault}
-use Rattle.ks_top.specs.declared.fault.Fault.TheVariants as fault
+use Rattle.ks_commands.specs.declared.fault.Fault.{Fault}
+use Rattle.ks_commands.specs.declared.fault.Fault.TheVariants as fault
 use Rattle.ks_top.specs.Serve.{Served, ServedDesks, workers_fault}
 use Rattle.ks_top.specs.World.{World}
 use Rattle.ks_turn.specs.Passes.{Ends, Passed, first_pass}

@@ -19,12 +19,12 @@ use Rattle.ks_setup.specs.Headers.{GivesOpening, IsHeaderOf}
 use Rattle.ks_setup.specs.Openings.{AnswersOpening, Drew, Opens}
 use Rattle.ks_written.specs.Written.{folder_wanted}
 use Rattle.ks_top.specs.declared.begun.Start.{Start}
-use Rattle.ks_top.specs.declared.fault.Fault.{Fault}
-use Rattle.ks_top.specs.declared.fault.Fault.TheVariants as fault
-use Rattle.ks_top.specs.Opened.{AreHeld, IsOpening, StopsOpening}
+use Rattle.ks_commands.specs.declared.fault.Fault.{Fault}
+use Rattle.ks_commands.specs.declared.fault.Fault.TheVariants as fault
+use Rattle.ks_commands.specs.Opened.{AreHeld, IsOpening, StopsOpening}
 use Rattle.ks_top.specs.steps.Beginnings.{HasNewHeader, IsHeaderFault, IsHeaderFor, IsStart, RefusesStart, StartsAgain, StartsAnew, StaysAnew, opening_of}
-use Rattle.ks_top.specs.steps.Openings.{IsRead, IsReadFault, of_state}
-use Rattle.ks_top.proofs.OpeningLemmas.{is_opening}
+use Rattle.ks_commands.specs.steps.Openings.{IsRead, IsReadFault, of_state}
+use Rattle.ks_commands.proofs.OpeningLemmas.{is_opening}
 
 -- an opening is refused, or there was no memory
 

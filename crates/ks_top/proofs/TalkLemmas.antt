@@ -14,7 +14,7 @@ use Rattle.ks_server.specs.Sessions.{EndsSession}
 use Rattle.ks_server.specs.Ties.{KeepsLinks}
 use Rattle.ks_server.specs.Work.{PassMoves}
 use Rattle.ks_server.specs.Work as work
-use Rattle.ks_top.specs.declared.fault.Fault.{Fault}
+use Rattle.ks_commands.specs.declared.fault.Fault.{Fault}
 use Rattle.ks_top.specs.Talk.{ServedOne, Talked, ending}
 use Rattle.ks_top.specs.World.{World}
 use Rattle.ks_top.proofs.ServeLemmas.{high_of, made_once}

@@ -18,8 +18,8 @@ use Rattle.ks_server.specs.Workers.{AreVisited, Place, Visit, accepted_of, excha
 use Rattle.ks_words.specs.declared.words.Places.{Places}
 use Rattle.ks_words.specs.declared.words.Words.{Words}
 use Rattle.ks_words.specs.declared.words.Words.TheVariants as asked
-use Rattle.ks_top.specs.declared.fault.Fault.{Fault}
-use Rattle.ks_top.specs.declared.fault.Fault.TheVariants as fault
+use Rattle.ks_commands.specs.declared.fault.Fault.{Fault}
+use Rattle.ks_commands.specs.declared.fault.Fault.TheVariants as fault
 use Rattle.ks_top.specs.Identities.{Begins}
 use Rattle.ks_top.specs.Serve.{serving}
 use Rattle.ks_top.specs.World.{World, link_of}

@@ -15,9 +15,9 @@ use Rattle.ks_outside.specs.Streams.{OnlyReads}
 use Rattle.ks_setup.specs.declared.opening.OpeningFault.TheVariants as refusal
 use Rattle.ks_setup.specs.Headers.{GivesOpening}
 use Rattle.ks_state.specs.Restoring.{restored_front}
-use Rattle.ks_top.specs.declared.fault.Fault.{Fault}
-use Rattle.ks_top.specs.declared.fault.Fault.TheVariants as fault
-use Rattle.ks_top.specs.Opened.{IsGiven, IsOpening, IsOther, ReadsFile, RefusesForm, StopsOpening, StopsRestoring}
+use Rattle.ks_commands.specs.declared.fault.Fault.{Fault}
+use Rattle.ks_commands.specs.declared.fault.Fault.TheVariants as fault
+use Rattle.ks_commands.specs.Opened.{IsGiven, IsOpening, IsOther, ReadsFile, RefusesForm, StopsOpening, StopsRestoring}
 use Rattle.ks_top.specs.World.{World}
 
 -- the keeper has no header yet

@@ -31,8 +31,8 @@ use Rattle.ks_server.specs.Workers.{IsVisited, Place, Visit}
 use Rattle.ks_setup.specs.declared.opening.OpeningFault.TheVariants as refusal
 use Rattle.ks_words.specs.declared.words.Words.{Words}
 use Rattle.ks_tokens.specs.Laws.{AsksFor, HasEnded, HasValidCaller}
-use Rattle.ks_top.specs.declared.fault.Fault.{Fault}
-use Rattle.ks_top.specs.declared.fault.Fault.TheVariants as fault
+use Rattle.ks_commands.specs.declared.fault.Fault.{Fault}
+use Rattle.ks_commands.specs.declared.fault.Fault.TheVariants as fault
 use Rattle.ks_top.specs.Headline.{Headline, Worker, exchanges_by}
 use Rattle.ks_top.specs.Runs.{Runs}
 use Rattle.ks_top.specs.World.{World}

@@ -11,11 +11,11 @@ use Rattle.ks_server.specs.Workers.{Place}
 use Rattle.ks_words.specs.declared.words.Words.{Words}
 use Rattle.ks_words.specs.declared.words.Words.TheVariants as asked
 use Rattle.ks_words.specs.Words.{words_of}
-use Rattle.ks_top.specs.declared.fault.Fault.{Fault}
-use Rattle.ks_top.specs.declared.fault.Fault.TheVariants as fault
-use Rattle.ks_top.specs.Ending.{EndsCheck, IsStreamFault, result_of}
-use Rattle.ks_top.specs.KeyFolders.{EndsRotation, EndsSetup, IsFolderFault, OnlyDraws, Outside}
-use Rattle.ks_top.specs.Passwords.{DrawsOnce, EndsPassword, IsPasswordFault, ReadsFront}
+use Rattle.ks_commands.specs.declared.fault.Fault.{Fault}
+use Rattle.ks_commands.specs.declared.fault.Fault.TheVariants as fault
+use Rattle.ks_commands.specs.Ending.{EndsCheck, IsStreamFault, result_of}
+use Rattle.ks_commands.specs.KeyFolders.{EndsRotation, EndsSetup, IsFolderFault, OnlyDraws, Outside}
+use Rattle.ks_commands.specs.Passwords.{DrawsOnce, EndsPassword, IsPasswordFault, ReadsFront}
 use Rattle.ks_top.specs.Serve.{Serves}
 use Rattle.ks_top.specs.Talk.{Talks}
 use Rattle.ks_top.specs.World.{World}

@@ -12,8 +12,8 @@ use Rattle.ks_server.specs.Exchanges.{made}
 use Rattle.ks_server.specs.Orders.{IsLate}
 use Rattle.ks_server.specs.Work.{IsReadingAmong}
 use Rattle.ks_server.specs.Workers.{AreServed, Place, Shift, all_exchanges, first_keeper, some_failed}
-use Rattle.ks_top.specs.declared.fault.Fault.{Fault}
-use Rattle.ks_top.specs.declared.fault.Fault.TheVariants as fault
+use Rattle.ks_commands.specs.declared.fault.Fault.{Fault}
+use Rattle.ks_commands.specs.declared.fault.Fault.TheVariants as fault
 use Rattle.ks_top.specs.Identities.{HadNoRoom, OpensThen}
 use Rattle.ks_top.specs.World.{World}
 use Rattle.ks_turn.specs.Sums.{below, times}

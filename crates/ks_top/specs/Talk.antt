@@ -13,8 +13,8 @@ use Rattle.ks_server.specs.Orders.{Goes, GoesAlone}
 use Rattle.ks_server.specs.Sessions.{EndsSession}
 use Rattle.ks_server.specs.Ties.{AreNumbered, KeepsLinks, Tied}
 use Rattle.ks_server.specs.Work.{IsReadingAmong}
-use Rattle.ks_top.specs.declared.fault.Fault.{Fault}
-use Rattle.ks_top.specs.declared.fault.Fault.TheVariants as fault
+use Rattle.ks_commands.specs.declared.fault.Fault.{Fault}
+use Rattle.ks_commands.specs.declared.fault.Fault.TheVariants as fault
 use Rattle.ks_top.specs.Identities.{HadNoRoom, OpensThen}
 use Rattle.ks_top.specs.World.{World}
 use Rattle.ks_turn.specs.Sums.{below, times}

@@ -8,13 +8,13 @@ ghost use Rattle.ks_outside.specs.Files.{DirState, OnlyLooks};
 ghost use Rattle.ks_outside.specs.Streams.{OnlyReads, StreamState};
 ghost use Rattle.ks_policy.specs.Openings.{plain};
 ghost use Rattle.ks_top.specs.Identities.{StaysKept, Stops};
-ghost use Rattle.ks_top.specs.Opened.{ReadsFile, StopsOpening};
+ghost use Rattle.ks_commands.specs.Opened.{ReadsFile, StopsOpening};
 ghost use Rattle.ks_top.specs.steps.Beginnings.{HasNewHeader, IsBegun, IsHeaderFault, IsStart, RefusesStart, StartsAgain, StartsAnew, StaysAnew, StopsAgain};
-ghost use Rattle.ks_top.specs.steps.Openings.{IsRead};
+ghost use Rattle.ks_commands.specs.steps.Openings.{IsRead};
 
-use crate::fault::Fault;
-use crate::opening::{read_file, read_held};
 use ks_base::{Memory, Text};
+use ks_commands::Fault;
+use ks_commands::opening::{read_file, read_held};
 use ks_entries::{Header, headers_differ, read_header, write_header};
 use ks_keeper::Keeper;
 use ks_outside::{Desk, KeyDir, Source};

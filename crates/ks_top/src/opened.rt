@@ -8,8 +8,8 @@ ghost use Rattle.ks_policy.specs.Openings.{plain};
 ghost use Rattle.ks_top.specs.steps.Beginnings.{GoesOnFrom, IsStart, OpensAt};
 
 use crate::begun::{Begun, Start, begin};
-use crate::fault::Fault;
 use ks_base::Text;
+use ks_commands::Fault;
 use ks_keep::{NotRestored, Past, restored};
 use ks_keeper::Keeper;
 use ks_outside::{Desk, KeyDir, Source};

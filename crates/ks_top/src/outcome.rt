@@ -3,7 +3,7 @@ ghost use Rattle.ks_base.specs.Refusals.{fault_in};
 ghost use Rattle.ks_top.specs.steps.Ends.{keeper_at, state_at};
 ghost use Rattle.ks_top.specs.World.{HasKeeper};
 
-use crate::fault::Fault;
+use ks_commands::Fault;
 use ks_keep::Booked;
 use ks_keeper::Keeper;
 use std::marker::Brand;

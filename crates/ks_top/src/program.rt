@@ -2,24 +2,24 @@ ghost use Rattle.std.specs.Prelude.{◌≡◌, ◌<◌, ◌∷◌, List, length,
 ghost use Rattle.ks_keep.specs.Books.{seen_by};
 ghost use Rattle.ks_keeper.specs.Keeper.{IsTidy};
 ghost use Rattle.ks_words.specs.Words.{words_of};
-ghost use Rattle.ks_top.specs.Ending.{status_of};
+ghost use Rattle.ks_commands.specs.Ending.{status_of};
 ghost use Rattle.ks_top.specs.Headline.{Headline};
 ghost use Rattle.ks_top.specs.Runs.{Runs};
 ghost use Rattle.ks_top.specs.World.{HasKeeper};
 ghost use Rattle.ks_top.specs.steps.Ends.{keeper_at, state_at};
 
-use crate::check::check;
-use crate::fault::Fault;
-use crate::key_folder::{rotate, set_up};
 use crate::laws::{
     changes_are_determined, commands_complete, connections_complete, desk_faults_are_counted,
     refused_ever_after, requests_complete, restart_forgets_nothing, told_is_kept,
 };
 use crate::outcome::Outcome;
-use crate::password::make_record;
 use crate::serve::serve;
 use crate::talk::talk;
 use ks_base::Text;
+use ks_commands::Fault;
+use ks_commands::check::check;
+use ks_commands::key_folder::{rotate, set_up};
+use ks_commands::password::make_record;
 use ks_keep::Booked;
 use ks_keeper::Keeper;
 use ks_outside::{Desk, KeyDir, Sink, Source};

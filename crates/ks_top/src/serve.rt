@@ -10,9 +10,9 @@ ghost use Rattle.ks_state.specs.Standing.{StandsWithAllKept};
 ghost use Rattle.ks_top.specs.Serve.{Served, Serves, workers_fault};
 ghost use Rattle.ks_top.specs.steps.Ends.{keeper_at, state_at};
 
-use crate::fault::Fault;
 use crate::opened::{NotOpened, Opened, open};
 use crate::outcome::{End, Outcome};
+use ks_commands::Fault;
 use ks_keep::{Booked, KeeperFailed, Since};
 use ks_keeper::Keeper;
 use ks_outside::{Desk, KeyDir, Open, Source};

@@ -27,14 +27,14 @@ use Rattle.ks_state.specs.Standing.{StandsWithAllKept}
 use Rattle.ks_top.specs.declared.begun.Begun.{Begun}
 use Rattle.ks_top.specs.declared.begun.Begun.TheVariants as begun
 use Rattle.ks_top.specs.declared.begun.Start.{Start}
-use Rattle.ks_top.specs.declared.fault.Fault.{Fault}
-use Rattle.ks_top.specs.declared.fault.Fault.TheVariants as fault
+use Rattle.ks_commands.specs.declared.fault.Fault.{Fault}
+use Rattle.ks_commands.specs.declared.fault.Fault.TheVariants as fault
 use Rattle.ks_top.specs.declared.opened.NotOpened.{NotOpened}
 use Rattle.ks_top.specs.declared.opened.Opened.{Opened}
 use Rattle.ks_top.specs.Identities.{Begins, HasNoHeader, Stopped}
-use Rattle.ks_top.specs.Opened.{AreHeld, IsGiven, IsOpening, ReadsFile}
+use Rattle.ks_commands.specs.Opened.{AreHeld, IsGiven, IsOpening, ReadsFile}
 use Rattle.ks_top.specs.World.{World}
-use Rattle.ks_top.specs.steps.Openings.{of_header, of_unread}
+use Rattle.ks_commands.specs.steps.Openings.{of_header, of_unread}
 
 -- the opening of what was opened
 abbrev pub opening_of : Start → PlainOpening

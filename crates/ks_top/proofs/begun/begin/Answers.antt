@@ -3,9 +3,9 @@ use Rattle.std.proofs.lemmas.Result.{err_from_is_err_and}
 use Rattle.ks_keep.specs.Books.{seen_by}
 use Rattle.ks_keeper.specs.Keeper.{Kept}
 use Rattle.ks_top.specs.Identities as stop
-use Rattle.ks_top.specs.steps.Openings.{IsRead}
+use Rattle.ks_commands.specs.steps.Openings.{IsRead}
 use Rattle.ks_top.proofs.BeginLemmas.{again_stops, anew_stays, begun_again, first_book, keeper_stops}
-use Rattle.ks_top.proofs.CountLemmas.{reads_for}
+use Rattle.ks_commands.proofs.CountLemmas.{reads_for}
 use Rattle.ks_top.proofs.StartLemmas.{anew_opening, read_early}
 use Rattle.ks_top.proofs.begun.begin.Goals as goal
 

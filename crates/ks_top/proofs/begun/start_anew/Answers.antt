@@ -3,8 +3,8 @@ use Rattle.std.proofs.lemmas.Result.{err_from_is_err_and}
 use Rattle.ks_keep.specs.Books.{seen_by}
 use Rattle.ks_policy.specs.Openings.{plain}
 use Rattle.ks_written.specs.Written.{folder_wanted}
-use Rattle.ks_top.specs.Opened.{AreHeld}
-use Rattle.ks_top.proofs.OpeningLemmas.{held_stops, opening_stops, opens}
+use Rattle.ks_commands.specs.Opened.{AreHeld}
+use Rattle.ks_commands.proofs.OpeningLemmas.{held_stops, opening_stops, opens}
 use Rattle.ks_top.proofs.StartLemmas.{start_stops, starts_anew, stays_anew, unput_stops}
 use Rattle.ks_top.proofs.begun.start_anew.Goals as goal
 

@@ -2,7 +2,7 @@ use Rattle.std.proofs.Common.{[], refl, ap, subst}
 use Rattle.ks_keep.specs.Pasts.{entries_of}
 use Rattle.ks_top.specs.steps.Beginnings.{IsBegun}
 use Rattle.ks_top.proofs.BeginLemmas.{again_tidy, goes_on_at, held_header, opened_anew, stopped_early}
-use Rattle.ks_top.proofs.CountLemmas.{looks_for, reads_for}
+use Rattle.ks_commands.proofs.CountLemmas.{looks_for, reads_for}
 use Rattle.ks_top.proofs.opened.open.Goals as goal
 
 pub returns-in_default : goal.returns-in_default

@@ -1,0 +1,4 @@
+pub mod KeyCalls
+pub mod Openings
+pub mod PasswordReads
+pub mod Progress
