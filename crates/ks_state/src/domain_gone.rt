@@ -2,6 +2,7 @@
 ghost use Rattle.std.specs.Prelude.{◌≡◌, ◌∷◌, ◌++◌, ◌&&◌, not, filter, map, IfOk};
 ghost use Rattle.ks_base.specs.declared.events.Revoke.{Revoke};
 ghost use Rattle.ks_base.specs.People.{group_ids, is_group_in, is_user_in, users_of};
+ghost use Rattle.ks_base.specs.Tables.{id_cmp, IsAscending};
 ghost use Rattle.ks_base.specs.Trees.{lies_in, projects_of};
 ghost use Rattle.ks_base.specs.Trusts.{trusts_gone, trusts_left};
 ghost use Rattle.ks_machine.specs.Changes.{is_actor_gone, is_left, is_target_gone};
@@ -30,6 +31,7 @@ pub(crate) fn domain_trusts(
 ) -> Result<TrustsGone, Memory>
     requires { AreOf gone.now tree.now people.now }
     ensures things { IfOk result (λ all. all.things ≡ (Revoke.Domain gone.now.domain ∷ (map (λ row. Revoke.Project row.id) (filter (lies_in gone.now.domain) tree.now.projects) ++ map (λ row. Revoke.User row.id) (filter (is_user_in gone.now.domain) people.now.users))) ++ map (λ trust. Revoke.Trust trust.id) (trusts_gone trusts.now (is_touched gone.now.domain tree.now people.now))) }
+    ensures ascending { IfOk result (λ all. IsAscending id_cmp (λ id. id) all.ids) }
     ensures closed { IfOk result (λ all. IsClosed trusts.now all.ids) }
     ensures left { IfOk result (λ all. without_trusts all.ids trusts.now ≡ trusts_left trusts.now (is_touched gone.now.domain tree.now people.now)) }
 {

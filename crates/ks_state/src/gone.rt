@@ -1,5 +1,6 @@
 //! What goes and ends with a row that goes.
 ghost use Rattle.std.specs.Prelude.{◌≡◌, IfOk};
+ghost use Rattle.ks_base.specs.Tables.{id_cmp, IsAscending};
 ghost use Rattle.ks_machine.specs.declared.change.Change.{Change};
 ghost use Rattle.ks_machine.specs.Changes.{ended_by, trusts_after};
 ghost use Rattle.ks_state.specs.DomainRows.{AreOf};
@@ -18,6 +19,7 @@ impl Identity {
     pub(crate) fn domain_gone(&self, rows: &DomainRows) -> Result<TrustsGone, Memory>
         requires { AreOf rows.now (tree_in self.now) (people_in self.now) }
         ensures things { IfOk result (λ gone. gone.things ≡ ended_by self.now.state.rows (Change.DropDomain rows.now.domain)) }
+        ensures ascending { IfOk result (λ gone. IsAscending id_cmp (λ other. other) gone.ids) }
         ensures closed { IfOk result (λ gone. IsClosed self.now.state.rows.trusts gone.ids) }
         ensures left { IfOk result (λ gone. without_trusts gone.ids self.now.state.rows.trusts ≡ trusts_after self.now.state.rows (Change.DropDomain rows.now.domain)) }
     {
@@ -27,6 +29,7 @@ impl Identity {
     /// The trusts that go with a project, and all that ends with it.
     pub(crate) fn project_gone(&self, id: &Id) -> Result<TrustsGone, Memory>
         ensures things { IfOk result (λ gone. gone.things ≡ ended_by self.now.state.rows (Change.DropProject id.now)) }
+        ensures ascending { IfOk result (λ gone. IsAscending id_cmp (λ other. other) gone.ids) }
         ensures closed { IfOk result (λ gone. IsClosed self.now.state.rows.trusts gone.ids) }
         ensures left { IfOk result (λ gone. without_trusts gone.ids self.now.state.rows.trusts ≡ trusts_after self.now.state.rows (Change.DropProject id.now)) }
     {
@@ -38,6 +41,7 @@ impl Identity {
     /// The trusts that go with a user, and all that ends with it.
     pub(crate) fn user_gone(&self, id: &Id) -> Result<TrustsGone, Memory>
         ensures things { IfOk result (λ gone. gone.things ≡ ended_by self.now.state.rows (Change.DropUser id.now)) }
+        ensures ascending { IfOk result (λ gone. IsAscending id_cmp (λ other. other) gone.ids) }
         ensures closed { IfOk result (λ gone. IsClosed self.now.state.rows.trusts gone.ids) }
         ensures left { IfOk result (λ gone. without_trusts gone.ids self.now.state.rows.trusts ≡ trusts_after self.now.state.rows (Change.DropUser id.now)) }
     {
@@ -49,6 +53,7 @@ impl Identity {
     /// The trusts that go with a trust, and all that ends with it.
     pub(crate) fn trust_gone(&self, id: &Id) -> Result<TrustsGone, Memory>
         ensures things { IfOk result (λ gone. gone.things ≡ ended_by self.now.state.rows (Change.DropTrust id.now)) }
+        ensures ascending { IfOk result (λ gone. IsAscending id_cmp (λ other. other) gone.ids) }
         ensures closed { IfOk result (λ gone. IsClosed self.now.state.rows.trusts gone.ids) }
         ensures left { IfOk result (λ gone. without_trusts gone.ids self.now.state.rows.trusts ≡ trusts_after self.now.state.rows (Change.DropTrust id.now)) }
     {
@@ -60,6 +65,7 @@ impl Identity {
     /// The trusts that go with a role, and all that ends with it.
     pub(crate) fn role_gone(&self, id: &Id) -> Result<TrustsGone, Memory>
         ensures things { IfOk result (λ gone. gone.things ≡ ended_by self.now.state.rows (Change.DropRole id.now)) }
+        ensures ascending { IfOk result (λ gone. IsAscending id_cmp (λ other. other) gone.ids) }
         ensures closed { IfOk result (λ gone. IsClosed self.now.state.rows.trusts gone.ids) }
         ensures left { IfOk result (λ gone. without_trusts gone.ids self.now.state.rows.trusts ≡ trusts_after self.now.state.rows (Change.DropRole id.now)) }
     {

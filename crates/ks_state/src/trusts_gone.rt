@@ -1,6 +1,7 @@
 //! The trusts that go with a change.
 ghost use Rattle.std.specs.Prelude.{◌≡◌, ◌++◌, map, IfOk};
 ghost use Rattle.ks_base.specs.declared.events.Revoke.{Revoke};
+ghost use Rattle.ks_base.specs.Tables.{id_cmp, IsAscending};
 ghost use Rattle.ks_base.specs.Trusts.{has_role, names_trust, trusts_gone, trusts_left};
 ghost use Rattle.ks_trust.specs.State.{ids_of, without_trusts, IsClosed};
 
@@ -44,6 +45,7 @@ impl Test<TrustRow> for WithRole<'_> {
 /// The ids of the trusts that pass, and of all that descend from one of them.
 fn gone_with<T: Test<TrustRow>>(trusts: &Trusts, test: &T) -> Result<IdList, Memory>
     ensures ids { IfOk result (λ ids. ids ≡ ids_of (trusts_gone trusts.now (T.test test.now))) }
+    ensures ascending { IfOk result (λ ids. IsAscending id_cmp (λ id. id) ids) }
     ensures closed { IfOk result (λ ids. IsClosed trusts.now ids) }
     ensures left { IfOk result (λ ids. without_trusts ids trusts.now ≡ trusts_left trusts.now (T.test test.now)) }
 {
@@ -74,6 +76,7 @@ pub(crate) fn trusts_gone<T: Test<TrustRow>>(
     first: ListOf<Revoke>,
 ) -> Result<TrustsGone, Memory>
     ensures things { IfOk result (λ gone. gone.things ≡ first ++ map (λ trust. Revoke.Trust trust.id) (trusts_gone trusts.now (T.test test.now))) }
+    ensures ascending { IfOk result (λ gone. IsAscending id_cmp (λ id. id) gone.ids) }
     ensures closed { IfOk result (λ gone. IsClosed trusts.now gone.ids) }
     ensures left { IfOk result (λ gone. without_trusts gone.ids trusts.now ≡ trusts_left trusts.now (T.test test.now)) }
 {

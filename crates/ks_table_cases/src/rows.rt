@@ -1,5 +1,6 @@
 //! Rows of each kind, made of two words.
 ghost use Rattle.std.specs.Prelude.{◌≡◌, IfOk};
+ghost use Rattle.ks_base.specs.Tables.{id_cmp, IsAscending};
 
 use anyhow::{Result, bail};
 use ks_base::{
@@ -167,7 +168,9 @@ impl Pair {
 }
 
 /// The list of this one id.
-pub fn listed(alloc: Global, id: &Id) -> Result<IdList> {
+pub fn listed(alloc: Global, id: &Id) -> Result<IdList>
+    ensures { IfOk result (λ ids. IsAscending id_cmp (λ other. other) ids) }
+{
     let mut ids = IdList::new(alloc);
     ids.push(*id)?;
     Ok(ids)

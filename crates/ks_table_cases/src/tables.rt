@@ -125,7 +125,8 @@ impl Tables {
     }
 
     fn end_trust(&mut self, pair: &Pair) -> Result<Answer> {
-        let Ok(gone) = self.trusts.with_children(&listed(self.alloc, &pair.first)?) else {
+        let ended = listed(self.alloc, &pair.first)?;
+        let Ok(gone) = self.trusts.with_children(&ended) else {
             bail!("out of memory");
         };
         self.trusts.drop_all(&gone);

@@ -1,13 +1,14 @@
 ghost use Rattle.std.specs.Prelude.{◌≡◌, ◌≢◌, ◌-◌, Err, None, OnErr, OnOk, option_map};
 ghost use Rattle.ks_base.specs.Refusals.{Changes, Decides};
 ghost use Rattle.ks_base.specs.Rows.{trust_of};
+ghost use Rattle.ks_base.specs.Tables.{id_cmp, IsAscending};
 ghost use Rattle.ks_base.specs.Trusts.{creation_fault, use_fault, use_trust, FollowsParent, IsChained};
 ghost use Rattle.ks_trust.specs.State.{with_trust, without_trusts, IsClosed};
 
 use crate::Trusts;
 use crate::checks::usable;
-use crate::trusts::{has_id, place};
-use ks_base::{Id, IdList, Memory, TrustFault, TrustRow};
+use crate::trusts::place;
+use ks_base::{Id, IdList, Memory, TrustFault, TrustRow, has_id};
 
 /// How often a trust serves yet after one use more.
 fn lowered(remaining: Option<u64>) -> Option<u64>
@@ -53,9 +54,11 @@ impl Trusts {
 
     /// Takes the trusts with these ids out. It takes no memory.
     pub fn drop_all(&mut self, ids: &IdList)
-        requires { IsClosed self.old ids.now }
+        requires closed { IsClosed self.old ids.now }
+        requires ascending { IsAscending id_cmp (λ id. id) ids.now }
         ensures { self.new ≡ without_trusts ids.now self.old }
     {
+        let ids = ids.as_slice();
         self.rows.retain(|row| !has_id(ids, &row.id));
     }
 

@@ -7,7 +7,7 @@ ghost use Rattle.ks_base.specs.Tables.{id_cmp, IsAscending};
 ghost use Rattle.ks_base.specs.Trusts.{creation_fault, first_missing, found_use_fault, is_expired, is_later, is_spent, parent_fault, parent_trust, under_fault, use_fault};
 
 use crate::Trusts;
-use crate::trusts::{has_id, place};
+use crate::trusts::{lists_role, place};
 use ks_base::limits::TRUSTS;
 use ks_base::{Id, IdList, Kind, TrustFault, TrustRow, refuse_if};
 
@@ -15,7 +15,7 @@ use ks_base::{Id, IdList, Kind, TrustFault, TrustRow, refuse_if};
 fn first_missing<'a>(roles: &'a IdList, held: &IdList) -> Option<&'a Id>
     ensures { option_copied result ≡ first_missing roles.now held.now }
 {
-    roles.as_slice().iter().find(|role| !has_id(held, role))
+    roles.as_slice().iter().find(|role| !lists_role(held, role))
 }
 
 fn is_expired(expires: Option<u64>, moment: u64) -> bool

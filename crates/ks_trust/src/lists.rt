@@ -7,7 +7,7 @@ ghost use Rattle.ks_base.specs.Trusts.{has_role, names_trust, trusts_gone};
 ghost use Rattle.ks_trust.specs.State.{ids_of, is_listed, is_touched, IsClosed};
 
 use crate::Trusts;
-use crate::trusts::has_id;
+use crate::trusts::lists_role;
 use ks_base::{Id, IdList, Memory, Revoke, Test, TrustRow};
 use std::alloc::{AllocError, Global};
 
@@ -27,7 +27,7 @@ fn has_role(role: Option<&Id>, trust: &TrustRow) -> bool
     ensures { result ≡ option_map_or (λ id. has_role id trust.now) (option_copied role.entry) false }
 {
     match role {
-        Some(id) => has_id(&trust.roles, id),
+        Some(id) => lists_role(&trust.roles, id),
         None => false,
     }
 }
@@ -97,16 +97,18 @@ impl Trusts {
     /// The ids of the trusts that these ids name, and of all that descend from one of them, in their order, each
     /// once.
     pub fn with_children(&self, ids: &IdList) -> Result<IdList, Memory>
+        requires ascending { IsAscending id_cmp (λ id. id) ids.now }
         ensures ids { IfOk result (λ all. all ≡ ids_of (trusts_gone self.now (is_listed ids.now))) }
         ensures ascending { IfOk result (λ all. IsAscending id_cmp (λ id. id) all) }
         ensures closed { IfOk result (λ all. IsClosed self.now all) }
     {
         let _rows = &self.rows;
-        let all = self.ids_hanging_on(ids)?;
+        let all = self.ids_hanging_on(ids.as_slice())?;
         Ok(IdList::from_vec(all))
     }
 
-    fn ids_hanging_on(&self, ids: &IdList) -> Result<Vec<Id>, AllocError>
+    fn ids_hanging_on(&self, ids: &[Id]) -> Result<Vec<Id>, AllocError>
+        requires ascending { IsAscending id_cmp (λ id. id) ids.now }
         ensures { IfOk result (λ all. all.items ≡ ids_of (trusts_gone self.now (is_listed ids.now))) }
     {
         self.rows

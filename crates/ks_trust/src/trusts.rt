@@ -40,11 +40,11 @@ pub(crate) fn place(rows: &[TrustRow], id: &Id) -> Result<usize, usize>
     rows.binary_search_by(|row| row.id.cmp(id))
 }
 
-/// Whether the list has this id.
-pub(crate) fn has_id(ids: &IdList, id: &Id) -> bool
-    ensures { result ≡ has_id ids.now id.now }
+/// Whether the role is one of these, which stand in any order.
+pub(crate) fn lists_role(roles: &IdList, role: &Id) -> bool
+    ensures { result ≡ has_id roles.now role.now }
 {
-    ids.as_slice().iter().any(|other| other == id)
+    roles.as_slice().iter().any(|other| other == role)
 }
 
 impl Trusts {

@@ -1,12 +1,12 @@
 //! From a trust up to the first of its chain.
 ghost use Rattle.std.specs.Prelude.{◌≡◌, IfSome, IsSomeAnd, option_map};
 ghost use Rattle.ks_base.specs.Rows.{trust_of};
+ghost use Rattle.ks_base.specs.Tables.{id_cmp, IsAscending};
 ghost use Rattle.ks_base.specs.Trusts.{first_of_new, first_trustor, goes, LeadsTo};
 ghost use Rattle.ks_trust.specs.State.{is_listed};
 
 use crate::Trusts;
-use crate::trusts::has_id;
-use ks_base::{Id, IdList, TrustRow};
+use ks_base::{Id, TrustRow, has_id};
 
 impl Trusts {
     /// The trustor of the first trust of the chain that leads to this one; `None` where no trust has this id.
@@ -44,7 +44,8 @@ impl Trusts {
     }
 
     /// Whether the list names the trust, or one above it.
-    pub(crate) fn hangs_on(&self, ids: &IdList, trust: &TrustRow) -> bool
+    pub(crate) fn hangs_on(&self, ids: &[Id], trust: &TrustRow) -> bool
+        requires ascending { IsAscending id_cmp (λ id. id) ids.now }
         ensures { result ≡ goes self.now (is_listed ids.now) trust.now }
     {
         let mut top = trust;

@@ -1,6 +1,7 @@
 use Rattle.std.proofs.Common.{rules, List, not, sym, ap, subst, ◌∙◌}
 use Rattle.std.proofs.lemmas.Fn.{filter_same}
 use Rattle.ks_base.specs.declared.trusts.TrustRow.{TrustRow}
+use Rattle.ks_base.specs.Rows.{Id}
 use Rattle.ks_base.specs.Tables.{id_cmp}
 use Rattle.ks_base.proofs.TableLemmas.{ascending_filter}
 use Rattle.ks_trust.specs.State.{is_listed, without_trusts, IsClosed}
@@ -9,8 +10,9 @@ use Rattle.ks_trust.proofs.trusts.Trusts.drop_all.Goals as goal
 
 pub invariant_of-self : goal.invariant_of-self
 invariant_of-self c =
-    let e = filter_same _ (λ row. not (is_listed c.args.ids.now row)) _ (λ x b f called. (search rules, search rules)) _ _ c.retain.ensures.filtered in
-    let closed = subst (λ (trusts : List TrustRow). IsClosed trusts c.args.ids.now) (sym c.self.view_is) c.requires in
+    let passing = filter_same _ (λ row. not (is_listed c.as_slice-ids.result.now row)) _ (λ x b f called. (search rules, search rules)) _ _ c.retain.ensures.filtered in
+    let e = passing ∙ ap (λ (ids : List Id). without_trusts ids c.self.inside.rows.items) c.as_slice-ids.ensures in
+    let closed = subst (λ (trusts : List TrustRow). IsClosed trusts c.args.ids.now) (sym c.self.view_is) c.requires.closed in
     rw e (
       ascending_filter id_cmp (λ row. row.id) (λ row. not (is_listed c.args.ids.now row)) c.self.inside.rows.items c.self.invariant.0,
       chained_without c.self.inside.rows.items c.args.ids.now c.self.invariant.1 closed,
@@ -18,5 +20,6 @@ invariant_of-self c =
 
 pub returns : goal.returns
 returns c =
-    let e = filter_same _ (λ row. not (is_listed c.args.ids.now row)) _ (λ x b f called. (search rules, search rules)) _ _ c.retain.ensures.filtered in
+    let passing = filter_same _ (λ row. not (is_listed c.as_slice-ids.result.now row)) _ (λ x b f called. (search rules, search rules)) _ _ c.retain.ensures.filtered in
+    let e = passing ∙ ap (λ (ids : List Id). without_trusts ids c.self.inside.rows.items) c.as_slice-ids.ensures in
     e ∙ ap (without_trusts c.args.ids.now) c.self.view_is
