@@ -7,9 +7,7 @@ use Rattle.std.specs.declared.cmp.Ordering.TheVariants.{Less, Equal, Greater}
 use Rattle.std.specs.Ordering.{is_eq, ordering_then}
 use Rattle.std.specs.Cmp.{IsTotalOrder}
 use Rattle.std.proofs.lemmas.Cmp.{nat_list_cmp_total, tied_itself}
-use Rattle.std.specs.List.Sorted.{IsPermutation}
 use Rattle.std.proofs.lemmas.List.{take-append-drop, get_or-map}
-use Rattle.std.proofs.lemmas.List.Sorted.{IsPermutation-sym}
 use Rattle.ks_appcred.specs.Orders.{AreBoth, AreNamed, name_of}
 use Rattle.ks_index.specs.Indexes.{Name, is_named, name_cmp}
 use Rattle.ks_base.specs.OrderLaws.{id_exact, then_equal}
@@ -17,7 +15,7 @@ use Rattle.ks_base.specs.Places.{IsFoundAt, IsGapAt}
 use Rattle.ks_base.specs.Rows.{Id, same}
 use Rattle.ks_base.specs.Tables.{Among, IsAscending, drop_row, find_row, has_key, id_cmp}
 use Rattle.ks_base.proofs.AmongLemmas.{among_left, among_mapped, among_parts, among_right, fewer_left, get_among, map_among}
-use Rattle.ks_base.proofs.LinkLemmas.{AreParts, among_moved, ascending_same, none_left, other_by, tied_not}
+use Rattle.ks_base.proofs.LinkLemmas.{ascending_same, other_by, tied_not}
 use Rattle.ks_index.proofs.NameLemmas.{name_total}
 use Rattle.ks_base.proofs.PlaceLemmas.{ascending_insert, ascending_remove, drop_found, find_found, find_gap}
 use Rattle.ks_base.proofs.RowLemmas.{among_drop, among_filter, among_found, filter_among, find_alike, found_among, id_same, same_row}
@@ -285,13 +283,3 @@ none_pass value test run rows are none x among = none_pass_by value test run row
 pub if_none : {X : Type 0} (found : Option X) (P : Type 0) → P → IfNone found P
 if_none None P holds = holds
 if_none (Some x) P holds = tt
-
--- ids that went one by one into their order
-
-pub sorted_parts : {X : Type 0} (done left sorted given : List X) → length left ≡ 0 → AreParts done left sorted → IsPermutation given sorted → (x : X) → Among done x ↔ Among given x
-sorted_parts {X} done left sorted given none parts moved x =
-    (λ among. among_moved given sorted x moved ((parts x).0 (inl among)), λ among. by ((parts x).1 (among_moved sorted given x (IsPermutation-sym given sorted moved) among)))
-  where
-    by : Among done x ⊎ Among left x → Among done x
-    by (inl among) = among
-    by (inr among) = absurd (none_left left x none among)

@@ -1,35 +1,19 @@
 -- The rows of a home stand side by side among the names.
-use Rattle.std.proofs.Common.{◌≡◌, ◌⊎◌, inl, inr, ℕ, List, [], ◌∷◌, map, refl, ap, ◌∙◌}
+use Rattle.std.proofs.Common.{◌≡◌, ℕ, List, map, ap, ◌∙◌}
 use Rattle.std.specs.List.{filter}
 use Rattle.std.specs.declared.cmp.Ordering.{Ordering}
-use Rattle.std.specs.declared.cmp.Ordering.TheVariants.{Less, Equal, Greater}
-use Rattle.std.specs.Ordering.{is_eq, ordering_then}
+use Rattle.std.specs.Ordering.{is_eq}
 use Rattle.std.proofs.lemmas.Cmp.{nat_list_cmp_total}
+use Rattle.ks_index.proofs.RunLemmas.{ascending_themselves, first_part}
 use Rattle.ks_appcred.proofs.MappedLemmas.{ascending_unmapped, filter_mapped}
 use Rattle.ks_appcred.specs.Orders.{name_of}
 use Rattle.ks_index.specs.Indexes.{name_cmp}
 use Rattle.ks_base.specs.OrderLaws.{keyed_run}
 use Rattle.ks_base.specs.Rows.{same}
 use Rattle.ks_base.specs.Runs.{IsRun}
-use Rattle.ks_base.specs.Tables.{AreAbove, IsAscending, id_cmp}
+use Rattle.ks_base.specs.Tables.{IsAscending, id_cmp}
 use Rattle.ks_base.proofs.ListLemmas.{filter_alike}
 use Rattle.ks_base.proofs.RowLemmas.{id_same}
-
-first_part : (o p : Ordering) → ordering_then o p ≡ Less → (o ≡ Less) ⊎ (o ≡ Equal)
-first_part Less p e = inl refl
-first_part Equal p e = inr refl
-first_part Greater p e = cc
-
--- items by the order of their keys, as their own keys
-above_themselves : {X K : Type 0} (cmp : K → K → Ordering) (key : X → K) (low : X) (xs : List X) → AreAbove cmp key (key low) xs →
-    AreAbove (λ a b. cmp (key a) (key b)) (λ x. x) low xs
-above_themselves cmp key low [] above = tt
-above_themselves cmp key low (x ∷ xs) above = (above.0, above_themselves cmp key low xs above.1)
-
-pub ascending_themselves : {X K : Type 0} (cmp : K → K → Ordering) (key : X → K) (xs : List X) → IsAscending cmp key xs →
-    IsAscending (λ a b. cmp (key a) (key b)) (λ x. x) xs
-ascending_themselves cmp key [] up = tt
-ascending_themselves cmp key (x ∷ xs) up = (above_themselves cmp key x xs up.0, ascending_themselves cmp key xs up.1)
 
 -- shared rows by home and name
 abbrev pub shared_cmp : {A R : Type 0} → (A → R) → (R → List ℕ) → (R → List ℕ) → A → A → Ordering

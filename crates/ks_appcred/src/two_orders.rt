@@ -5,10 +5,9 @@ ghost use Rattle.ks_index.specs.Indexes.{is_named};
 ghost use Rattle.ks_base.specs.Rows.{same};
 ghost use Rattle.ks_base.specs.Tables.{id_cmp, IsAscending, find_row, put_row, drop_row};
 
-use crate::orders::{
-    drop_run, id_place, ids_of, in_order, keep, name_place, put_in_both, run_of, take_out,
-};
+use crate::orders::{drop_run, id_place, ids_of, keep, name_place, put_in_both, run_of, take_out};
 use ks_base::{Id, IdList, Memory, Named, Test};
+use ks_index::in_order;
 use std::alloc::Global;
 use std::marker::Model;
 use std::sync::Arc;

@@ -1,3 +1,5 @@
 pub mod IndexLemmas
 pub mod KeepLemmas
 pub mod NameLemmas
+pub mod OrderedLemmas
+pub mod RunLemmas

@@ -30,10 +30,10 @@ pub full_exact : (a b : Name × List ℕ) → full_cmp a b ≡ Equal → a ≡ b
 full_exact a b e =
     let both = then_equal (name_cmp a.0 b.0) (id_cmp a.1 b.1) e in
     let names = then_equal (id_cmp a.0.0 b.0.0) (id_cmp a.0.1 b.0.1) both.0 in
-    let home = id_exact a.0.0 b.0.0 names.0 in
-    let name = id_exact a.0.1 b.0.1 names.1 in
+    let first = id_exact a.0.0 b.0.0 names.0 in
+    let second = id_exact a.0.1 b.0.1 names.1 in
     let id = id_exact a.1 b.1 both.1 in
-    λ i. ((home i, name i), id i)
+    λ i. ((first i, second i), id i)
 
 -- lists
 
@@ -42,7 +42,7 @@ all_at P [] i d all lt = absurd (omega arith)
 all_at P (x ∷ xs) zero d all lt = all.0
 all_at P (x ∷ xs) (suc i) d all lt = all_at P xs i d all.1 (omega arith)
 
-among_get : {X : Type 0} (xs : List X) (x d : X) → Among xs x → (i : ℕ) × (i < length xs) × (get_or xs i d ≡ x)
+pub among_get : {X : Type 0} (xs : List X) (x d : X) → Among xs x → (i : ℕ) × (i < length xs) × (get_or xs i d ≡ x)
 among_get [] x d among = absurd among
 among_get (next ∷ xs) x d (inl is) = (zero, omega arith, is)
 among_get (next ∷ xs) x d (inr among) = let found = among_get xs x d among in (suc found.0, omega (arith, found.1), found.2)
@@ -139,7 +139,7 @@ named_is home naming h n x at called =
 
 -- what comes before the first id has not the name
 pub name_below : {R : Type 0} (home naming key : R → List ℕ) (h n : List ℕ) (x : R) →
-    full_cmp (full_name home naming key x) ((h, n), []) ≡ Less → is_named home naming h n x ≡ false
+    full_cmp (full_name home naming key x) ((n, h), []) ≡ Less → is_named home naming h n x ≡ false
 name_below {R} home naming key h n x less = by (is_named home naming h n x) refl
   where
     by : (b : Bool) → is_named home naming h n x ≡ b → b ≡ false
@@ -148,28 +148,28 @@ name_below {R} home naming key h n x less = by (is_named home naming h n x) refl
         let names = named_true home naming h n x is in
         let first = id_equal (home x) h names.0 in
         let second = id_equal (naming x) n names.1 in
-        let last : id_cmp (key x) [] ≡ Less = rw (first, second) at less in
+        let last : id_cmp (key x) [] ≡ Less = rw (second, first) at less in
         absurd (no_id_below (key x) last)
 
 -- nor has what comes after one that is behind it and has another
-pub name_above : {R : Type 0} (home naming key : R → List ℕ) (h n : List ℕ) (x y : R) → full_cmp (full_name home naming key x) ((h, n), []) ≢ Less →
+pub name_above : {R : Type 0} (home naming key : R → List ℕ) (h n : List ℕ) (x y : R) → full_cmp (full_name home naming key x) ((n, h), []) ≢ Less →
     is_named home naming h n x ≡ false → full_cmp (full_name home naming key x) (full_name home naming key y) ≡ Less → is_named home naming h n y ≡ false
 name_above {R} home naming key h n x y behind other less = by (is_named home naming h n y) refl
   where
-    names_by : home y ≡ h → naming y ≡ n → (o : Ordering) → name_cmp (home x, naming x) (h, n) ≡ o → ⊥
+    names_by : home y ≡ h → naming y ≡ n → (o : Ordering) → name_cmp (naming x, home x) (n, h) ≡ o → ⊥
     names_by at called Less is = behind (ap (λ o. ordering_then o (id_cmp (key x) [])) is)
     names_by at called Equal is =
-        let both = then_equal (id_cmp (home x) h) (id_cmp (naming x) n) is in
-        let same = named_is home naming h n x (id_exact (home x) h both.0) (id_exact (naming x) n both.1) in
+        let both = then_equal (id_cmp (naming x) n) (id_cmp (home x) h) is in
+        let same = named_is home naming h n x (id_exact (home x) h both.1) (id_exact (naming x) n both.0) in
         cc
     names_by at called Greater is =
-        let there : name_cmp (home x, naming x) (home y, naming y) ≡ Greater = rw (at, called) is in
+        let there : name_cmp (naming x, home x) (naming y, home y) ≡ Greater = rw (called, at) is in
         let more : full_cmp (full_name home naming key x) (full_name home naming key y) ≡ Greater = ap (λ o. ordering_then o (id_cmp (key x) (key y))) there in
         cc
 
     by : (b : Bool) → is_named home naming h n y ≡ b → b ≡ false
     by false is = refl
-    by true is = let names = named_true home naming h n y is in absurd (names_by names.0 names.1 (name_cmp (home x, naming x) (h, n)) refl)
+    by true is = let names = named_true home naming h n y is in absurd (names_by names.0 names.1 (name_cmp (naming x, home x) (n, h)) refl)
 
 -- rows of one name go by their ids
 named_order : {R : Type 0} (home naming key : R → List ℕ) (h n : List ℕ) (x y : R) → is_named home naming h n x ≡ true → is_named home naming h n y ≡ true →
@@ -179,7 +179,7 @@ named_order home naming key h n x y first second less =
     let two = named_true home naming h n y second in
     let homes = id_equal (home x) (home y) (one.0 ∙ sym two.0) in
     let names = id_equal (naming x) (naming y) (one.1 ∙ sym two.1) in
-    rw (homes, names) at less
+    rw (names, homes) at less
 
 -- the first slot that passes has the row that is found
 pub found_at_slot : {R : Type 0} (home naming key : R → List ℕ) (h n : List ℕ) (test : R → Bool) (rows : List R) (places : List ℕ) (slot : ℕ) (d : R) →
@@ -244,7 +244,7 @@ none_at_slot {R} home naming key test rows places slot index before here behind 
 -- what a search by name tells of a slot: no row before it has the name, and the one there is not below it
 pub record IsFirstSlot {R : Type 0} (home naming key : R → List ℕ) (h n : List ℕ) (rows : List R) (places : List ℕ) (slot : ℕ) : Type 0 where
   pub before : (j : ℕ) (d : R) → j < slot → j < length places → is_named home naming h n (row_in rows places j d) ≡ false
-  pub behind : (d : R) → slot < length places → full_cmp (full_name home naming key (row_in rows places slot d)) ((h, n), []) ≢ Less
+  pub behind : (d : R) → slot < length places → full_cmp (full_name home naming key (row_in rows places slot d)) ((n, h), []) ≢ Less
 
 -- and what a look there tells
 abbrev pub Looked : {R : Type 0} → (R → List ℕ) → (R → List ℕ) → List ℕ → List ℕ → List R → List ℕ → ℕ → Option (Bor R) → Type 0
@@ -365,11 +365,11 @@ next_looked {R} home naming key row rows places slot x None index up first (lt, 
     (λ d y after less. and_none (not (same (key y) (key row))) (is_named home naming (home row) (naming row) y)
     (name_above home naming key (home row) (naming row) (row_in rows places (slot + 1) d) y (beyond d after) (none d after) less)))
   where
-    beyond : (d : R) → slot + 1 < length places → full_cmp (full_name home naming key (row_in rows places (slot + 1) d)) ((home row, naming row), []) ≢ Less
+    beyond : (d : R) → slot + 1 < length places → full_cmp (full_name home naming key (row_in rows places (slot + 1) d)) ((naming row, home row), []) ≢ Less
     beyond d after less =
         let above : full_cmp (full_name home naming key (row_in rows places slot d)) (full_name home naming key (row_in rows places (slot + 1) d)) ≡ Less =
         ascending_at full_cmp (λ p. full_name home naming key (get_or rows p d)) places slot (slot + 1) 0 (index.up d) (omega arith) after in
-        first.behind d lt (full_total.trans (full_name home naming key (row_in rows places slot d)) (full_name home naming key (row_in rows places (slot + 1) d)) ((home row, naming row), []) above less)
+        first.behind d lt (full_total.trans (full_name home naming key (row_in rows places slot d)) (full_name home naming key (row_in rows places (slot + 1) d)) ((naming row, home row), []) above less)
 
 -- what a search by the whole key tells
 

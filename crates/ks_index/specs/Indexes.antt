@@ -26,24 +26,24 @@ raised at place = cond (nat_lt place at) place (place + 1)
 unfoldable pub lowered : ℕ → ℕ → ℕ
 lowered at place = cond (nat_lt at place) (place - 1) place
 
--- a home and a name
+-- a home and a name, or a name and a home: what comes first is compared first
 abbrev pub Name : Type 0
 Name = List ℕ × List ℕ
 
 abbrev pub name_cmp : Name → Name → Ordering
 name_cmp = then_cmp (on (λ name. name.0) id_cmp) (on (λ name. name.1) id_cmp)
 
--- rows go by home, name and id
+-- rows go by name, home and id, so that those of one name stand side by side
 abbrev pub full_cmp : Name × List ℕ → Name × List ℕ → Ordering
 full_cmp = then_cmp (on (λ full. full.0) name_cmp) (on (λ full. full.1) id_cmp)
 
 abbrev pub full_name : {R : Type 0} → (R → List ℕ) → (R → List ℕ) → (R → List ℕ) → R → Name × List ℕ
-full_name home naming key row = ((home row, naming row), key row)
+full_name home naming key row = ((naming row, home row), key row)
 
 abbrev pub is_named : {R : Type 0} → (R → List ℕ) → (R → List ℕ) → List ℕ → List ℕ → R → Bool
 is_named home naming wanted name row = same (home row) wanted && same (naming row) name
 
--- the index of rows by home, name and id
+-- the index of rows by name, home and id
 abbrev pub AreNamesOf : {R : Type 0} → (R → List ℕ) → (R → List ℕ) → (R → List ℕ) → List R → List ℕ → Type 0
 AreNamesOf home naming key rows places = IsIndex full_cmp (full_name home naming key) rows places
 

@@ -1,4 +1,4 @@
-//! The index of a table by name: the places of its rows in the order of their homes, their names and their ids.
+//! The index of a table by name: the places of its rows in the order of their names, their homes and their ids.
 ghost use Rattle.std.specs.Prelude.{◌≡◌, ◌≢◌, ◌==◌, not, ◌+◌, ◌<◌, ◌≤◌, ◌^◌, ℕ, [], false, find, length, map, set, get_or, option_copied, vec_len, vec_capacity, IfSome, IfNone, IsTrue, OnOk, OnErr};
 ghost use Rattle.std.specs.List.{AllByRecursion, insert, remove, filter};
 ghost use Rattle.std.specs.List.Sorted.{IsSearchInRange};
@@ -11,7 +11,7 @@ use ks_base::{Memory, Named, Test};
 use std::cmp::Ordering;
 
 /// The row at this place; the other, where there is none.
-fn row_at<'a, R>(rows: &'a [R], place: usize, other: &'a R) -> &'a R
+pub(crate) fn row_at<'a, R>(rows: &'a [R], place: usize, other: &'a R) -> &'a R
     ensures { result.now ≡ get_or rows.now place other.now }
 {
     rows.get(place).unwrap_or(other)
@@ -19,11 +19,12 @@ fn row_at<'a, R>(rows: &'a [R], place: usize, other: &'a R) -> &'a R
 
 /// How the row compares with one of this home, name and id.
 fn compare<R: Named>(row: &R, home: &[u8], name: &[u8], id: &[u8]) -> Ordering
-    ensures { result ≡ full_cmp (full_name R.within R.naming R.key row.now) ((home.now, name.now), id.now) }
+    ensures { result ≡ full_cmp (full_name R.within R.naming R.key row.now) ((name.now, home.now), id.now) }
 {
-    row.home()
-        .cmp(home)
-        .then(row.name().as_slice().cmp(name))
+    row.name()
+        .as_slice()
+        .cmp(name)
+        .then(row.home().cmp(home))
         .then(row.id().as_slice().cmp(id))
 }
 
@@ -38,7 +39,7 @@ fn slot<R: Named>(
 ) -> Result<usize, usize>
     requires { IsAscending full_cmp (λ place. full_name R.within R.naming R.key (get_or rows.now place other.now)) places.now }
     ensures bound { IsSearchInRange result (length places.now) }
-    ensures place { IsPlace full_cmp (λ place. full_name R.within R.naming R.key (get_or rows.now place other.now)) ((home.now, name.now), id.now) places.now result }
+    ensures place { IsPlace full_cmp (λ place. full_name R.within R.naming R.key (get_or rows.now place other.now)) ((name.now, home.now), id.now) places.now result }
 {
     places.binary_search_by(|place| compare(row_at(rows, *place, other), home, name, id))
 }
@@ -222,7 +223,7 @@ pub(crate) fn remove<R: Named>(rows: &mut Vec<R>, places: &mut Vec<usize>, at: u
 fn first_slot<R: Named>(rows: &[R], places: &[usize], home: &[u8], name: &[u8]) -> usize
     requires { AreNamesOf R.within R.naming R.key rows.now places.now }
     ensures before { (slot : ℕ) (other : R) → slot < result → slot < length places.now → is_named R.within R.naming home.now name.now (row_in rows.now places.now slot other) ≡ false }
-    ensures behind { (other : R) → result < length places.now → full_cmp (full_name R.within R.naming R.key (row_in rows.now places.now result other)) ((home.now, name.now), []) ≢ Less }
+    ensures behind { (other : R) → result < length places.now → full_cmp (full_name R.within R.naming R.key (row_in rows.now places.now result other)) ((name.now, home.now), []) ≢ Less }
 {
     let Some(other) = rows.first() else {
         return 0;

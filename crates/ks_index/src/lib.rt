@@ -3,7 +3,10 @@
 
 mod index;
 mod links;
+mod ordered;
+mod runs;
 mod table;
 
 pub use links::Links;
+pub use ordered::in_order;
 pub use table::Table;

@@ -1,8 +1,9 @@
 ghost use Rattle.std.specs.Prelude.{◌≡◌, [], find, filter, is_some, length, map, option_copied, IfOk, IsOk, IsSome, OnOk, OnErr};
+ghost use Rattle.ks_base.specs.Rows.{same};
 ghost use Rattle.ks_base.specs.Tables.{id_cmp, IsAscending, find_row, put_row, drop_row};
 ghost use Rattle.ks_index.specs.Indexes.{is_named, is_other_named};
 
-use crate::index;
+use crate::{index, runs};
 use ks_base::by_id::{ids_of, ids_passing, place};
 use ks_base::{Id, IdList, Memory, Named, Test, Text};
 use std::alloc::Global;
@@ -12,7 +13,7 @@ use std::marker::Model;
 #[derive(Drop)]
 pub struct Table<R: Named> {
     rows: Vec<R>,
-    /// The places of the rows, in the order of their homes, names and ids.
+    /// The places of the rows, in the order of their names, homes and ids.
     names: Vec<usize>,
 }
 
@@ -142,6 +143,18 @@ impl<R: Named> Table<R> {
     {
         let ids = ids_passing(*self.rows.allocator(), self.rows.as_slice(), test)?;
         Ok(IdList::from_vec(ids))
+    }
+
+    /// The ids of the rows of this name in all homes, in their order. No other rows are gone through.
+    pub fn ids_named(&self, name: &Text) -> Result<IdList, Memory>
+        ensures { IfOk result (λ ids. ids ≡ map R.key (filter (λ row. same (R.naming row) name.now) self.now)) }
+    {
+        runs::ids_named(
+            *self.rows.allocator(),
+            self.rows.as_slice(),
+            self.names.as_slice(),
+            name.as_slice(),
+        )
     }
 
     /// How many rows there are.

@@ -1,10 +1,11 @@
 //! The lists of ids that are shown.
-ghost use Rattle.std.specs.Prelude.{◌≡◌, map, IfOk};
+ghost use Rattle.std.specs.Prelude.{◌≡◌, filter, map, IfOk};
+ghost use Rattle.ks_base.specs.Rows.{same};
 ghost use Rattle.ks_base.specs.Tables.{id_cmp, IsAscending};
 ghost use Rattle.ks_base.specs.People.{users_of, group_ids, groups_of, members_of};
 
 use crate::People;
-use ks_base::{ByUser, Id, IdList, InDomain, InGroup, MemberRow, Memory, OfUser};
+use ks_base::{ByUser, Id, IdList, InDomain, InGroup, MemberRow, Memory, OfUser, Text};
 use std::alloc::{AllocError, Global};
 
 /// The groups of these memberships.
@@ -34,6 +35,20 @@ impl People {
         ensures { IfOk result (λ ids. ids ≡ group_ids domain.now self.now) }
     {
         self.groups.ids_where(&InDomain { domain })
+    }
+
+    /// The ids of the users of this name in all domains, in their order. No other users are gone through.
+    pub fn users_named(&self, name: &Text) -> Result<IdList, Memory>
+        ensures { IfOk result (λ ids. ids ≡ map (λ row. row.id) (filter (λ row. same row.name name.now) self.now.users)) }
+    {
+        self.users.ids_named(name)
+    }
+
+    /// The ids of the groups of this name in all domains, in their order. No other groups are gone through.
+    pub fn groups_named(&self, name: &Text) -> Result<IdList, Memory>
+        ensures { IfOk result (λ ids. ids ≡ map (λ row. row.id) (filter (λ row. same row.name name.now) self.now.groups)) }
+    {
+        self.groups.ids_named(name)
     }
 
     /// The ids of the groups that the user is in, in their order.

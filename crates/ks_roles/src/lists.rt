@@ -1,9 +1,9 @@
-ghost use Rattle.std.specs.Prelude.{◌≡◌, map, IfOk};
+ghost use Rattle.std.specs.Prelude.{◌≡◌, filter, map, IfOk};
 ghost use Rattle.ks_base.specs.Tables.{id_cmp, IsAscending};
-ghost use Rattle.ks_base.specs.RoleLists.{implied_ids};
+ghost use Rattle.ks_base.specs.RoleLists.{implied_ids, is_named};
 
 use crate::Roles;
-use ks_base::{Id, IdList, ImplyRow, Memory};
+use ks_base::{Id, IdList, ImplyRow, Memory, Text};
 use std::alloc::{AllocError, Global};
 
 /// The roles that these implications let follow from this one.
@@ -23,6 +23,13 @@ impl Roles {
         ensures { IfOk result (λ ids. ids ≡ map (λ row. row.id) self.now.roles) }
     {
         self.roles.ids()
+    }
+
+    /// The ids of the roles of this name, of which there is one at most. No other roles are gone through.
+    pub fn roles_named(&self, name: &Text) -> Result<IdList, Memory>
+        ensures { IfOk result (λ ids. ids ≡ map (λ row. row.id) (filter (is_named name.now) self.now.roles)) }
+    {
+        self.roles.ids_named(name)
     }
 
     /// The ids of the roles that this one implies directly, in their order.

@@ -1,9 +1,10 @@
-ghost use Rattle.std.specs.Prelude.{◌≡◌, IfOk};
+ghost use Rattle.std.specs.Prelude.{◌≡◌, filter, map, IfOk};
+ghost use Rattle.ks_base.specs.Rows.{same};
 ghost use Rattle.ks_base.specs.Tree.{ancestors};
-ghost use Rattle.ks_base.specs.Trees.{projects_of, domain_ids};
+ghost use Rattle.ks_base.specs.Trees.{is_domain_named, projects_of, domain_ids};
 
 use crate::Tree;
-use ks_base::{Id, IdList, InDomain, Memory};
+use ks_base::{Id, IdList, InDomain, Memory, Text};
 
 impl Tree {
     /// The ids of the projects above this one, the nearest first; none, where no project has this id.
@@ -30,6 +31,20 @@ impl Tree {
         ensures { IfOk result (λ ids. ids ≡ projects_of domain.now self.now) }
     {
         self.projects.ids_where(&InDomain { domain })
+    }
+
+    /// The ids of the projects of this name in all domains, in their order. No other projects are gone through.
+    pub fn projects_named(&self, name: &Text) -> Result<IdList, Memory>
+        ensures { IfOk result (λ ids. ids ≡ map (λ row. row.id) (filter (λ row. same row.name name.now) self.now.projects)) }
+    {
+        self.projects.ids_named(name)
+    }
+
+    /// The ids of the domains of this name, of which there is one at most. No other domains are gone through.
+    pub fn domains_named(&self, name: &Text) -> Result<IdList, Memory>
+        ensures { IfOk result (λ ids. ids ≡ map (λ row. row.id) (filter (is_domain_named name.now) self.now.domains)) }
+    {
+        self.domains.ids_named(name)
     }
 
     /// The ids of all domains, in their order.

@@ -18,9 +18,9 @@ unreachable-requires g c =
     let key_at = λ (p : ℕ). full_name g.R.Named.within g.R.Named.naming g.R.Row.key (get_or c.args.rows.now p row) in
     let name = c.as_slice-2.ensures.bytes ∙ c.name.ensures in
     let id = c.as_slice-3.ensures.bytes ∙ c.id.ensures in
-    let whole : ((c.home.result.now, c.as_slice-2.result.now), c.as_slice-3.result.now) ≡ full_name g.R.Named.within g.R.Named.naming g.R.Row.key row = λ i. ((c.home.ensures i, name i), id i) in
+    let whole : ((c.as_slice-2.result.now, c.home.result.now), c.as_slice-3.result.now) ≡ full_name g.R.Named.within g.R.Named.naming g.R.Row.key row = λ i. ((name i, c.home.ensures i), id i) in
     let there = subst (λ k. IsFoundAt full_cmp key_at k c.args.places.now.items c.in-Ok.field-0) whole
-    (subst (λ l. IsFoundAt full_cmp key_at ((c.home.result.now, c.as_slice-2.result.now), c.as_slice-3.result.now) l c.in-Ok.field-0) c.as_slice.ensures.value c.in-Ok.ensures.place) in
+    (subst (λ l. IsFoundAt full_cmp key_at ((c.as_slice-2.result.now, c.home.result.now), c.as_slice-3.result.now) l c.in-Ok.field-0) c.as_slice.ensures.value c.in-Ok.ensures.place) in
     put_not_found g.R.Named.within g.R.Named.naming g.R.Row.key c.args.rows.now c.args.places.now.items c.args.at c.in-Ok.field-0 row c.requires.at c.index-rows-at.is c.requires.ascending c.requires.but
     (omega (arith, c.in-Ok.ensures.bound, ap length c.as_slice.ensures.value)) there
 
@@ -30,8 +30,8 @@ returns g c =
     let key_at = λ (p : ℕ). full_name g.R.Named.within g.R.Named.naming g.R.Row.key (get_or c.args.rows.now p row) in
     let name = c.as_slice-2.ensures.bytes ∙ c.name.ensures in
     let id = c.as_slice-3.ensures.bytes ∙ c.id.ensures in
-    let whole : ((c.home.result.now, c.as_slice-2.result.now), c.as_slice-3.result.now) ≡ full_name g.R.Named.within g.R.Named.naming g.R.Row.key row = λ i. ((c.home.ensures i, name i), id i) in
+    let whole : ((c.as_slice-2.result.now, c.home.result.now), c.as_slice-3.result.now) ≡ full_name g.R.Named.within g.R.Named.naming g.R.Row.key row = λ i. ((name i, c.home.ensures i), id i) in
     let there = subst (λ k. IsGapAt full_cmp key_at k c.args.places.now.items c.in-Err.slot) whole
-    (subst (λ l. IsGapAt full_cmp key_at ((c.home.result.now, c.as_slice-2.result.now), c.as_slice-3.result.now) l c.in-Err.slot) c.as_slice.ensures.value c.in-Err.ensures.place) in
+    (subst (λ l. IsGapAt full_cmp key_at ((c.as_slice-2.result.now, c.home.result.now), c.as_slice-3.result.now) l c.in-Err.slot) c.as_slice.ensures.value c.in-Err.ensures.place) in
     subst (λ l. AreNamesOf g.R.Named.within g.R.Named.naming g.R.Row.key c.args.rows.now l) (sym c.in-Ok-insert.ensures.items)
     (put_into_names g.R.Named.within g.R.Named.naming g.R.Row.key c.args.rows.now c.args.places.now.items c.args.at c.in-Err.slot row c.requires.at c.index-rows-at.is c.requires.but there)

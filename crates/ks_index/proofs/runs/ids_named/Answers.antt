@@ -1,0 +1,22 @@
+use Rattle.std.proofs.Common.{ℕ, List, ◌∙◌, ap, get_or, map, subst}
+use Rattle.std.specs.Prelude.{◌↔◌}
+use Rattle.ks_index.specs.Indexes.{full_cmp, full_name}
+use Rattle.ks_index.proofs.RunLemmas.{ids_of_places}
+use Rattle.ks_base.specs.Rows.{Id, same}
+use Rattle.ks_base.specs.Tables.{Among}
+use Rattle.ks_index.proofs.runs.ids_named.Goals as goal
+
+pub run_named-run-requires : goal.run_named-run-requires
+run_named-run-requires g c = c.requires.names.up c.in-Some.other.now
+
+pub returns : goal.returns
+returns g c =
+    let key = g.R.Row.key in
+    let rows = c.args.rows.now in
+    let other = c.in-Some.other.now in
+    let test = λ (row : _). same (g.R.Named.naming row) c.args.name.now in
+    let ids = c.in_ok-ids.ids.items in
+    let are = c.in_ok-left.ensures ∙ ap (map (λ (p : ℕ). key (get_or rows p other))) c.run_named-run.ensures in
+    c.from_vec.ensures
+    ∙ ids_of_places full_cmp (full_name g.R.Named.within g.R.Named.naming key) key test rows c.args.places.now other ids c.requires.names c.requires.ascending
+    c.in_ok-ids.ensures.ascending (λ id. subst (λ (l : List Id). Among ids id ↔ Among l id) are (c.in_ok-ids.ensures.same id))
