@@ -5,6 +5,7 @@ ghost use Rattle.ks_auth.specs.Answers.{rows_told};
 ghost use Rattle.ks_machine.specs.Listings.{is_domain_listed, is_group_listed, is_project_listed, is_role_listed, is_user_listed, list, path_of_kind, rows_listed};
 ghost use Rattle.ks_checks.specs.Plans.{outcome_of};
 
+use crate::by_name::listed_on;
 use crate::catalog_listings::{endpoints_listed, regions_listed, services_listed};
 use crate::secrets::all_secrets;
 use ks_auth::Tables;
@@ -12,107 +13,40 @@ use ks_base::{
     DomainRow, FieldList, Filter, GroupRow, Kind, Memory, ProjectRow, RoleRow, Text, UserRow,
 };
 use ks_checks::Plan;
-use ks_checks::filters::{has_domain, has_enabled, has_name, has_text};
 use ks_machine::{BodyOut, Row, RowList};
+use ks_people::People;
+use ks_roles::Roles;
+use ks_tree::Tree;
 use std::alloc::Global;
 
-fn is_domain_listed(fields: &FieldList, row: &DomainRow) -> bool
-    ensures { result ≡ is_domain_listed fields.now row.now }
+fn domains_listed(alloc: Global, tree: &Tree, fields: &FieldList) -> Result<RowList, Memory>
+    ensures { IfOk result (λ listed. listed ≡ map (λ found. Row.Domain found) (filter (is_domain_listed fields.now) tree.now.domains)) }
 {
-    has_name(fields, &row.name) && has_enabled(fields, row.enabled)
+    listed_on::<DomainRow, Tree>(alloc, tree, fields)
 }
 
-fn domains_listed(alloc: Global, rows: &[DomainRow], fields: &FieldList) -> Result<RowList, Memory>
-    ensures { IfOk result (λ listed. listed ≡ map (λ found. Row.Domain found) (filter (is_domain_listed fields.now) rows.now)) }
+fn projects_listed(alloc: Global, tree: &Tree, fields: &FieldList) -> Result<RowList, Memory>
+    ensures { IfOk result (λ listed. listed ≡ map (λ found. Row.Project found) (filter (is_project_listed fields.now) tree.now.projects)) }
 {
-    let mut listed = RowList::new(alloc);
-    for row in rows {
-        if is_domain_listed(fields, row) {
-            listed.push(Row::Domain(row.copy()?))?;
-        }
-    }
-    Ok(listed)
+    listed_on::<ProjectRow, Tree>(alloc, tree, fields)
 }
 
-fn is_project_listed(fields: &FieldList, row: &ProjectRow) -> bool
-    ensures { result ≡ is_project_listed fields.now row.now }
+fn users_listed(alloc: Global, people: &People, fields: &FieldList) -> Result<RowList, Memory>
+    ensures { IfOk result (λ listed. listed ≡ map (λ found. Row.User found) (filter (is_user_listed fields.now) people.now.users)) }
 {
-    has_name(fields, &row.name)
-        && has_domain(fields, &row.domain)
-        && has_text(fields, "parent_id", row.parent.as_slice())
-        && has_enabled(fields, row.enabled)
+    listed_on::<UserRow, People>(alloc, people, fields)
 }
 
-fn projects_listed(
-    alloc: Global,
-    rows: &[ProjectRow],
-    fields: &FieldList,
-) -> Result<RowList, Memory>
-    ensures { IfOk result (λ listed. listed ≡ map (λ found. Row.Project found) (filter (is_project_listed fields.now) rows.now)) }
+fn groups_listed(alloc: Global, people: &People, fields: &FieldList) -> Result<RowList, Memory>
+    ensures { IfOk result (λ listed. listed ≡ map (λ found. Row.Group found) (filter (is_group_listed fields.now) people.now.groups)) }
 {
-    let mut listed = RowList::new(alloc);
-    for row in rows {
-        if is_project_listed(fields, row) {
-            listed.push(Row::Project(row.copy()?))?;
-        }
-    }
-    Ok(listed)
+    listed_on::<GroupRow, People>(alloc, people, fields)
 }
 
-fn is_user_listed(fields: &FieldList, row: &UserRow) -> bool
-    ensures { result ≡ is_user_listed fields.now row.now }
+fn roles_listed(alloc: Global, roles: &Roles, fields: &FieldList) -> Result<RowList, Memory>
+    ensures { IfOk result (λ listed. listed ≡ map (λ found. Row.Role found) (filter (is_role_listed fields.now) roles.now.roles)) }
 {
-    has_name(fields, &row.name)
-        && has_domain(fields, &row.domain)
-        && has_enabled(fields, row.enabled)
-}
-
-fn users_listed(alloc: Global, rows: &[UserRow], fields: &FieldList) -> Result<RowList, Memory>
-    ensures { IfOk result (λ listed. listed ≡ map (λ found. Row.User found) (filter (is_user_listed fields.now) rows.now)) }
-{
-    let mut listed = RowList::new(alloc);
-    for row in rows {
-        if is_user_listed(fields, row) {
-            listed.push(Row::User(row.copy()?))?;
-        }
-    }
-    Ok(listed)
-}
-
-fn is_group_listed(fields: &FieldList, row: &GroupRow) -> bool
-    ensures { result ≡ is_group_listed fields.now row.now }
-{
-    has_name(fields, &row.name) && has_domain(fields, &row.domain)
-}
-
-fn groups_listed(alloc: Global, rows: &[GroupRow], fields: &FieldList) -> Result<RowList, Memory>
-    ensures { IfOk result (λ listed. listed ≡ map (λ found. Row.Group found) (filter (is_group_listed fields.now) rows.now)) }
-{
-    let mut listed = RowList::new(alloc);
-    for row in rows {
-        if is_group_listed(fields, row) {
-            listed.push(Row::Group(row.copy()?))?;
-        }
-    }
-    Ok(listed)
-}
-
-fn is_role_listed(fields: &FieldList, row: &RoleRow) -> bool
-    ensures { result ≡ is_role_listed fields.now row.now }
-{
-    has_name(fields, &row.name)
-}
-
-fn roles_listed(alloc: Global, rows: &[RoleRow], fields: &FieldList) -> Result<RowList, Memory>
-    ensures { IfOk result (λ listed. listed ≡ map (λ found. Row.Role found) (filter (is_role_listed fields.now) rows.now)) }
-{
-    let mut listed = RowList::new(alloc);
-    for row in rows {
-        if is_role_listed(fields, row) {
-            listed.push(Row::Role(row.copy()?))?;
-        }
-    }
-    Ok(listed)
+    listed_on::<RoleRow, Roles>(alloc, roles, fields)
 }
 
 /// The rows of the kind that the filters list.
@@ -127,11 +61,11 @@ fn rows_listed(
 {
     let fields = &filters.fields;
     match kind {
-        Kind::Domain => domains_listed(alloc, tables.tree.domains(), fields),
-        Kind::Project => projects_listed(alloc, tables.tree.projects(), fields),
-        Kind::User => users_listed(alloc, tables.people.users(), fields),
-        Kind::Group => groups_listed(alloc, tables.people.groups(), fields),
-        Kind::Role => roles_listed(alloc, tables.roles.roles(), fields),
+        Kind::Domain => domains_listed(alloc, tables.tree, fields),
+        Kind::Project => projects_listed(alloc, tables.tree, fields),
+        Kind::User => users_listed(alloc, tables.people, fields),
+        Kind::Group => groups_listed(alloc, tables.people, fields),
+        Kind::Role => roles_listed(alloc, tables.roles, fields),
         Kind::Implication => Ok(RowList::new(alloc)),
         Kind::Grant => Ok(RowList::new(alloc)),
         Kind::Member => Ok(RowList::new(alloc)),

@@ -1,9 +1,0 @@
-use Rattle.std.proofs.Common.{◌≡◌, ◌++◌, map, filter, drop}
-use Rattle.ks_machine.specs.declared.body_out.Row.TheVariants as row
-use Rattle.ks_machine.specs.Listings.{is_user_listed}
-use Rattle.ks_listings.proofs.listings.users_listed.Given as goal
-
-abbrev pub invariant-loop-row : goal.invariant-loop-row
-invariant-loop-row l =
-    l.listed ++ map (λ found. row.User found) (filter (is_user_listed l.fields) (drop l.row-index l.rows))
-    ≡ map (λ found. row.User found) (filter (is_user_listed l.fields) l.rows)
