@@ -3,3 +3,5 @@ pub mod ReachLemmas
 pub mod GrantedLemmas
 pub mod TopLemmas
 pub mod WalkParts
+pub mod TargetLemmas
+pub mod PlaceLemmas

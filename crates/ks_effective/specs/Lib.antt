@@ -3,3 +3,4 @@ pub mod Actors
 pub mod Reach
 pub mod Granted
 pub mod Tops
+pub mod Targets

@@ -1,3 +1,4 @@
+pub mod GivenLemmas
 pub mod MemberLists
 pub mod NoIds
 pub mod Passed

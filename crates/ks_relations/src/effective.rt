@@ -10,22 +10,8 @@ ghost use Rattle.ks_base.specs.declared.grants.Actor.TheVariants as actors;
 
 use ks_auth::{Tables, roles_at};
 use ks_base::{Actor, GrantList, GrantRow, Id, IdList, MemberRow, Memory, Target, Text};
+use ks_effective::targets_of;
 use std::alloc::Global;
-
-/// All targets: the system, then domains, then projects, each by id.
-fn targets(alloc: Global, tables: &Tables) -> Result<Vec<Target>, Memory>
-    ensures { IfOk result (λ all. all.items ≡ targets (rows_told tables.now)) }
-{
-    let mut all = Vec::new(alloc);
-    all.push(Target::System)?;
-    for domain in tables.tree.domains() {
-        all.push(Target::Domain(domain.id))?;
-    }
-    for project in tables.tree.projects() {
-        all.push(Target::Project(project.id))?;
-    }
-    Ok(all)
-}
 
 /// Adds that the user has these roles at the target.
 fn add_given(rows: &mut GrantList, user: &Id, at: &Target, roles: &[Id]) -> Result<(), Memory>
@@ -62,6 +48,14 @@ fn given_to(
     Ok(rows)
 }
 
+/// What is given to the user at all targets. Only those where it may have roles are looked at.
+fn given_at_all(alloc: Global, tables: &Tables, user: &Id) -> Result<GrantList, Memory>
+    ensures { IfOk result (λ rows. rows ≡ given_to (rows_told tables.now) user.now (targets (rows_told tables.now))) }
+{
+    let targets = targets_of(alloc, tables.tree, tables.people, tables.grants, user)?;
+    given_to(alloc, tables, user, targets.as_slice())
+}
+
 /// No membership names what is no id.
 fn none_is_member(members: &[MemberRow], user: &[u8])
     requires { ¬ IsId user.now }
@@ -89,10 +83,7 @@ pub fn given_to_text(alloc: Global, tables: &Tables, user: &Text) -> Result<Gran
 {
     let bytes = user.as_slice();
     match Id::read(bytes) {
-        Ok(user) => {
-            let targets = targets(alloc, tables)?;
-            given_to(alloc, tables, &user, targets.as_slice())
-        }
+        Ok(user) => given_at_all(alloc, tables, &user),
         Err(_) => {
             none_is_member(tables.people.members(), bytes);
             none_is_granted(tables.grants.as_slice(), bytes);
