@@ -1,7 +1,7 @@
 -- What is known of ciphers: what keys make of texts, and what was derived of passwords. A fact is true by the way in which it is
 -- made, so that a list of facts says only which ones are known.
-use Rattle.std.specs.Prelude.{ℕ, ◌&&◌, ◌==◌, Bool, if◌then◌else◌, List, Some, None}
-use Rattle.std.specs.List.{list_any}
+use Rattle.std.specs.Prelude.{ℕ, ◌&&◌, ◌==◌, Bool, if◌then◌else◌, List, [], Some, None}
+use Rattle.std.specs.List.{filter, list_any}
 use Rattle.std.specs.Str.{bytes_eq}
 use Rattle.ks_base.specs.Rows.{Text}
 use Rattle.ks_fernet.specs.Opened.{Opening}
@@ -28,6 +28,10 @@ is_derived password salt rounds fact = bytes_eq fact.password password && (bytes
 
 abbrev pub has_derived : Text → List ℕ → ℕ → List Derivation → Bool
 has_derived password salt rounds facts = list_any (is_derived password salt rounds) facts
+
+-- those about the text of one token
+abbrev pub about : Text → FactsState → FactsState
+about text facts = record { opened = filter (λ fact. bytes_eq fact.text text) facts.opened; derived = [] }
 
 -- which facts are known where these were told
 unfoldable pub told : FactsState → Known

@@ -1,5 +1,7 @@
 ghost use Rattle.std.specs.Prelude.{◌≡◌, [], ◌∷◌, ◌++◌, OnOk, OnErr, option_copied, if◌then◌else◌};
-ghost use Rattle.ks_auth.specs.Facts.{is_of, is_derived, has_opened, has_derived, told};
+ghost use Rattle.std.specs.List.{filter};
+ghost use Rattle.std.specs.Str.{bytes_eq};
+ghost use Rattle.ks_auth.specs.Facts.{about, is_of, is_derived, has_opened, has_derived, told};
 ghost use Rattle.ks_fernet.specs.Opening.{open_of};
 ghost use Rattle.ks_hmac.specs.Pbkdf2.{pbkdf2_of};
 
@@ -61,6 +63,21 @@ impl Facts {
         self.derived.push(fact)
     }
 
+    /// The facts about the text of one token alone, for calls that come later. What was derived of passwords is let go. It
+    /// takes no memory.
+    pub fn about(self, text: &Text) -> Facts
+        ensures { result ≡ about text.now self }
+    {
+        let Facts { opened, derived: _ } = self;
+        let mut opened = opened.into_vec();
+        keep_about(&mut opened, text);
+        let derived = ListOf::new(*opened.allocator());
+        Facts {
+            opened: ListOf::from_vec(opened),
+            derived,
+        }
+    }
+
     /// What the key makes of the text, where a fact says so under the key's number. It takes no memory.
     #[tactic(auto, unfolding(crate::specs::Facts::told))]
     pub fn opened(&self, held: &HeldKey, text: &Text) -> Option<&OpenAnswer>
@@ -76,6 +93,13 @@ impl Facts {
     {
         digest_in(self.derived.as_slice(), password, salt, rounds)
     }
+}
+
+/// Leaves the facts about this text.
+fn keep_about(facts: &mut Vec<Opened>, text: &Text)
+    ensures { facts.new.items ≡ filter (λ fact. bytes_eq fact.text text.now) facts.old.items }
+{
+    facts.retain(|fact| fact.text() == text);
 }
 
 fn answer_in<'a>(facts: &'a [Opened], held: &HeldKey, text: &Text) -> Option<&'a OpenAnswer>

@@ -12,6 +12,7 @@ use ks_base::limits::CONNECTION_REQUESTS;
 use ks_http::{Next, Reader};
 use ks_outside::{Desk, Gate, KeyDir, Sink, Source};
 use ks_routes::Routes;
+use ks_service::Recent;
 use ks_state::Decides;
 use ks_turn::{First, Pass, Turn};
 use std::alloc::Global;
@@ -24,7 +25,7 @@ use std::sync::Wait;
 /// of which nothing was read: who serves that link again misses no byte.
 ///
 /// `connection` is the number of the link on its desk, from 0. `routes` is the table of routes, made once for all
-/// links, and `url` the public URL, that of the opening's settings.
+/// links, and `url` the public URL, that of the opening's settings. `recent` is what the worker remembers of its calls.
 pub fn serve_connection<
     I: Decides,
     N: First,
@@ -46,6 +47,7 @@ pub fn serve_connection<
     gate: &G,
     routes: &Routes,
     url: &Text,
+    recent: &mut Recent,
 ) -> (Pass<N>, Closed<I::Fault>)
     requires own { pass.turn ≡ turn.now }
     requires url { url.now ≡ pass.seen.opening.settings.url }
@@ -76,7 +78,9 @@ pub fn serve_connection<
                     connection,
                     request: count,
                 };
-                let (next, answered) = server.answer(pass, desk, dir, number, request, link);
+                let (next, answered) = server.answer(
+                    pass, desk, dir, number, request, link, recent,
+                );
                 if let Err(why) = answered {
                     return (next, why);
                 }

@@ -20,7 +20,7 @@ use ks_http::Request;
 use ks_machine::{Cause, Command, Reply};
 use ks_outside::{Desk, Gate, KeyDir, Sink};
 use ks_routes::{Routed, Routes};
-use ks_service::Answer;
+use ks_service::{Answer, Recent, next_call};
 use ks_state::Decides;
 use ks_targets::required;
 use ks_turn::{First, Pass, Turn};
@@ -41,7 +41,7 @@ pub struct Server<'a, I: Decides, N: First, R, G> {
 
 impl<I: Decides, N: First, R: Wait, G: Gate> Server<'_, I, N, R, G> {
     /// Answers a request before another is read, and tells the desk of it where it is to be told. After an error the
-    /// connection ends with it.
+    /// connection ends with it. `recent` is what the worker remembers of its calls.
     pub fn answer<P: Desk, D: KeyDir, K: Sink>(
         &self,
         pass: Pass<N>,
@@ -50,6 +50,7 @@ impl<I: Decides, N: First, R: Wait, G: Gate> Server<'_, I, N, R, G> {
         number: RequestNumber,
         request: Request,
         sink: &mut K,
+        recent: &mut Recent,
     ) -> (Pass<N>, Result<(), Closed<I::Fault>>)
         requires own { pass.turn ≡ self.now.turn.now }
         requires url { self.now.url.now ≡ pass.seen.opening.settings.url }
@@ -58,7 +59,16 @@ impl<I: Decides, N: First, R: Wait, G: Gate> Server<'_, I, N, R, G> {
         ensures answers { Answers pass result.0 (P.desk desk.old) (P.desk desk.new) (D.dir dir.old) (D.dir dir.new) number request (K.stream sink.old) (K.stream sink.new) result.1 }
     {
         let mut account = Account::of(self.alloc, desk, number, &request);
-        let (pass, result) = self.respond_to(pass, desk, dir, number, request, sink, &mut account);
+        let (pass, result) = self.respond_to(
+            pass,
+            desk,
+            dir,
+            number,
+            request,
+            sink,
+            &mut account,
+            recent,
+        );
         account.tell(desk);
         (pass, result)
     }
@@ -73,6 +83,7 @@ impl<I: Decides, N: First, R: Wait, G: Gate> Server<'_, I, N, R, G> {
         request: Request,
         sink: &mut K,
         account: &mut Account,
+        recent: &mut Recent,
     ) -> (Pass<N>, Result<(), Closed<I::Fault>>)
         requires own { pass.turn ≡ self.now.turn.now }
         requires url { self.now.url.now ≡ pass.seen.opening.settings.url }
@@ -82,7 +93,7 @@ impl<I: Decides, N: First, R: Wait, G: Gate> Server<'_, I, N, R, G> {
     {
         let head = is_head(request.method);
         let close = is_last(&request, number.request);
-        let (pass, replied) = self.exchange(pass, desk, dir, number, request, account);
+        let (pass, replied) = self.exchange(pass, desk, dir, number, request, account, recent);
         match replied {
             Replied::Reply(reply) => {
                 account.note_reply(&reply);
@@ -110,6 +121,7 @@ impl<I: Decides, N: First, R: Wait, G: Gate> Server<'_, I, N, R, G> {
         number: RequestNumber,
         request: Request,
         account: &mut Account,
+        recent: &mut Recent,
     ) -> (Pass<N>, Replied<I::Fault>)
         requires own { pass.turn ≡ self.now.turn.now }
         ensures links { KeepsLinks (P.desk desk.old) (P.desk desk.new) }
@@ -121,7 +133,7 @@ impl<I: Decides, N: First, R: Wait, G: Gate> Server<'_, I, N, R, G> {
         };
         match self.routes.command(self.alloc, &request) {
             Routed::Command(command) => {
-                self.decide(pass, desk, dir, number, request, command, account)
+                self.decide(pass, desk, dir, number, request, command, account, recent)
             }
             Routed::Refused(fault) => refuse(pass, desk, number, request, Cause::Shape(fault)),
             Routed::NoRoute => refuse(pass, desk, number, request, Cause::NoRoute),
@@ -146,6 +158,7 @@ impl<I: Decides, N: First, R: Wait, G: Gate> Server<'_, I, N, R, G> {
         request: Request,
         command: Command,
         account: &mut Account,
+        recent: &mut Recent,
     ) -> (Pass<N>, Replied<I::Fault>)
         requires own { pass.turn ≡ self.now.turn.now }
         requires room { 0 < (P.desk desk.old).receipt_room }
@@ -163,7 +176,7 @@ impl<I: Decides, N: First, R: Wait, G: Gate> Server<'_, I, N, R, G> {
         let reading = desk.reading();
         let draw = draw(asked.draws, desk);
         let call = call_of(request, command, reading, draw, folder);
-        let (pass, answer) = ks_service::call(
+        let (pass, answer) = next_call(
             self.alloc,
             self.turn,
             self.rt,
@@ -171,6 +184,7 @@ impl<I: Decides, N: First, R: Wait, G: Gate> Server<'_, I, N, R, G> {
             &call,
             self.gate,
             account.is_kept(),
+            recent,
         );
         let Answer {
             reply,

@@ -6,6 +6,7 @@ use crate::connection::serve_connection;
 use crate::server::Server;
 use crate::service::Service;
 use ks_outside::{Desk, Gate, KeyDir};
+use ks_service::Recent;
 use ks_state::Decides;
 use ks_turn::{First, Pass};
 use std::sync::Wait;
@@ -48,6 +49,7 @@ impl<I: Decides, N: First, R: Wait, G: Gate> Server<'_, I, N, R, G> {
         ensures { IsWorked P.Link.stream connections pass result.pass (record { desk = P.desk desk.old; dir = D.dir dir.old }) (record { desk = P.desk desk.new; dir = D.dir dir.new }) result.failed result.keeper }
     {
         let mut number = 0;
+        let mut recent = Recent::new(self.alloc);
         'links: for _ in self.rt.forever() {
             if is_enough(number, connections) {
                 return Worked::new(pass, false, None);
@@ -70,6 +72,7 @@ impl<I: Decides, N: First, R: Wait, G: Gate> Server<'_, I, N, R, G> {
                 self.gate,
                 self.routes,
                 self.url,
+                &mut recent,
             );
             desk.give_back(link);
             if let Closed::KeeperFault(fault) = why {

@@ -1,5 +1,5 @@
 //! Who makes a call, by the caller's token alone.
-ghost use Rattle.std.specs.Prelude.{◌≡◌, IfSome, false};
+ghost use Rattle.std.specs.Prelude.{◌≡◌, IfSome, None, false};
 ghost use Rattle.ks_service.specs.Callers.{IsSaidBy, Says};
 
 use ks_auth::Facts;
@@ -52,4 +52,19 @@ pub(crate) fn hear(
     if let Some(text) = &call.caller {
         *caller = said(facts, keys, text);
     }
+}
+
+/// What the caller's token says, where that is asked for and one of these keys is known to open it before the call is decided.
+pub(crate) fn first_heard(
+    hears: bool,
+    facts: &Facts,
+    keys: &[HeldKey],
+    call: &Call,
+) -> Option<Payload>
+    ensures said { IfSome result (IsSaidBy call.now.caller) }
+    ensures unheard { hears ≡ false → result ≡ None }
+{
+    let mut caller = None;
+    hear(&mut caller, hears, facts, keys, call);
+    caller
 }

@@ -4,13 +4,15 @@ ghost use Rattle.ks_service.specs.Called.{Called};
 ghost use Rattle.ks_service.specs.Callers.{IsSaidBy};
 
 use crate::answer::Answer;
-use crate::caller::hear;
+use crate::caller::{first_heard, hear};
+use crate::recent::Recent;
 use crate::rounds::{ROUNDS, last_round, round, without_memory};
 use crate::work::work;
-use ks_auth::Facts;
+use ks_base::ListOf;
 use ks_machine::Call;
 use ks_outside::{Gate, Place};
-use ks_state::Decides;
+use ks_ring::HeldKey;
+use ks_state::{Decides, Needs};
 use ks_turn::{First, Pass, Turn};
 use std::alloc::Global;
 use std::sync::Wait;
@@ -25,7 +27,7 @@ pub fn call<I: Decides, N: First, R: Wait, G: Gate>(
     alloc: Global,
     turn: &Turn<I, N>,
     rt: &R,
-    mut pass: Pass<N>,
+    pass: Pass<N>,
     call: &Call,
     gate: &G,
     hears: bool,
@@ -36,14 +38,37 @@ pub fn call<I: Decides, N: First, R: Wait, G: Gate>(
     ensures caller { IfSome result.1.caller (IsSaidBy call.now.caller) }
     ensures unheard { hears ≡ false → result.1.caller ≡ None }
 {
-    let mut facts = Facts::new(alloc);
-    let mut caller = None;
+    let mut recent = Recent::new(alloc);
+    next_call(alloc, turn, rt, pass, call, gate, hears, &mut recent)
+}
+
+/// Decides a call as `call` does, by what a worker remembers of its calls before: where that is enough, the call's tokens
+/// are opened before the first hold, and it is decided there. What is found out is remembered for the next call.
+pub fn next_call<I: Decides, N: First, R: Wait, G: Gate>(
+    alloc: Global,
+    turn: &Turn<I, N>,
+    rt: &R,
+    mut pass: Pass<N>,
+    call: &Call,
+    gate: &G,
+    hears: bool,
+    recent: &mut Recent,
+) -> (Pass<N>, Answer<I::Fault>)
+    requires own { pass.turn ≡ turn.now }
+    requires fit { Fit call.now }
+    ensures called { Called pass result.0 call.now result.1 }
+    ensures caller { IfSome result.1.caller (IsSaidBy call.now.caller) }
+    ensures unheard { hears ≡ false → result.1.caller ≡ None }
+{
+    let mut facts = recent.begin(call, gate);
+    let mut caller = first_heard(hears, &facts, recent.keys(), call);
     for _ in 0..ROUNDS {
         gate.at(Place::BeforeHold);
         let (next, outcome) = round(turn, rt, pass, call, &facts);
         match outcome {
             Ok(mut answer) => {
                 answer.caller = caller;
+                recent.end(facts, call);
                 return (next, answer);
             }
             Err(needs) => {
@@ -51,6 +76,7 @@ pub fn call<I: Decides, N: First, R: Wait, G: Gate>(
                     return without_memory(next);
                 }
                 hear(&mut caller, hears, &facts, needs.keys.as_slice(), call);
+                recent.learn(keys_of(needs));
             }
         }
         pass = next;
@@ -59,4 +85,16 @@ pub fn call<I: Decides, N: First, R: Wait, G: Gate>(
     let (next, mut answer) = last_round(alloc, turn, rt, pass, call, facts);
     answer.caller = caller;
     (next, answer)
+}
+
+/// The keys that are asked for.
+fn keys_of(needs: Needs) -> ListOf<HeldKey>
+    ensures { result ≡ needs.keys }
+{
+    let Needs {
+        keys,
+        stored: _,
+        fresh: _,
+    } = needs;
+    keys
 }

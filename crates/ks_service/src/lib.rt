@@ -6,10 +6,12 @@ mod alone;
 mod answer;
 mod caller;
 mod calling;
+mod recent;
 mod rounds;
 mod secrets;
 mod work;
 
 pub use alone::answer_alone;
 pub use answer::Answer;
-pub use calling::call;
+pub use calling::{call, next_call};
+pub use recent::Recent;

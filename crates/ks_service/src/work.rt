@@ -3,7 +3,7 @@ ghost use Rattle.std.specs.Prelude.{◌≡◌, true, IfOk, IfSome, OnOk, option_
 ghost use Rattle.ks_auth.specs.Facts.{has_opened};
 ghost use Rattle.ks_fernet.specs.Opening.{open_of};
 ghost use Rattle.ks_machine.specs.Ranges.{AreRounds};
-ghost use Rattle.ks_service.specs.Work.{AreDerivable, AreKept, IsDerived, IsDone, IsOpened, is_open};
+ghost use Rattle.ks_service.specs.Work.{AreDerivable, AreKept, IsDerived, IsDone, IsOpened, is_open, secrets_in};
 
 use crate::secrets::{Secrets, new_secret};
 use ks_auth::Facts;
@@ -29,14 +29,31 @@ pub(crate) fn work<G: Gate>(
     ensures done { OnOk result (IsDone needs.now call.now facts.new) }
     ensures kept { OnOk result (AreKept facts.old facts.new) }
 {
-    let keys = needs.keys.as_slice();
+    open_tokens(alloc, needs.keys.as_slice(), call, facts, gate)?;
     let secrets = Secrets::of(call);
-    open_with(alloc, keys, call.caller.as_ref(), facts, gate)?;
-    open_with(alloc, keys, call.subject.as_ref(), facts, gate)?;
-    open_with(alloc, keys, secrets.token, facts, gate)?;
     derive(needs.stored.as_ref(), secrets.shown, facts, gate)?;
     let set = new_secret(alloc, call)?;
     derive(needs.fresh.as_ref(), set.as_ref(), facts, gate)
+}
+
+/// Opens each token text of the call with these keys, as far as the first that opens it.
+#[tactic(auto, using(crate::proofs::FactLemmas::opened_later))]
+pub(crate) fn open_tokens<G: Gate>(
+    alloc: Global,
+    keys: &[HeldKey],
+    call: &Call,
+    facts: &mut Facts,
+    gate: &G,
+) -> Result<(), Memory>
+    ensures caller { OnOk result (IfSome call.now.caller (IsOpened keys.now facts.new)) }
+    ensures subject { OnOk result (IfSome call.now.subject (IsOpened keys.now facts.new)) }
+    ensures token { OnOk result (IfSome (secrets_in call.now).token (IsOpened keys.now facts.new)) }
+    ensures kept { OnOk result (AreKept facts.old facts.new) }
+{
+    open_with(alloc, keys, call.caller.as_ref(), facts, gate)?;
+    open_with(alloc, keys, call.subject.as_ref(), facts, gate)?;
+    let secrets = Secrets::of(call);
+    open_with(alloc, keys, secrets.token, facts, gate)
 }
 
 /// Opens the text, if there is one, with the keys in their order, as far as the first that opens it.

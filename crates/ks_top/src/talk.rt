@@ -16,6 +16,7 @@ use ks_keep::{Booked, KeeperFailed, Since};
 use ks_keeper::Keeper;
 use ks_outside::{Desk, KeyDir, Open, Pair, Sink, Source};
 use ks_server::{Closed, Service, serve_connection};
+use ks_service::Recent;
 use ks_turn::{First, NoRoom, Turn};
 use std::marker::Brand;
 use std::sync::Wait;
@@ -97,6 +98,7 @@ fn serve_one<
         source: input,
         sink: output,
     };
+    let mut recent = Recent::new(rt.alloc());
     let (pass, closed) = serve_connection(
         rt.alloc(),
         &turn,
@@ -110,6 +112,7 @@ fn serve_one<
         &Open,
         &routes,
         &url,
+        &mut recent,
     );
     (ending(closed), turn.close(pass).unnamed())
 }

@@ -6,8 +6,8 @@ pub returns-in_default-clause-exchanges : goal.returns-in_default-clause-exchang
 returns-in_default-clause-exchanges g c before ready =
     none_made c.args.pass _ _ _ _ c.args.number c.args.request ready c.read_folder.ensures.kept c.read_folder.ensures.files
 
-pub call-pass-requires-clause-fit : goal.call-pass-requires-clause-fit
-call-pass-requires-clause-fit g c =
+pub next_call-pass-requires-clause-fit : goal.next_call-pass-requires-clause-fit
+next_call-pass-requires-clause-fit g c =
     let inputs : HasInputs c.args.request c.args.command c.required-asked.result.draws c.required-asked.result.loads c.draw-draw.result c.in-Ok.folder = record {
       is = c.requires.is;
       draws_is = ap (λ r. r.draws) c.required-asked.ensures;
@@ -20,9 +20,9 @@ call-pass-requires-clause-fit g c =
 
 pub returns-clause-exchanges : goal.returns-clause-exchanges
 returns-clause-exchanges g c before ready =
-    let steps : Steps c.args.pass c.call-pass.result.0 before (g.P.Desk.desk c.args.desk.now) (g.P.Desk.desk c.reading-reading.new.self) (g.P.Desk.desk c.draw-draw.new.desk)
+    let steps : Steps c.args.pass c.next_call-pass.result.0 before (g.P.Desk.desk c.args.desk.now) (g.P.Desk.desk c.reading-reading.new.self) (g.P.Desk.desk c.draw-draw.new.desk)
     (g.P.Desk.desk c.note.new.self) (g.D.KeyDir.dir c.args.dir.now) (g.D.KeyDir.dir c.read_folder.new.dir) c.args.number c.args.request c.args.command
-    c.reading-reading.result c.draw-draw.result c.in-Ok.folder c.call_of-call.result c.call-pass.result.1 c.has_failed-failed.result c.is_memory.result = record {
+    c.reading-reading.result c.draw-draw.result c.in-Ok.folder c.call_of-call.result c.next_call-pass.result.1 c.has_failed-failed.result c.is_memory.result = record {
       draws = c.required-asked.result.draws;
       loads = c.required-asked.result.loads;
       inputs = record {
@@ -33,7 +33,7 @@ returns-clause-exchanges g c before ready =
         read_is = c.in-Ok.ensures.read;
       };
       call_is = c.call_of-call.ensures;
-      called = c.call-pass.ensures.called;
+      called = c.next_call-pass.ensures.called;
       failed_is = c.has_failed-failed.ensures;
       memory_is = c.is_memory.ensures;
       folder = c.in-Ok.ensures.told;

@@ -2,7 +2,7 @@
 use Rattle.std.proofs.Common.{◌≡◌, IfSome, None, false}
 use Rattle.ks_service.specs.Callers.{IsSaidBy}
 use Rattle.ks_service.specs.Rounds.{Waited}
-use Rattle.ks_service.proofs.calling.call.Given as goal
+use Rattle.ks_service.proofs.calling.next_call.Given as goal
 
 abbrev pub invariant-loop : goal.invariant-loop
 invariant-loop g l = record {

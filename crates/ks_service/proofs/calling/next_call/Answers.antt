@@ -1,7 +1,8 @@
-use Rattle.std.proofs.Common.{◌∙◌}
+use Rattle.std.proofs.Common.{refl, ◌∙◌}
+use Rattle.ks_machine.proofs.FrontLemmas.{reflexive}
 use Rattle.ks_service.proofs.CalledLemmas.{called_by}
 use Rattle.ks_service.proofs.RoundLemmas.{called_waited, waited_trans}
-use Rattle.ks_service.proofs.calling.call.Goals as goal
+use Rattle.ks_service.proofs.calling.next_call.Goals as goal
 
 pub returns-in-Ok-clause-called : goal.returns-in-Ok-clause-called
 returns-in-Ok-clause-called g c =
@@ -17,6 +18,13 @@ returns-then-is_err-clause-caller g c = rw c.without_memory.ensures.caller tt
 
 pub returns-then-is_err-clause-unheard : goal.returns-then-is_err-clause-unheard
 returns-then-is_err-clause-unheard g c = λ _. c.without_memory.ensures.caller
+
+pub loop-init : goal.loop-init
+loop-init g c = record {
+  waited = record { pass = refl; later = reflexive c.args.pass.seen; alone = λ _. refl };
+  said = c.first_heard-caller.ensures.said;
+  unheard = c.first_heard-caller.ensures.unheard;
+}
 
 pub loop-preserved : goal.loop-preserved
 loop-preserved g c = record {
