@@ -1,0 +1,5 @@
+mod WordLemmas
+mod OpeningLemmas
+mod CallLemmas
+mod StepLemmas
+mod AloneLemmas

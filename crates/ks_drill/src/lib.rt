@@ -1,0 +1,15 @@
+//! A drill of an identity: a long script of calls through one pass, whose replies are counted. What the line of a drill says is
+//! proved to be what the plain machine says of the same script.
+#![tactic(auto)]
+
+mod calls;
+mod commands;
+mod opening;
+mod policy;
+mod replies;
+mod running;
+mod session;
+mod steps;
+mod words;
+
+pub use running::drill;
