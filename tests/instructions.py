@@ -4,14 +4,16 @@
     tests/instructions.py           compares; the exit status is 1 where a count is more than a tenth above its figure
     tests/instructions.py --keep    writes the counts of this run as the figures
 
-The figures stand in bench/instructions.txt: the instructions of a line of `check` and of a request of `talk`, and the most
-bytes that the program had asked for and not given back. Instructions come of two runs under valgrind over the same line or
+The figures stand in bench/instructions.txt: the instructions of a line of `check` and of a request of `talk`, of a validation also
+among 10,000 users with 100,000 grants, and the most bytes that the program had asked for and not given back. Instructions come of two runs under valgrind over the same line or
 request, of which the second has more of them, so that the beginning and the end of a run do not count. Such counts repeat
 exactly on one machine. Where there is no valgrind, nothing is counted. The program is bin/ks of this repository; the
 environment's KS names another.
 """
 
+import atexit
 import collections
+import json
 import os
 import shutil
 import subprocess
@@ -22,6 +24,11 @@ sys.dont_write_bytecode = True
 from served import fresh
 
 TOP = os.path.dirname(os.path.dirname(os.path.abspath(__file__)))
+# Before tests/, which has a tables.py too.
+sys.path.insert(0, os.path.join(TOP, "bench"))
+import tables
+import talk
+
 FIGURES = os.path.join(TOP, "bench", "instructions.txt")
 HEAD = """\
 # The figures of tests/instructions.py, which `tests/instructions.py --keep` writes: instructions a line or a request, and of
@@ -37,6 +44,19 @@ BODY = b"POST /v3 HTTP/1.1\r\nContent-Length: 4000\r\n\r\n" + b" " * 4000
 with open(os.path.join(TOP, "examples", "check.txt"), "rb") as file:
     KEY, *LINES = file.read().splitlines(keepends=True)
 
+
+def many_rows():
+    """An opening file with 10,000 users and 100,000 grants. It goes when the script ends."""
+    folder = tempfile.mkdtemp()
+    atexit.register(shutil.rmtree, folder, ignore_errors=True)
+    path = os.path.join(folder, "many.json")
+    with open(path, "w", encoding="utf-8") as out:
+        json.dump(tables.opening(10_000, 100_000, 0)[0], out, separators=(",", ":"))
+    return path
+
+
+MANY = many_rows()
+
 # Runs whose instructions are counted: the words of the command line, what stands in front, what is repeated, how often in both
 # runs, and the names of the counts, each with the front of the names of the functions that count.
 INSTRUCTIONS = [
@@ -46,6 +66,8 @@ INSTRUCTIONS = [
     (TALK, b"", VERSION, 200, 1200, {"talk: the version": "", "talk: the version, in the table of routes": "ks_routes::"}),
     (TALK, b"", b"GET /v3/nothing HTTP/1.1\r\n\r\n", 200, 1200, {"talk: a path without a route": ""}),
     (TALK, b"", BODY, 100, 600, {"talk: a body of 4,000 bytes": ""}),
+    (TALK, b"", talk.validation(talk.sealed()), 50, 250, {"talk: a validation": ""}),
+    (["talk", MANY, "keys"], b"", talk.validation(talk.sealed()), 50, 250, {"talk: a validation among 100,000 grants": ""}),
 ]
 # Runs whose memory is counted.
 HEAP = [
@@ -58,7 +80,7 @@ TUNABLES = "glibc.cpu.hwcaps=-ERMS,-FSRM,-AVX2,-AVX2_Usable,-AVX512F,-AVX512F_Us
 
 def begun(words):
     """The words, with an opening file of which nothing is kept yet."""
-    return [fresh(word) if word == OPENING else word for word in words]
+    return [fresh(word) if word in (OPENING, MANY) else word for word in words]
 
 
 def program():
