@@ -1,0 +1,26 @@
+//! Runs two drills and prints their lines, which were worked out without the program.
+#![tactic(auto)]
+
+ghost use Rattle.std.specs.Prelude.{◌≤◌};
+
+use anyhow::{Result, bail};
+use ks_drill::drill;
+use std::sync::Wait;
+
+/// Prints the line of a drill.
+fn show<R: Print + Wait + AllocGlobal>(rt: &R, start: u64, count: u32) -> Result<()>
+    requires start { start ≤ 1_000_000 }
+    requires least { 1 ≤ count }
+    requires most { count ≤ 2_000 }
+{
+    let Ok(line) = drill(rt.alloc(), rt, start, count) else {
+        bail!("no memory");
+    };
+    print!(rt; "{}", line.as_str())?;
+    Ok(())
+}
+
+fn main(rt: HostRuntime) -> Result<()> {
+    show(&rt, 0, 11)?;
+    show(&rt, 5, 2_000)
+}
