@@ -44,6 +44,13 @@ impl Aes128 {
         }
     }
 
+    /// Its key is a block. The call does nothing: its contract is the law.
+    pub(crate) fn has_block_key(&self)
+        ensures { IsBlock self.now }
+    {
+        let _key = &self.key;
+    }
+
     /// The block as AES seals it: the cipher of FIPS 197, section 5.1.
     pub fn seal_block(&self, block: &[u8; 16]) -> [u8; 16]
         ensures { result ≡ aes self.now block.now }

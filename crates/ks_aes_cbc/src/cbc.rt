@@ -1,6 +1,6 @@
 //! AES-128 in cipher block chaining, with padding.
 ghost use Rattle.std.specs.Prelude.{◌≡◌, ◌≢◌, ℕ, ◌+◌, ◌*◌, ◌/◌, ◌%◌, ◌<◌, ◌≤◌, List, length, take, replicate, Some, option_map, IfOk, IfSome, IfNone, IsTrue, ◌↔◌};
-ghost use Rattle.ks_aes_cbc.specs.Aes.{AreBytes};
+ghost use Rattle.ks_aes_cbc.specs.Aes.{AreBytes, IsBlock};
 ghost use Rattle.ks_aes_cbc.specs.Cbc.{pad, cbc, uncbc};
 ghost use Rattle.ks_aes_cbc.specs.Inverse.{uncbc_blocks};
 
@@ -80,15 +80,15 @@ pub fn cbc_seal(
 /// The blocks that whole blocks were sealed of, with their padding.
 fn opened_blocks(
     alloc: Global,
-    key: &[u8; 16],
+    aes: &Aes128,
     iv: &[u8; 16],
     sealed: &[u8],
 ) -> Result<Vec<u8>, AllocError>
-    requires { length sealed.now % 16 ≡ 0 }
+    requires key { IsBlock aes.now }
+    requires whole { length sealed.now % 16 ≡ 0 }
     ensures { IfOk result (λ v.
-        v.items ≡ uncbc_blocks (length sealed.now / 16) key.now iv.now sealed.now) }
+        v.items ≡ uncbc_blocks (length sealed.now / 16) aes.now iv.now sealed.now) }
 {
-    let aes = Aes128::new(key);
     let mut out = Vec::with_capacity(alloc, sealed.len())?;
     let mut previous = columns(iv);
     let mut left = sealed;
@@ -121,13 +121,34 @@ pub fn cbc_open(
     ensures none { IfOk result (λ found. IfNone found (
         (p : List ℕ) → AreBytes p → cbc key.now iv.now (pad p) ≢ sealed.now)) }
 {
-    if sealed.len() % 16 != 0 {
-        return Ok(None);
+    Aes128::new(key).open_cbc(alloc, iv, sealed)
+}
+
+impl Aes128 {
+    /// [`cbc_open`] under this key.
+    pub fn open_cbc(
+        &self,
+        alloc: Global,
+        iv: &[u8; 16],
+        sealed: &[u8],
+    ) -> Result<Option<Vec<u8>>, AllocError>
+        ensures opened { IfOk result (λ found.
+            option_map (λ v. v.items) found ≡ uncbc self.now iv.now sealed.now) }
+        ensures some { IfOk result (λ found. IfSome found (λ v.
+            AreBytes v.items × (cbc self.now iv.now (pad v.items) ≡ sealed.now)
+            × (length v.items < length sealed.now))) }
+        ensures none { IfOk result (λ found. IfNone found (
+            (p : List ℕ) → AreBytes p → cbc self.now iv.now (pad p) ≢ sealed.now)) }
+    {
+        self.has_block_key();
+        if sealed.len() % 16 != 0 {
+            return Ok(None);
+        }
+        let mut out = opened_blocks(alloc, self, iv, sealed)?;
+        let Some(n) = unpadded_len(out.as_slice()) else {
+            return Ok(None);
+        };
+        out.truncate(n);
+        Ok(Some(out))
     }
-    let mut out = opened_blocks(alloc, key, iv, sealed)?;
-    let Some(n) = unpadded_len(out.as_slice()) else {
-        return Ok(None);
-    };
-    out.truncate(n);
-    Ok(Some(out))
 }

@@ -3,15 +3,17 @@ ghost use Rattle.hex.specs.Hex.{encode_lower};
 ghost use Rattle.ks_machine.specs.Names.{name_of};
 ghost use Rattle.ks_commands.specs.Check.{answer_line, answer_of};
 
+use ks_base::Memory;
 use ks_base::limits::DEFAULT_LIFE;
-use ks_base::{Key, Memory};
+use ks_fernet::OpeningKey;
 use ks_machine::{ReadToken, Why, first_answer, token_lines};
 use std::alloc::{AllocError, Global};
+use std::slice;
 
 /// Puts the line that answers a token behind the answers, which are as they were where memory ends.
 pub fn answer(
     alloc: Global,
-    key: &Key,
+    key: &OpeningKey,
     moment: u64,
     token: &[u8],
     answers: &mut Vec<u8>,
@@ -19,7 +21,7 @@ pub fn answer(
     ensures ok { OnOk result (answers.new.items ≡ answers.old.items ++ answer_of key.now moment token.now) }
     ensures err { OnErr result (answers.new.items ≡ answers.old.items) }
 {
-    let said = first_answer(alloc, &[*key], token)?;
+    let said = first_answer(alloc, slice::from_ref(key), token)?;
     push_line(
         alloc,
         answers,

@@ -6,9 +6,8 @@ ghost use Rattle.ks_commands.specs.Lines.{IsInLine};
 use crate::answer::answer;
 use crate::fault::Fault;
 use crate::lines::{first_line, token_line};
-use ks_base::Key;
 use ks_base::limits::{CHECK_LINE_BYTES, CHECK_LINES};
-use ks_fernet::{KeyText, read_key};
+use ks_fernet::{KeyText, OpeningKey, read_key};
 use ks_machine::moment;
 use ks_outside::{Failed, Sink, Source, write_all};
 use std::alloc::{AllocError, Global};
@@ -17,12 +16,12 @@ use std::alloc::{AllocError, Global};
 pub const PIECE: usize = 65_536;
 
 /// Where a check stands: before the line behind those that it has read.
-#[derive(Clone, Copy)]
+#[derive(Drop)]
 pub struct Place {
     /// How many lines were read.
     pub lines: u64,
-    /// The key of line 1, behind it.
-    pub key: Option<Key>,
+    /// The key of line 1, behind it, taken in for all lines.
+    pub key: Option<OpeningKey>,
     /// The highest reading of the clock so far.
     pub moment: u64,
 }
@@ -71,7 +70,7 @@ impl Place {
         if line.len() > CHECK_LINE_BYTES || self.lines >= CHECK_LINES {
             return Err(self.bad_line());
         }
-        match self.key {
+        match self.key.take() {
             None => self.take_key(line),
             Some(key) => self.take_token(alloc, key, line, answers),
         }
@@ -87,14 +86,14 @@ impl Place {
             return Err(self.bad_line());
         };
         self.lines += 1;
-        self.key = Some(key);
+        self.key = Some(OpeningKey::of(&key));
         Ok(())
     }
 
     fn take_token(
         &mut self,
         alloc: Global,
-        key: Key,
+        key: OpeningKey,
         line: &[u8],
         answers: &mut Vec<u8>,
     ) -> Result<(), Fault>

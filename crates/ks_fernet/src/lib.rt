@@ -9,11 +9,14 @@ mod envelope;
 mod key_text;
 pub mod laws;
 mod opened;
+mod opener;
 mod opening;
+mod opening_key;
 mod sealing;
 
 pub use envelope::{Envelope, EnvelopeFault};
 pub use key_text::{KeyText, read_key};
 pub use opened::{Opened, open};
 pub use opening::{OpenAnswer, answer};
+pub use opening_key::OpeningKey;
 pub use sealing::seal;

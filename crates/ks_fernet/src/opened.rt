@@ -1,7 +1,10 @@
 ghost use Rattle.std.specs.Prelude.{◌≡◌, IfOk};
+ghost use Rattle.ks_fernet.specs.Opener.{key_of};
 ghost use Rattle.ks_fernet.specs.Opening.{open_of};
 
-use crate::opening::{OpenAnswer, answer};
+use crate::opener::Opener;
+use crate::opening::{OpenAnswer, answer_by};
+use crate::opening_key::OpeningKey;
 use ks_base::{Key, Memory, Text};
 use std::alloc::Global;
 use std::marker::Model;
@@ -59,10 +62,25 @@ impl Opened {
 pub fn open(alloc: Global, number: u64, key: &Key, text: &Text) -> Result<Opened, Memory>
     ensures { IfOk result (λ opened. opened ≡ record { number = number; key = key.now; text = text.now }) }
 {
-    let answer = answer(alloc, key, text.as_slice())?;
+    open_by(alloc, number, &Opener::Plain(key), text)
+}
+
+impl OpeningKey {
+    /// [`open`] by this key.
+    pub fn open(&self, alloc: Global, number: u64, text: &Text) -> Result<Opened, Memory>
+        ensures { IfOk result (λ opened. opened ≡ record { number = number; key = self.now; text = text.now }) }
+    {
+        open_by(alloc, number, &Opener::Taken(self), text)
+    }
+}
+
+fn open_by(alloc: Global, number: u64, opener: &Opener, text: &Text) -> Result<Opened, Memory>
+    ensures { IfOk result (λ opened. opened ≡ record { number = number; key = key_of opener.now; text = text.now }) }
+{
+    let answer = answer_by(alloc, opener, text.as_slice())?;
     Ok(Opened {
         number,
-        key: *key,
+        key: *opener.key(),
         text: text.copy()?,
         answer,
     })

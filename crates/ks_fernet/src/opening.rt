@@ -1,9 +1,12 @@
 ghost use Rattle.std.specs.Prelude.{◌≡◌, ◌<◌, length, slice_index, IfOk};
+ghost use Rattle.ks_fernet.specs.Opener.{key_of};
 ghost use Rattle.ks_fernet.specs.Opening.{answer_of, open_of};
 ghost use Rattle.ks_fernet.specs.Token.{parts_of};
 
 use crate::authentic::Authentic;
 use crate::envelope::{Parts, ROOM, fault_in, read_text};
+use crate::opener::Opener;
+use crate::opening_key::OpeningKey;
 use ks_base::{Bytes, Key, Memory};
 use std::alloc::Global;
 
@@ -26,6 +29,21 @@ pub enum OpenAnswer {
 pub fn answer(alloc: Global, key: &Key, text: &[u8]) -> Result<OpenAnswer, Memory>
     ensures { IfOk result (λ said. said ≡ open_of key.now text.now) }
 {
+    answer_by(alloc, &Opener::Plain(key), text)
+}
+
+impl OpeningKey {
+    /// [`answer`] of this key.
+    pub fn answer(&self, alloc: Global, text: &[u8]) -> Result<OpenAnswer, Memory>
+        ensures { IfOk result (λ said. said ≡ open_of self.now text.now) }
+    {
+        answer_by(alloc, &Opener::Taken(self), text)
+    }
+}
+
+pub(crate) fn answer_by(alloc: Global, opener: &Opener, text: &[u8]) -> Result<OpenAnswer, Memory>
+    ensures { IfOk result (λ said. said ≡ open_of (key_of opener.now) text.now) }
+{
     let mut buffer = [0u8; ROOM];
     let Some(len) = read_text(text, &mut buffer) else {
         return Ok(OpenAnswer::NotText);
@@ -34,16 +52,16 @@ pub fn answer(alloc: Global, key: &Key, text: &[u8]) -> Result<OpenAnswer, Memor
     if let Some(_fault) = fault_in(bytes) {
         return Ok(OpenAnswer::NotText);
     }
-    open_bytes(alloc, key, bytes)
+    open_bytes(alloc, opener, bytes)
 }
 
-fn open_bytes(alloc: Global, key: &Key, bytes: &[u8]) -> Result<OpenAnswer, Memory>
+fn open_bytes(alloc: Global, opener: &Opener, bytes: &[u8]) -> Result<OpenAnswer, Memory>
     requires long { 57 < length bytes.now }
     requires version { slice_index bytes.now 0 ≡ 0x80 }
-    ensures { IfOk result (λ said. said ≡ answer_of key.now (parts_of bytes.now)) }
+    ensures { IfOk result (λ said. said ≡ answer_of (key_of opener.now) (parts_of bytes.now)) }
 {
     let parts = Parts::of(bytes);
-    let Some(authentic) = Authentic::of(key, &parts) else {
+    let Some(authentic) = Authentic::of(opener, &parts) else {
         return Ok(OpenAnswer::No);
     };
     let time = parts.time;

@@ -11,6 +11,9 @@ use keyed::KeyedHash;
 use sha2::Digest;
 
 mod keyed;
+mod signing_key;
+
+pub use signing_key::SigningKey;
 
 // PBKDF2 numbers the blocks of a key from 1, and a key of 32 bytes has one.
 const BLOCK_NUMBER: u32 = 1;

@@ -4,8 +4,8 @@ ghost use Rattle.ks_machine.specs.TokenLines.{end_of, first_opened, payload_line
 
 use crate::Why;
 use ks_base::limits::EXPIRED_WINDOW;
-use ks_base::{Bytes, Key, Memory};
-use ks_fernet::{Envelope, EnvelopeFault, OpenAnswer, answer};
+use ks_base::{Bytes, Memory};
+use ks_fernet::{Envelope, EnvelopeFault, OpenAnswer, OpeningKey};
 use ks_payload::Payload;
 use std::alloc::Global;
 
@@ -21,11 +21,11 @@ pub struct ReadToken {
 
 /// What the first key makes of a text that opens it. The keys are tried in their order.
 #[tactic(auto, unfolding(crate::specs::TokenLines::first_opened))]
-pub fn first_answer(alloc: Global, keys: &[Key], text: &[u8]) -> Result<OpenAnswer, Memory>
+pub fn first_answer(alloc: Global, keys: &[OpeningKey], text: &[u8]) -> Result<OpenAnswer, Memory>
     ensures { IfOk result (λ said. said ≡ first_opened keys.now text.now) }
 {
     for key in keys {
-        match answer(alloc, key, text)? {
+        match key.answer(alloc, text)? {
             OpenAnswer::No => {}
             OpenAnswer::NotText => return Ok(OpenAnswer::NotText),
             OpenAnswer::Yes { time, plain } => return Ok(OpenAnswer::Yes { time, plain }),

@@ -1,8 +1,8 @@
 -- What is known after some work.
-use Rattle.std.proofs.Common.{◌≡◌, ◌⊎◌, inl, inr, ℕ, zero, suc, ◌+◌, ◌<◌, ◌≤◌, ◌==◌, Bool, true, false, List, [], ◌∷◌, ◌++◌, length, take, get_or, Option, Some, None, IfSome, is_some, option_copied, Bor, if◌then◌else◌, refl, sym, ap, subst, ◌∙◌, arith, bytes_eq}
+use Rattle.std.proofs.Common.{◌≡◌, inl, inr, ℕ, zero, suc, ◌+◌, ◌<◌, ◌≤◌, ◌==◌, Bool, true, false, List, [], ◌∷◌, ◌++◌, length, take, get_or, map, Option, Some, None, IfSome, is_some, option_copied, Bor, if◌then◌else◌, refl, sym, ap, subst, ◌∙◌, arith, bytes_eq}
 use Rattle.std.specs.List.{All, list_any}
 use Rattle.std.proofs.lemmas.Bool.Decides.{nat_tests}
-use Rattle.std.proofs.lemmas.List.{take_all}
+use Rattle.std.proofs.lemmas.List.{map-id, take_all}
 use Rattle.std.proofs.lemmas.List.Elements.{All-more, All-weaker}
 use Rattle.std.proofs.lemmas.List.Folds.{list_any-append}
 use Rattle.std.proofs.lemmas.Slice.Eq.{bytes_eq-Decides}
@@ -82,28 +82,32 @@ unfolding told
 found_derived facts password salt rounds None some is = absurd (cc)
 found_derived facts password salt rounds (Some digest) some is = some_if (has_derived password salt rounds facts.derived) _ _ is
 
--- keys one after the other
+-- keys one after the other, each by the held key that it stands for
 
-abbrev Knows : Text → FactsState → HeldKey → Type 0
-Knows text facts held = has_opened held text facts.opened ≡ true
+abbrev Knows : {K : Type 0} → (K → HeldKey) → Text → FactsState → K → Type 0
+Knows held text facts key = has_opened (held key) text facts.opened ≡ true
 
-later_keys : (text : Text) (old new : FactsState) (keys : List HeldKey) → AreKept old new → All (Knows text old) keys → All (Knows text new) keys
-later_keys text old new keys kept known = All-weaker (Knows text old) (Knows text new) (λ held is. kept.opened held text is) keys known
+later_keys : {K : Type 0} (held : K → HeldKey) (text : Text) (old new : FactsState) (keys : List K) → AreKept old new → All (Knows held text old) keys
+    → All (Knows held text new) keys
+later_keys held text old new keys kept known =
+    All-weaker (Knows held text old) (Knows held text new) (λ key is. kept.opened (held key) text is) keys known
 
-pub opened_more : (keys : List HeldKey) (i : ℕ) (text : Text) (old new : FactsState) (d : HeldKey) → i < length keys → All (Knows text old) (take i keys) → AreKept old new
-    → Knows text new (get_or keys i d) → All (Knows text new) (take (i + 1) keys)
-opened_more keys i text old new d within known kept now =
-    All-more (Knows text new) keys i d within (later_keys text old new (take i keys) kept known) now
+pub opened_more : {K : Type 0} (held : K → HeldKey) (keys : List K) (i : ℕ) (text : Text) (old new : FactsState) (key : K) → key ≡ get_or keys i key → i < length keys
+    → All (Knows held text old) (take i keys) → AreKept old new → Knows held text new key → All (Knows held text new) (take (i + 1) keys)
+opened_more held keys i text old new key is within known kept now =
+    All-more (Knows held text new) keys i key within (later_keys held text old new (take i keys) kept known) (subst (Knows held text new) is now)
 
-all_opened : (keys : List HeldKey) (facts : FactsState) (text : Text) → All (Knows text facts) keys → IsOpened keys facts text
-all_opened [] facts text known = tt
-all_opened (held ∷ keys) facts text known = (known 0 held (omega arith), inr (all_opened keys facts text (λ i d within. known (suc i) d (omega (arith, within)))))
+all_opened : {K : Type 0} (held : K → HeldKey) (keys : List K) (facts : FactsState) (text : Text) → All (Knows held text facts) keys
+    → IsOpened (map held keys) facts text
+all_opened held [] facts text known = tt
+all_opened held (key ∷ keys) facts text known =
+    (known 0 key (omega arith), inr (all_opened held keys facts text (λ i d within. known (suc i) d (omega (arith, within)))))
 
-pub opened_whole : (given : Option (Bor Text)) (text : Bor Text) (keys : List HeldKey) (i : ℕ) (facts : FactsState) → given ≡ Some text → length keys ≤ i
-    → All (Knows text.now facts) (take i keys) → IfSome (option_copied given) (IsOpened keys facts)
-opened_whole given text keys i facts is whole known =
-    let all : All (Knows text.now facts) keys = subst (All (Knows text.now facts)) (take_all i keys whole) known in
-    subst (λ (o : Option (Bor Text)). IfSome (option_copied o) (IsOpened keys facts)) (sym is) (all_opened keys facts text.now all)
+pub opened_whole : {K : Type 0} (held : K → HeldKey) (given : Option (Bor Text)) (text : Bor Text) (keys : List K) (i : ℕ) (facts : FactsState) → given ≡ Some text
+    → length keys ≤ i → All (Knows held text.now facts) (take i keys) → IfSome (option_copied given) (IsOpened (map held keys) facts)
+opened_whole held given text keys i facts is whole known =
+    let all : All (Knows held text.now facts) keys = subst (All (Knows held text.now facts)) (take_all i keys whole) known in
+    subst (λ (o : Option (Bor Text)). IfSome (option_copied o) (IsOpened (map held keys) facts)) (sym is) (all_opened held keys facts text.now all)
 
 -- what is known stays known
 pub opened_later : (old new : FactsState) (keys : List HeldKey) (text : Text) → AreKept old new → IsOpened keys old text → IsOpened keys new text
@@ -111,19 +115,26 @@ opened_later old new [] text kept known = tt
 opened_later old new (held ∷ keys) text kept (known, inl opens) = (kept.opened held text known, inl opens)
 opened_later old new (held ∷ keys) text kept (known, inr others) = (kept.opened held text known, inr (opened_later old new keys text kept others))
 
+-- held keys stand for themselves
+pub opened_held : (keys : List HeldKey) (facts : FactsState) (text : Text) → IsOpened (map (λ held. held) keys) facts text → IsOpened keys facts text
+opened_held keys facts text known = subst (λ same. IsOpened same facts text) (map-id keys) known
+
 -- all before the first that opens the text
-first_opened : (keys : List HeldKey) (i : ℕ) (facts : FactsState) (text : Text) (d : HeldKey) → i < length keys → All (Knows text facts) (take i keys)
-    → Knows text facts (get_or keys i d) → is_open (open_of (get_or keys i d).key text) ≡ true → IsOpened keys facts text
-first_opened [] i facts text d within known now opens = absurd (omega (arith, within))
-first_opened (held ∷ keys) zero facts text d within known now opens = (now, inl opens)
-first_opened (held ∷ keys) (suc i) facts text d within known now opens = (
-  known 0 held (omega arith),
-  inr (first_opened keys i facts text d (omega (arith, within)) (λ j e under. known (suc j) e (omega (arith, under))) now opens),
+first_opened : {K : Type 0} (held : K → HeldKey) (keys : List K) (i : ℕ) (facts : FactsState) (text : Text) (d : K) → i < length keys
+    → All (Knows held text facts) (take i keys) → Knows held text facts (get_or keys i d) → is_open (open_of (held (get_or keys i d)).key text) ≡ true
+    → IsOpened (map held keys) facts text
+first_opened held [] i facts text d within known now opens = absurd (omega (arith, within))
+first_opened held (key ∷ keys) zero facts text d within known now opens = (now, inl opens)
+first_opened held (key ∷ keys) (suc i) facts text d within known now opens = (
+  known 0 key (omega arith),
+  inr (first_opened held keys i facts text d (omega (arith, within)) (λ j e under. known (suc j) e (omega (arith, under))) now opens),
 )
 
-pub opened_first : (given : Option (Bor Text)) (text : Bor Text) (keys : List HeldKey) (i : ℕ) (old new : FactsState) (d : HeldKey) (opens : Bool) → given ≡ Some text
-    → i < length keys → All (Knows text.now old) (take i keys) → AreKept old new → Knows text.now new (get_or keys i d)
-    → opens ≡ is_open (open_of (get_or keys i d).key text.now) → opens ≡ true → IfSome (option_copied given) (IsOpened keys new)
-opened_first given text keys i old new d opens is within known kept now said holds =
-    subst (λ (o : Option (Bor Text)). IfSome (option_copied o) (IsOpened keys new)) (sym is)
-    (first_opened keys i new text.now d within (later_keys text.now old new (take i keys) kept known) now (sym said ∙ holds))
+pub opened_first : {K : Type 0} (held : K → HeldKey) (given : Option (Bor Text)) (text : Bor Text) (keys : List K) (i : ℕ) (old new : FactsState) (key : K) (opens : Bool)
+    → given ≡ Some text → key ≡ get_or keys i key → i < length keys → All (Knows held text.now old) (take i keys) → AreKept old new → Knows held text.now new key
+    → opens ≡ is_open (open_of (held key).key text.now) → opens ≡ true → IfSome (option_copied given) (IsOpened (map held keys) new)
+opened_first held given text keys i old new key opens given_is is within known kept now said holds =
+    let opened : is_open (open_of (held (get_or keys i key)).key text.now) ≡ true =
+    subst (λ k. is_open (open_of (held k).key text.now) ≡ true) is (sym said ∙ holds) in
+    subst (λ (o : Option (Bor Text)). IfSome (option_copied o) (IsOpened (map held keys) new)) (sym given_is)
+    (first_opened held keys i new text.now key within (later_keys held text.now old new (take i keys) kept known) (subst (Knows held text.now new) is now) opened)

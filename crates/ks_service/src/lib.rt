@@ -6,6 +6,7 @@ mod alone;
 mod answer;
 mod caller;
 mod calling;
+mod opens;
 mod recent;
 mod rounds;
 mod secrets;

@@ -1,5 +1,6 @@
 //! What a worker remembers of its calls.
 
+use crate::opens::{TakenKey, taken_in};
 use crate::work::open_tokens;
 use ks_auth::Facts;
 use ks_base::ListOf;
@@ -10,12 +11,12 @@ use std::alloc::Global;
 use std::mem;
 
 /// What a worker found out of ciphers in its last calls, so that the next one need not ask for it: the keys that the ring had,
-/// and what they make of the last caller's token. What a key makes of a text is true for ever, so that nothing here is ever
+/// taken in, and what they make of the last caller's token. What a key makes of a text is true for ever, so that nothing here is ever
 /// wrong; where the ring has other keys now, a decision asks for what it lacks.
 #[derive(Drop)]
 pub struct Recent {
     alloc: Global,
-    keys: ListOf<HeldKey>,
+    keys: ListOf<TakenKey>,
     facts: Facts,
 }
 
@@ -30,7 +31,7 @@ impl Recent {
     }
 
     /// The keys that the ring had when it was asked last, as far as they are remembered.
-    pub(crate) fn keys(&self) -> &[HeldKey] {
+    pub(crate) fn keys(&self) -> &[TakenKey] {
         self.keys.as_slice()
     }
 
@@ -42,17 +43,20 @@ impl Recent {
         facts
     }
 
-    /// Takes down the keys for which a decision asked, of which none are remembered. Where some are, the ring has changed, and
+    /// Takes in the keys for which a decision asked, of which none are remembered. Where some are, the ring has changed, and
     /// they are forgotten: the next decision then asks for all keys, and not only for the new ones.
-    pub(crate) fn learn(&mut self, keys: ListOf<HeldKey>) {
-        if keys.as_slice().is_empty() {
+    pub(crate) fn learn(&mut self, keys: &[HeldKey]) {
+        if keys.is_empty() {
             return;
         }
-        self.keys = if self.keys.as_slice().is_empty() {
-            keys
-        } else {
-            ListOf::new(self.alloc)
-        };
+        let known = mem::replace(&mut self.keys, ListOf::new(self.alloc));
+        if !known.as_slice().is_empty() {
+            return;
+        }
+        // Where there is no memory for them, none are remembered.
+        if let Ok(taken) = taken_in(self.alloc, keys) {
+            self.keys = taken;
+        }
     }
 
     /// Remembers what is known of the caller's token, and lets all else go that was found out for the call.

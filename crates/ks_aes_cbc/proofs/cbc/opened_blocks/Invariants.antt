@@ -6,7 +6,7 @@ use Rattle.ks_aes_cbc.proofs.cbc.opened_blocks.Given as goal
 
 abbrev pub invariant-loop-block : goal.invariant-loop-block
 invariant-loop-block l =
-    (l.out.items ++ uncbc_blocks (length l.left / 16) l.key (block_of l.previous) l.left ≡ uncbc_blocks (length l.sealed / 16) l.key l.iv l.sealed)
+    (l.out.items ++ uncbc_blocks (length l.left / 16) l.aes (block_of l.previous) l.left ≡ uncbc_blocks (length l.sealed / 16) l.aes l.iv l.sealed)
     × AreBytes l.left × (length l.left % 16 ≡ 0)
 
 abbrev pub decreases-loop-block : goal.decreases-loop-block
