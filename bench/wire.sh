@@ -31,7 +31,7 @@ open(f"{sys.argv[1]}/response.1000", "w").close()
 open(f"{sys.argv[1]}/response.11000", "w").close()
 END
 
-begin wire_bench 'ks_base ks_outside ks_http ks_machine ks_routes ks_render anyhow'
+begin wire_bench 'ks_base ks_catalog ks_outside ks_http ks_machine ks_routes ks_render anyhow'
 cat > src/main.rt <<'END'
 //! Does what the first word says as often as the second: reads requests of its standard input to their commands, renders
 //! responses to a login, or both. It prints how many came out, the bytes of all bodies, and the time.
@@ -42,6 +42,7 @@ ghost use Rattle.ks_machine.specs.Told.{IsTellable, IsTokenTellable};
 
 use anyhow::{Result, bail};
 use ks_base::{Id, Text};
+use ks_catalog::ServiceOutList;
 use ks_http::{Next, Reader, Request};
 use ks_machine::{BodyOut, Homed, Reply, Titled, TitledList, TokenOut};
 use ks_outside::{RealSource, Source};
@@ -94,6 +95,7 @@ fn token(alloc: Global, made: bool) -> Result<TokenOut>
         trust: None,
         roles: Some(roles),
         system: false,
+        catalog: Some(ServiceOutList::new(alloc)),
     })
 }
 

@@ -18,6 +18,7 @@ mod response;
 mod scan;
 mod status;
 mod values;
+mod wording;
 mod write_fault;
 mod writer;
 
@@ -27,5 +28,6 @@ pub use reader::Reader;
 pub use request::Request;
 pub use response::Response;
 pub use status::reason;
+pub use wording::{ResponseFields, Wording};
 pub use write_fault::WriteFault;
 pub use writer::{write_memory, write_response};

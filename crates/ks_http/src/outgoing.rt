@@ -2,8 +2,8 @@ ghost use Rattle.std.specs.Prelude.{◌≡◌};
 
 use crate::response::Response;
 use crate::status::reason;
+use crate::wording::Wording;
 use arrayvec::ArrayVec;
-use ks_base::Text;
 use ks_outside::{Failed, Sink, write_all};
 use std::marker::Model;
 
@@ -132,7 +132,11 @@ impl Outgoing {
         )
     }
 
-    fn put_fields<K: Sink>(&mut self, sink: &mut K, fields: &[(Text, Text)]) -> Result<(), Failed>
+    fn put_fields<K: Sink>(
+        &mut self,
+        sink: &mut K,
+        fields: &[(Wording, Wording)],
+    ) -> Result<(), Failed>
         ensures told { Puts self.old (field_lines fields.now) self.new (K.stream sink.old).written (K.stream sink.new).written result }
         ensures writes { OnlyWrites (IsErr result) (K.stream sink.old) (K.stream sink.new) }
     {

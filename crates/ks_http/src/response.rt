@@ -1,11 +1,12 @@
-use ks_base::{Bytes, FieldList};
+use crate::wording::ResponseFields;
+use ks_base::Bytes;
 
 /// A response of HTTP/1.1 (RFC 9112, section 4).
 pub struct Response {
     /// The status code.
     pub status: u16,
     /// The fields behind `Content-Length`, in the order in which they are written.
-    pub fields: FieldList,
+    pub fields: ResponseFields,
     /// The body, whose length `Content-Length` gives. A 204 has neither.
     pub body: Bytes,
     /// The response answers HEAD: its fields are those of its body, which is not written.

@@ -1,14 +1,31 @@
 ghost use Rattle.std.specs.Prelude.{◌≡◌, [], ◌∷◌, ◌++◌, true, codes, IfOk, OnOk, string_bytes};
 ghost use Rattle.ks_render.specs.Answers.{allow_fields, body_fields, cause_fields, challenge_fields, close_fields, fields_of, first_fields, granted_fields, method_list, name_of, own_fields, told_fields, token_fields, vary_fields};
 
-use ks_base::{FieldList, Memory, Method, Text};
+use ks_base::{Memory, Method, Text};
+use ks_http::{ResponseFields, Wording};
 use ks_machine::{BodyOut, Cause, Reply};
 use std::alloc::Global;
 
-fn push(fields: &mut FieldList, alloc: Global, name: &str, value: &str) -> Result<(), Memory>
-    ensures { OnOk result (fields.new ≡ fields.old ++ (name.now, value.now) ∷ []) }
+/// Room for the fields of any response.
+const FIELDS: usize = 4;
+
+/// Room for the names of all methods, so that their text is one piece of memory.
+const METHODS_ROOM: usize = 48;
+
+/// Room for what stands round the URL in a challenge.
+const CHALLENGE_ROOM: usize = 18;
+
+/// No fields yet, with room for those that a response gets.
+fn no_fields(alloc: Global) -> Result<ResponseFields, Memory>
+    ensures { IfOk result (λ made. made ≡ []) }
 {
-    fields.push((Text::of(alloc, name)?, Text::of(alloc, value)?))
+    Ok(ResponseFields::from_vec(Vec::with_capacity(alloc, FIELDS)?))
+}
+
+fn push(fields: &mut ResponseFields, name: &'static str, value: Wording) -> Result<(), Memory>
+    ensures { OnOk result (fields.new ≡ fields.old ++ (name.now, value) ∷ []) }
+{
+    fields.push((Wording::fixed(name), value))
 }
 
 #[tactic(auto, unfolding(crate::specs::Answers::name_of))]
@@ -29,7 +46,7 @@ fn name_of(method: Method) -> &'static str
 fn method_list(alloc: Global, methods: &[Method]) -> Result<String, Memory>
     ensures { IfOk result (λ made. string_bytes made ≡ method_list methods.now) }
 {
-    let mut made = String::new(alloc);
+    let mut made = String::with_capacity(alloc, METHODS_ROOM)?;
     let Some((first, others)) = methods.split_first() else {
         return Ok(made);
     };
@@ -43,26 +60,30 @@ fn method_list(alloc: Global, methods: &[Method]) -> Result<String, Memory>
 
 /// Begins the fields of a response that has a body.
 #[tactic(auto, unfolding(crate::specs::Answers::body_fields))]
-fn body_fields(alloc: Global) -> Result<FieldList, Memory>
+fn body_fields(alloc: Global) -> Result<ResponseFields, Memory>
     ensures { IfOk result (λ made. made ≡ body_fields) }
 {
-    let mut fields = FieldList::new(alloc);
-    push(&mut fields, alloc, "Content-Type", "application/json")?;
-    push(&mut fields, alloc, "Vary", "X-Auth-Token")?;
+    let mut fields = no_fields(alloc)?;
+    push(
+        &mut fields,
+        "Content-Type",
+        Wording::fixed("application/json"),
+    )?;
+    push(&mut fields, "Vary", Wording::fixed("X-Auth-Token"))?;
     Ok(fields)
 }
 
 /// Begins the fields of a response that has none.
 #[tactic(auto, unfolding(crate::specs::Answers::vary_fields))]
-fn vary_fields(alloc: Global) -> Result<FieldList, Memory>
+fn vary_fields(alloc: Global) -> Result<ResponseFields, Memory>
     ensures { IfOk result (λ made. made ≡ vary_fields) }
 {
-    let mut fields = FieldList::new(alloc);
-    push(&mut fields, alloc, "Vary", "X-Auth-Token")?;
+    let mut fields = no_fields(alloc)?;
+    push(&mut fields, "Vary", Wording::fixed("X-Auth-Token"))?;
     Ok(fields)
 }
 
-fn granted_fields(alloc: Global, granted: &BodyOut) -> Result<FieldList, Memory>
+fn granted_fields(alloc: Global, granted: &BodyOut) -> Result<ResponseFields, Memory>
     ensures { IfOk result (λ made. made ≡ granted_fields granted.now) }
 {
     match granted {
@@ -86,7 +107,7 @@ fn granted_fields(alloc: Global, granted: &BodyOut) -> Result<FieldList, Memory>
     }
 }
 
-fn first_fields(alloc: Global, reply: &Reply) -> Result<FieldList, Memory>
+fn first_fields(alloc: Global, reply: &Reply) -> Result<ResponseFields, Memory>
     ensures { IfOk result (λ made. made ≡ first_fields reply.now) }
 {
     match reply {
@@ -99,45 +120,39 @@ fn first_fields(alloc: Global, reply: &Reply) -> Result<FieldList, Memory>
 fn challenge(alloc: Global, url: &Text) -> Result<String, Memory>
     ensures { IfOk result (λ made. string_bytes made ≡ codes "Keystone uri=\"" ++ (url.now ++ codes "/v3\"")) }
 {
-    let mut made = String::from_str(alloc, "Keystone uri=\"")?;
+    let mut made = String::with_capacity(alloc, url.as_slice().len() + CHALLENGE_ROOM)?;
+    made.push_str("Keystone uri=\"")?;
     made.push_str(url.as_str())?;
     made.push_str("/v3\"")?;
     Ok(made)
 }
 
 #[tactic(auto, unfolding(crate::specs::Answers::challenge_fields))]
-fn push_challenge(fields: &mut FieldList, alloc: Global, url: &Text) -> Result<(), Memory>
+fn push_challenge(fields: &mut ResponseFields, alloc: Global, url: &Text) -> Result<(), Memory>
     ensures { OnOk result (fields.new ≡ fields.old ++ challenge_fields url.now) }
 {
-    push(
-        fields,
-        alloc,
-        "WWW-Authenticate",
-        challenge(alloc, url)?.as_str(),
-    )
+    let challenge = challenge(alloc, url)?;
+    push(fields, "WWW-Authenticate", Wording::own(challenge))
 }
 
 #[tactic(auto, unfolding(crate::specs::Answers::token_fields))]
-fn push_token(fields: &mut FieldList, alloc: Global, text: &Text) -> Result<(), Memory>
+fn push_token(fields: &mut ResponseFields, alloc: Global, text: &Text) -> Result<(), Memory>
     ensures { OnOk result (fields.new ≡ fields.old ++ token_fields text.now) }
 {
-    push(fields, alloc, "X-Subject-Token", text.as_str())
+    let own = String::from_str(alloc, text.as_str())?;
+    push(fields, "X-Subject-Token", Wording::own(own))
 }
 
 #[tactic(auto, unfolding(crate::specs::Answers::allow_fields))]
-fn push_allow(fields: &mut FieldList, alloc: Global, methods: &[Method]) -> Result<(), Memory>
+fn push_allow(fields: &mut ResponseFields, alloc: Global, methods: &[Method]) -> Result<(), Memory>
     ensures { OnOk result (fields.new ≡ fields.old ++ allow_fields methods.now) }
 {
-    push(
-        fields,
-        alloc,
-        "Allow",
-        method_list(alloc, methods)?.as_str(),
-    )
+    let methods = method_list(alloc, methods)?;
+    push(fields, "Allow", Wording::own(methods))
 }
 
 fn push_of_cause(
-    fields: &mut FieldList,
+    fields: &mut ResponseFields,
     alloc: Global,
     cause: &Cause,
     url: &Text,
@@ -171,13 +186,13 @@ fn push_of_cause(
     }
 }
 
-fn push_told(fields: &mut FieldList, alloc: Global, granted: &BodyOut) -> Result<(), Memory>
+fn push_told(fields: &mut ResponseFields, alloc: Global, granted: &BodyOut) -> Result<(), Memory>
     ensures { OnOk result (fields.new ≡ fields.old ++ told_fields granted.now) }
 {
     match granted {
         BodyOut::Nothing => Ok(()),
         BodyOut::Version => Ok(()),
-        BodyOut::Token(told) => push_token(fields, alloc, &told.text),
+        BodyOut::Token(told) => push_token(fields, alloc, &told.get().text),
         BodyOut::One(_, _) => Ok(()),
         BodyOut::Many(_, _, _) => Ok(()),
         BodyOut::Inference(_, _, _) => Ok(()),
@@ -195,7 +210,12 @@ fn push_told(fields: &mut FieldList, alloc: Global, granted: &BodyOut) -> Result
     }
 }
 
-fn push_own(fields: &mut FieldList, alloc: Global, reply: &Reply, url: &Text) -> Result<(), Memory>
+fn push_own(
+    fields: &mut ResponseFields,
+    alloc: Global,
+    reply: &Reply,
+    url: &Text,
+) -> Result<(), Memory>
     ensures { OnOk result (fields.new ≡ fields.old ++ own_fields reply.now url.now) }
 {
     match reply {
@@ -205,31 +225,36 @@ fn push_own(fields: &mut FieldList, alloc: Global, reply: &Reply, url: &Text) ->
 }
 
 #[tactic(auto, unfolding(crate::specs::Answers::close_fields))]
-fn push_close(fields: &mut FieldList, alloc: Global, close: bool) -> Result<(), Memory>
+fn push_close(fields: &mut ResponseFields, close: bool) -> Result<(), Memory>
     ensures { OnOk result (fields.new ≡ fields.old ++ close_fields close) }
 {
     if close {
-        push(fields, alloc, "Connection", "close")
+        push(fields, "Connection", Wording::fixed("close"))
     } else {
         Ok(())
     }
 }
 
 /// The fields of a reply's response behind the length of the body, of a server at the URL.
-pub fn fields_of(alloc: Global, reply: &Reply, url: &Text, close: bool) -> Result<FieldList, Memory>
+pub fn fields_of(
+    alloc: Global,
+    reply: &Reply,
+    url: &Text,
+    close: bool,
+) -> Result<ResponseFields, Memory>
     ensures { IfOk result (λ made. made ≡ fields_of reply.now url.now close) }
 {
     let mut fields = first_fields(alloc, reply)?;
     push_own(&mut fields, alloc, reply, url)?;
-    push_close(&mut fields, alloc, close)?;
+    push_close(&mut fields, close)?;
     Ok(fields)
 }
 
 /// The fields of the response to bytes that are no request.
-pub fn bad_fields(alloc: Global) -> Result<FieldList, Memory>
+pub fn bad_fields(alloc: Global) -> Result<ResponseFields, Memory>
     ensures { IfOk result (λ made. made ≡ body_fields ++ close_fields true) }
 {
     let mut fields = body_fields(alloc)?;
-    push_close(&mut fields, alloc, true)?;
+    push_close(&mut fields, true)?;
     Ok(fields)
 }
