@@ -12,7 +12,7 @@ pub type TextList = ListOf<Text>;
 pub type MethodList = ListOf<Method>;
 /// Keys with the indices of their files.
 pub type KeyList = ListOf<(u32, Key)>;
-/// Names with their values, as the fields of a response.
+/// Names with their values, as those of a query.
 pub type FieldList = ListOf<(Text, Text)>;
 /// Indices of files.
 pub type IndexList = ListOf<u32>;

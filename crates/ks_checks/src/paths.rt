@@ -20,7 +20,7 @@ pub fn joined(alloc: Global, first: &str, middle: &str, last: &str) -> Result<Te
     put(&mut out, first)?;
     put(&mut out, middle)?;
     put(&mut out, last)?;
-    Text::of(alloc, out.as_str())
+    Ok(Text::from_string(out))
 }
 
 fn put_target(out: &mut String, at: &Target) -> Result<(), Memory>
@@ -68,7 +68,7 @@ fn grants_between(
     put_target(&mut out, at)?;
     put_actor(&mut out, who)?;
     put(&mut out, last)?;
-    Text::of(alloc, out.as_str())
+    Ok(Text::from_string(out))
 }
 
 /// The path of the listing of an actor's grants at a target.

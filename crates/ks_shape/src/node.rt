@@ -9,6 +9,9 @@ use ks_base::{Memory, ShapeFault, ShapeRefusal, Text};
 use serde_json::Value;
 use std::alloc::Global;
 
+/// Room for most paths, so that their text seldom moves while it grows.
+const PATH_ROOM: usize = 64;
+
 /// A place in a JSON document: the path under which it is known, and the value there, if there is one.
 #[derive(Drop)]
 pub struct Node<'a> {
@@ -46,11 +49,12 @@ impl<'a> Node<'a> {
     pub(crate) fn path_at(&self, names: &[&str]) -> Result<Text, Memory>
         ensures { IfOk result (λ path. path ≡ path_at (names_in names.now) (place_of self.now)) }
     {
-        let mut path = String::from_str(self.alloc, self.path.as_str())?;
+        let mut path = String::with_capacity(self.alloc, PATH_ROOM)?;
+        path.push_str(self.path.as_str())?;
         for name in names {
             push_name(&mut path, *name)?;
         }
-        Text::of(self.alloc, path.as_str())
+        Ok(Text::from_string(path))
     }
 
     /// The value that these names lead to.
@@ -95,8 +99,7 @@ impl<'a> Node<'a> {
         path.push('[')?;
         path.push_str(Buffer::new().format(place))?;
         path.push(']')?;
-        let path = Text::of(self.alloc, path.as_str())?;
-        Ok(Node::known_as(self.alloc, path, value))
+        Ok(Node::known_as(self.alloc, Text::from_string(path), value))
     }
 
     /// The value at the place.

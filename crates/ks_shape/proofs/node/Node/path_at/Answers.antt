@@ -13,5 +13,4 @@ pub returns : goal.returns
 returns c =
     let whole : path_below c.loop-name.path.bytes.items (names_in (drop c.loop-name.name-index c.args.names.now))
     ≡ path_below c.args.self.now.path (names_in c.args.names.now) = c.loop-name.invariant in
-    let same = c.as_str-2.ensures.value ∙ (sym (path_end c.loop-name.path.bytes.items c.args.names.now c.loop-name.name-index c.loop-name-test.false) ∙ whole) in
-    rw same at c.of.ensures
+    c.from_string.ensures ∙ (sym (path_end c.loop-name.path.bytes.items c.args.names.now c.loop-name.name-index c.loop-name-test.false) ∙ whole)
