@@ -3,6 +3,7 @@
 #![tactic(auto)]
 
 mod app_creds;
+mod boxed;
 pub mod by_id;
 mod bytes;
 mod catalog;
@@ -35,6 +36,7 @@ mod trusts;
 mod users;
 
 pub use app_creds::AppCredRow;
+pub use boxed::Boxed;
 pub use bytes::Bytes;
 pub use catalog::{
     CatalogFault, CatalogIn, CatalogKind, CatalogRow, EndpointRow, Interface, RegionRow, ServiceRow,

@@ -8,14 +8,20 @@ use crate::checks::tree;
 use crate::{Halt, Plan};
 use ks_base::{DomainRow, ProjectRow, TreeFault};
 use ks_machine::{BodyOut, Change, Row};
+use std::alloc::Global;
 
 /// Puts the domain, unless the tree refuses, and tells it. The truth value says whether the command makes it.
-pub fn put_domain(checked: Result<(), TreeFault>, new: DomainRow, made: bool) -> Result<Plan, Halt>
+pub fn put_domain(
+    alloc: Global,
+    checked: Result<(), TreeFault>,
+    new: DomainRow,
+    made: bool,
+) -> Result<Plan, Halt>
     ensures { Plans result (after_tree (fault_in checked) (changes (Change.PutDomain new) (BodyOut.One (Row.Domain new) made))) }
 {
     match tree(checked) {
         Ok(()) => {
-            let told = BodyOut::One(Row::Domain(new.copy()?), made);
+            let told = BodyOut::one(alloc, Row::Domain(new.copy()?), made)?;
             Ok(Plan::changes(Change::PutDomain(new), told))
         }
         Err(halt) => Err(halt),
@@ -24,6 +30,7 @@ pub fn put_domain(checked: Result<(), TreeFault>, new: DomainRow, made: bool) ->
 
 /// Puts the project, unless the tree refuses, and tells it. The truth value says whether the command makes it.
 pub fn put_project(
+    alloc: Global,
     checked: Result<(), TreeFault>,
     new: ProjectRow,
     made: bool,
@@ -32,7 +39,7 @@ pub fn put_project(
 {
     match tree(checked) {
         Ok(()) => {
-            let told = BodyOut::One(Row::Project(new.copy()?), made);
+            let told = BodyOut::one(alloc, Row::Project(new.copy()?), made)?;
             Ok(Plan::changes(Change::PutProject(new), told))
         }
         Err(halt) => Err(halt),

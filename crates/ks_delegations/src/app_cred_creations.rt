@@ -12,7 +12,9 @@ ghost use Rattle.ks_checks.specs.Plans.{Gives, Passes, Plans, valid_of};
 
 use crate::trusts::{needs, roles_asked, unrestricted};
 use ks_auth::{Facts, Tables, is_expired, roles_at, secret_of_draw};
-use ks_base::{AppCredRow, Drawn, Id, IdList, Memory, PasswordRow, Target, Text, TrustFault};
+use ks_base::{
+    AppCredRow, Boxed, Drawn, Id, IdList, Memory, PasswordRow, Target, Text, TrustFault,
+};
 use ks_checks::checks::{row, standing_user};
 use ks_checks::draws::made_id;
 use ks_checks::in_order::in_order;
@@ -135,7 +137,7 @@ fn add_cred(alloc: Global, tables: &Tables, new: AppCredRow, secret: Text) -> Re
 {
     row(tables.app_creds.may_add(&new))?;
     let roles = titled_roles(alloc, tables, new.roles.as_slice())?;
-    let told = BodyOut::AppCredMade(new.copy()?, roles, secret);
+    let told = BodyOut::AppCredMade(Boxed::new(alloc, new.copy()?)?, roles, secret);
     Ok(Plan::changes(Change::PutAppCred(new), told))
 }
 

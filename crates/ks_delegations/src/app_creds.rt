@@ -69,7 +69,7 @@ pub fn get_app_cred(alloc: Global, tables: &Tables, user: &Id, id: &Id) -> Resul
     let _user = standing_user(tables, user)?;
     let cred = standing_cred(tables, user, id)?;
     let told = told_cred(alloc, tables, cred)?;
-    Ok(Plan::tells(BodyOut::One(told, false)))
+    Ok(Plan::tells(BodyOut::one(alloc, told, false)?))
 }
 
 #[tactic(auto, unfolding(ks_machine::specs::AppCredCommands::delete_app_cred))]

@@ -7,21 +7,27 @@ ghost use Rattle.ks_drill.specs.Scripts.{IsAskable};
 
 use crate::opening::home;
 use crate::words::numbered;
-use ks_base::{Actor, GrantRow, Id, Memory, Target, Text};
+use ks_base::{Actor, Boxed, GrantRow, Id, Memory, Target, Text};
 use ks_machine::{Command, LoginBody, Made, ProjectNamed, Proof, ScopeIn, UserNamed};
 use std::alloc::Global;
 
 /// The user logs in on the project.
 #[tactic(auto, unfolding(ks_machine::specs::Actions::requirements))]
-pub(crate) fn log_in(user: Id, password: Text, project: Id) -> Command
+pub(crate) fn log_in(
+    alloc: Global,
+    user: Id,
+    password: Text,
+    project: Id,
+) -> Result<Command, Memory>
     requires { IsPassword password }
-    ensures made { result ≡ log_in user password project }
-    ensures askable { IsAskable result }
+    ensures made { IfOk result (λ made. made ≡ log_in user password project) }
+    ensures askable { IfOk result IsAskable }
 {
-    Command::Login(LoginBody {
+    let body = LoginBody {
         proof: Proof::Password(UserNamed::Id(user), password),
         scope: ScopeIn::Project(ProjectNamed::Id(project)),
-    })
+    };
+    Ok(Command::Login(Boxed::new(alloc, body)?))
 }
 
 #[tactic(auto, unfolding(ks_machine::specs::Actions::requirements))]
@@ -30,14 +36,15 @@ pub(crate) fn new_project(alloc: Global, i: u32) -> Result<Command, Memory>
     ensures askable { IfOk result IsAskable }
 {
     let name = numbered(alloc, "p", u64::from(i))?;
-    Ok(Command::Create(Made::Project {
+    let made = Made::Project {
         id: None,
         name: Some(name),
         domain: Some(home()),
         parent: None,
         description: None,
         enabled: None,
-    }))
+    };
+    Ok(Command::Create(Boxed::new(alloc, made)?))
 }
 
 #[tactic(auto, unfolding(ks_machine::specs::Actions::requirements))]
@@ -47,14 +54,15 @@ pub(crate) fn new_user(alloc: Global, i: u32) -> Result<Command, Memory>
 {
     let name = numbered(alloc, "u", u64::from(i))?;
     let password = numbered(alloc, "w", u64::from(i))?;
-    Ok(Command::Create(Made::User {
+    let made = Made::User {
         id: None,
         name: Some(name),
         domain: Some(home()),
         password: Some(password),
         enabled: None,
         factors: None,
-    }))
+    };
+    Ok(Command::Create(Boxed::new(alloc, made)?))
 }
 
 /// The user is given the role on the project.

@@ -8,14 +8,24 @@ use ks_base::{Id, Memory, Text};
 use ks_machine::{BodyOut, Cause, Reply, Row, TokenOut};
 use std::alloc::Global;
 
+/// The id of the project or the user that the row is; else one that nothing has.
+fn id_of_row(row: &Row) -> Id
+    ensures { result ≡ id_of_row row.now }
+{
+    match row {
+        Row::Project(project) => project.id,
+        Row::User(user) => user.id,
+        _ => id_of(b"none"),
+    }
+}
+
 /// The id of the project or the user that a reply tells of; else one that nothing has.
 #[tactic(auto, unfolding(crate::specs::Drill::id_in))]
 pub(crate) fn id_in(reply: &Reply) -> Id
     ensures { result ≡ id_in reply.now }
 {
     match reply {
-        Reply::Ok(BodyOut::One(Row::Project(project), _)) => project.id,
-        Reply::Ok(BodyOut::One(Row::User(user), _)) => user.id,
+        Reply::Ok(BodyOut::One(row, _)) => id_of_row(row.get()),
         _ => id_of(b"none"),
     }
 }
@@ -25,7 +35,7 @@ fn token_in(reply: &Reply) -> Option<&TokenOut>
     ensures { option_copied result ≡ token_in reply.now }
 {
     match reply {
-        Reply::Ok(BodyOut::Token(token)) => Some(token),
+        Reply::Ok(BodyOut::Token(token)) => Some(token.get()),
         _ => None,
     }
 }

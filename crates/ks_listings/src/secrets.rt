@@ -45,10 +45,10 @@ pub fn list_secrets(alloc: Global, tables: &Tables) -> Result<Plan, Memory>
 }
 
 #[tactic(auto, unfolding(ks_machine::specs::FactorCommands::get_secret))]
-pub fn get_secret(tables: &Tables, id: &Id) -> Result<Plan, Halt>
+pub fn get_secret(alloc: Global, tables: &Tables, id: &Id) -> Result<Plan, Halt>
     ensures { Plans result (get_secret (rows_told tables.now) id.now) }
 {
     let secret = standing_secret(tables, id)?;
-    let told = BodyOut::One(Row::Secret(secret.copy()?), false);
+    let told = BodyOut::one(alloc, Row::Secret(secret.copy()?), false)?;
     Ok(Plan::tells(told))
 }

@@ -16,7 +16,7 @@ ghost use Rattle.ks_checks.specs.Plans.{Plans, outcome_of};
 use crate::bearers::{Bearer, shown};
 use crate::scopes::{Place, TokenScope, scoped_by};
 use ks_auth::{Facts, Tables};
-use ks_base::{Id, Memory, Text};
+use ks_base::{Boxed, Id, Memory, Text};
 use ks_checks::draws::{id_bytes, salt};
 use ks_checks::told::told_token;
 use ks_checks::{Halt, Plan};
@@ -164,7 +164,7 @@ fn token_given(
     let text = sealed(alloc, tables, moment, &salt(drawn), &payload)?;
     let told = told_token(alloc, tables, text, true, &payload, moment, &scope.roles)?;
     Ok(Plan {
-        told: BodyOut::Token(told),
+        told: BodyOut::Token(Boxed::new(alloc, told)?),
         change: use_of(&scope.place),
     })
 }

@@ -2,11 +2,12 @@
 ghost use Rattle.std.specs.Prelude.{◌≡◌, IfOk};
 
 use ks_base::{
-    AppCredRow, DomainRow, EndpointRow, EventList, GrantList, GroupRow, Id, IndexList, Kind,
+    AppCredRow, Boxed, DomainRow, EndpointRow, EventList, GrantList, GroupRow, Id, IndexList, Kind,
     ListOf, Memory, ProjectRow, RegionRow, RoleList, RoleRow, SecretRow, ServiceRow, Text,
     TrustRow, TryCopy, UserRow,
 };
 use ks_catalog::ServiceOutList;
+use std::alloc::Global;
 
 /// An id and the name that goes with it.
 #[derive(Drop)]
@@ -129,17 +130,18 @@ impl Drop for Row {
 pub type RowList = ListOf<Row>;
 
 /// What an answer that grants a command tells. A truth value says whether the command made what is told;
-/// the text at the end is the path of the listing.
+/// the text at the end is the path of the listing. Rows and tokens stand behind pointers, so that an answer is
+/// small to hand on.
 pub enum BodyOut {
     /// Nothing.
     Nothing,
     /// The version document of the Identity API.
     Version,
-    Token(TokenOut),
-    One(Row, bool),
+    Token(Boxed<TokenOut>),
+    One(Boxed<Row>, bool),
     Many(Kind, RowList, Text),
     /// One implication: the prior role, and the one that it implies.
-    Inference(Titled, Titled, bool),
+    Inference(Boxed<Titled>, Boxed<Titled>, bool),
     /// The prior role, and all that it implies directly.
     Inferences(Titled, TitledList),
     /// The roles of a grant.
@@ -153,7 +155,7 @@ pub enum BodyOut {
     /// The services of the caller's scope.
     Catalog(ServiceOutList, Text),
     /// A new application credential, its roles with their names, and its secret, which is told this once.
-    AppCredMade(AppCredRow, TitledList, Text),
+    AppCredMade(Boxed<AppCredRow>, TitledList, Text),
     AppCreds(RowList, Text),
     Secrets(RowList, Text),
 }
@@ -179,6 +181,15 @@ impl Drop for BodyOut {
             | BodyOut::AppCreds(_, _)
             | BodyOut::Secrets(_, _) => {}
         }
+    }
+}
+
+impl BodyOut {
+    /// One row; the truth value as above.
+    pub fn one(alloc: Global, row: Row, made: bool) -> Result<BodyOut, Memory>
+        ensures { IfOk result (λ told. told ≡ BodyOut.One row made) }
+    {
+        Ok(BodyOut::One(Boxed::new(alloc, row)?, made))
     }
 }
 

@@ -4,14 +4,15 @@ ghost use Rattle.ks_machine.specs.Room.{event_limit};
 use crate::{AppCredBody, LoginBody, Made, SecretBody, TrustBody};
 use ks_base::limits::{EVENTS, SELF_REVOCATIONS};
 use ks_base::{
-    Actor, CatalogIn, CatalogKind, Filter, GrantRow, Id, ImplyRow, Kind, MemberRow, Target, Text,
+    Actor, Boxed, CatalogIn, CatalogKind, Filter, GrantRow, Id, ImplyRow, Kind, MemberRow, Target,
+    Text,
 };
 
-/// What a request asks for, by the route that it came on.
+/// What a request asks for, by the route that it came on. Bodies stand behind pointers, so that a command is small to hand on.
 pub enum Command {
     /// The version document.
     Version,
-    Login(LoginBody),
+    Login(Boxed<LoginBody>),
     /// The subject token with all that is told of it. The truth value says whether the request allows one that
     /// has expired.
     Validate(bool),
@@ -19,10 +20,10 @@ pub enum Command {
     Check(bool),
     /// The end of the subject token.
     RevokeToken,
-    Create(Made),
+    Create(Boxed<Made>),
     List(Kind, Filter),
     Get(Kind, Id),
-    Update(Id, Made),
+    Update(Id, Boxed<Made>),
     Delete(Kind, Id),
     /// The user, the original password and the new one.
     ChangePassword(Id, Text, Text),
@@ -46,7 +47,7 @@ pub enum Command {
     IsGranted(GrantRow),
     Ungrant(GrantRow),
     Assignments(Filter),
-    CreateTrust(TrustBody),
+    CreateTrust(Boxed<TrustBody>),
     Trusts(Filter),
     Trust(Id),
     DeleteTrust(Id),
@@ -57,15 +58,15 @@ pub enum Command {
     /// The keys of the folder are to be held.
     LoadKeys,
     /// A new region, service or endpoint.
-    CreateCatalog(CatalogIn),
+    CreateCatalog(Boxed<CatalogIn>),
     ListCatalog(CatalogKind, Filter),
     GetCatalog(CatalogKind, Id),
-    UpdateCatalog(Id, CatalogIn),
+    UpdateCatalog(Id, Boxed<CatalogIn>),
     DeleteCatalog(CatalogKind, Id),
     /// The catalog that goes with the caller's token.
     ShowCatalog,
     /// A new application credential of this user.
-    CreateAppCred(Id, AppCredBody),
+    CreateAppCred(Id, Boxed<AppCredBody>),
     /// Those of this user.
     ListAppCreds(Id),
     /// The user, and one of its application credentials.

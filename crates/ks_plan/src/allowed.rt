@@ -11,7 +11,7 @@ ghost use Rattle.ks_targets.specs.Views.{requirements_of};
 ghost use Rattle.ks_checks.specs.Tokens.{IsUsable};
 
 use ks_auth::{Facts, Tables};
-use ks_base::Text;
+use ks_base::{Boxed, Text};
 use ks_checks::tokens::{caller_of, subject_of};
 use ks_checks::{Caller, Halt};
 use ks_machine::{Call, Cause, Command};
@@ -21,10 +21,11 @@ use ks_targets::credentials::credentials;
 use ks_targets::targets::target_of;
 use std::alloc::Global;
 
-/// The caller and the token that a call is about, each where the command asks for one.
+/// The caller and the token that a call is about, each where the command asks for one. They stand behind pointers, since most
+/// calls are about no token, and some have no caller.
 pub struct Parties {
-    pub caller: Option<Caller>,
-    pub subject: Option<Caller>,
+    pub caller: Option<Boxed<Caller>>,
+    pub subject: Option<Boxed<Caller>>,
 }
 
 impl Drop for Parties {
@@ -146,7 +147,10 @@ pub fn admitted(
         action,
     )?;
     Ok(Parties {
-        caller: Some(caller),
-        subject,
+        caller: Some(Boxed::new(alloc, caller)?),
+        subject: match subject {
+            Some(subject) => Some(Boxed::new(alloc, subject)?),
+            None => None,
+        },
     })
 }

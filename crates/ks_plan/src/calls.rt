@@ -22,7 +22,7 @@ use crate::allowed::{Parties, admitted};
 use crate::events::events;
 use crate::keys::{is_failed, load_keys, rotate_keys};
 use ks_auth::{Facts, Tables};
-use ks_base::{Drawn, Text};
+use ks_base::{Boxed, Drawn, Text};
 use ks_checks::checks::need;
 use ks_checks::draws::made_id;
 use ks_checks::passwords::change_password;
@@ -147,7 +147,7 @@ fn caller_in<'a>(tables: &Tables, who: &'a Parties) -> Result<&'a Caller, Halt>
     ensures stands { IfOk result (λ caller. IsSome (user_of caller.now.payload.user tables.now.people.now.users)) }
 {
     match &who.caller {
-        Some(caller) => Ok(caller),
+        Some(caller) => Ok(caller.get()),
         None => Err(Halt::Refused(Cause::NoToken)),
     }
 }
@@ -167,7 +167,7 @@ fn subject_in<'a>(
         return Err(Halt::Refused(missing(alloc, "X-Subject-Token")?));
     };
     match given {
-        Some(text) => Ok((text, token)),
+        Some(text) => Ok((text, token.get())),
         None => Err(Halt::Refused(missing(alloc, "X-Subject-Token")?)),
     }
 }
@@ -189,7 +189,7 @@ fn told_subject(
         roles,
     } = token;
     let told = told_token(alloc, tables, text.copy()?, false, payload, *issued, roles)?;
-    Ok(Plan::tells(BodyOut::Token(told)))
+    Ok(Plan::tells(BodyOut::Token(Boxed::new(alloc, told)?)))
 }
 
 /// Ends the token that the call is about.
@@ -230,7 +230,7 @@ fn own_checks(
         Command::Version => Ok(Plan::tells(BodyOut::Version)),
         Command::Login(asked) => {
             let drawn = bytes_drawn(&call.draw)?;
-            login(alloc, tables, moment, drawn, asked, facts)
+            login(alloc, tables, moment, drawn, asked.get(), facts)
         }
         Command::ChangePassword(id, original, password) => {
             let drawn = bytes_drawn(&call.draw)?;
@@ -241,11 +241,11 @@ fn own_checks(
         Command::Create(made) => {
             let caller = caller_in(tables, who)?;
             let drawn = bytes_drawn(&call.draw)?;
-            create(alloc, tables, drawn, facts, caller, made)
+            create(alloc, tables, drawn, facts, caller, made.get())
         }
         Command::List(kind, filters) => Ok(list(alloc, tables, *kind, filters)?),
-        Command::Get(kind, id) => get(tables, *kind, id),
-        Command::Update(id, made) => update(alloc, tables, &call.draw, facts, id, made),
+        Command::Get(kind, id) => get(alloc, tables, *kind, id),
+        Command::Update(id, made) => update(alloc, tables, &call.draw, facts, id, made.get()),
         Command::Delete(kind, id) => delete(tables, *kind, id),
         Command::GroupsOf(id) => groups_of(alloc, tables, id),
         Command::MembersOf(id) => members_of(alloc, tables, id),
@@ -265,7 +265,7 @@ fn own_checks(
         Command::CreateTrust(asked) => {
             let caller = caller_in(tables, who)?;
             let drawn = bytes_drawn(&call.draw)?;
-            create_trust(alloc, tables, moment, drawn, caller, asked)
+            create_trust(alloc, tables, moment, drawn, caller, asked.get())
         }
         Command::Trusts(filters) => Ok(list_trusts(alloc, tables, filters)?),
         Command::Trust(id) => get_trust(alloc, tables, id),
@@ -279,11 +279,11 @@ fn own_checks(
         Command::LoadKeys => load_keys(alloc, tables, &call.folder),
         Command::CreateCatalog(asked) => {
             let drawn = bytes_drawn(&call.draw)?;
-            create_catalog(alloc, tables, made_id(drawn), asked)
+            create_catalog(alloc, tables, made_id(drawn), asked.get())
         }
         Command::ListCatalog(of, filters) => Ok(list(alloc, tables, catalog_kind(*of), filters)?),
-        Command::GetCatalog(of, id) => get(tables, catalog_kind(*of), id),
-        Command::UpdateCatalog(id, asked) => update_catalog(alloc, tables, id, asked),
+        Command::GetCatalog(of, id) => get(alloc, tables, catalog_kind(*of), id),
+        Command::UpdateCatalog(id, asked) => update_catalog(alloc, tables, id, asked.get()),
         Command::DeleteCatalog(of, id) => delete(tables, catalog_kind(*of), id),
         Command::ShowCatalog => {
             let caller = caller_of(alloc, tables, moment, &call.caller, facts)?;
@@ -292,7 +292,16 @@ fn own_checks(
         Command::CreateAppCred(user, asked) => {
             let caller = caller_in(tables, who)?;
             let drawn = bytes_drawn(&call.draw)?;
-            create_app_cred(alloc, tables, moment, drawn, facts, caller, user, asked)
+            create_app_cred(
+                alloc,
+                tables,
+                moment,
+                drawn,
+                facts,
+                caller,
+                user,
+                asked.get(),
+            )
         }
         Command::ListAppCreds(user) => list_app_creds(alloc, tables, user),
         Command::GetAppCred(user, id) => get_app_cred(alloc, tables, user, id),
@@ -302,10 +311,10 @@ fn own_checks(
         }
         Command::CreateSecret(asked) => {
             let drawn = bytes_drawn(&call.draw)?;
-            create_secret(tables, drawn, asked)
+            create_secret(alloc, tables, drawn, asked)
         }
         Command::ListSecrets => Ok(list_secrets(alloc, tables)?),
-        Command::GetSecret(id) => get_secret(tables, id),
+        Command::GetSecret(id) => get_secret(alloc, tables, id),
         Command::DeleteSecret(id) => delete_secret(tables, id),
     }
 }

@@ -59,7 +59,7 @@ fn granted_room(granted: &BodyOut) -> usize {
     match granted {
         BodyOut::Nothing => 0,
         BodyOut::Version => ROOM,
-        BodyOut::Token(told) => token_room(told),
+        BodyOut::Token(told) => token_room(told.get()),
         BodyOut::One(_, _) => ROOM,
         BodyOut::Many(_, rows, _) => room_for(rows.as_slice().len()),
         BodyOut::Inference(_, _, _) => ROOM,
@@ -97,10 +97,12 @@ fn write_granted(
     match granted {
         BodyOut::Nothing => Ok(()),
         BodyOut::Version => write_version(out, url, link),
-        BodyOut::Token(told) => write_token(out, told, url, link),
-        BodyOut::One(row, _) => write_one(out, row, url, link),
+        BodyOut::Token(told) => write_token(out, told.get(), url, link),
+        BodyOut::One(row, _) => write_one(out, row.get(), url, link),
         BodyOut::Many(kind, rows, path) => { write_many(out, *kind, rows, url, path, link) }
-        BodyOut::Inference(prior, implied, _) => write_inference(out, prior, implied),
+        BodyOut::Inference(prior, implied, _) => {
+            write_inference(out, prior.get(), implied.get())
+        }
         BodyOut::Inferences(prior, implied) => { write_inferences(out, prior, implied, url, link) }
         BodyOut::Grants(roles, path) => {
             write_links_then_rows(out, "roles", roles, url, path, link)
@@ -122,7 +124,7 @@ fn write_granted(
             write_rows_then_links(out, "catalog", services, url, path, link)
         }
         BodyOut::AppCredMade(cred, roles, secret) => {
-            write_app_cred_made(out, cred, roles, secret, url, link)
+            write_app_cred_made(out, cred.get(), roles, secret, url, link)
         }
         BodyOut::AppCreds(rows, path) => {
             write_rows_then_links(out, "application_credentials", rows, url, path, link)

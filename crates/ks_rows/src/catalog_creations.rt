@@ -90,7 +90,7 @@ fn create_region(alloc: Global, tables: &Tables, drawn: Id, asked: &CatalogIn) -
     let new = region_row(alloc, drawn, asked)?;
     given_id_free(tables, &new, &asked.id)?;
     catalog(tables.catalog.may_add_region(&new))?;
-    let told = BodyOut::One(Row::Region(new.copy()?), true);
+    let told = BodyOut::one(alloc, Row::Region(new.copy()?), true)?;
     Ok(Plan::changes(Change::PutRegion(new), told))
 }
 
@@ -108,7 +108,7 @@ fn create_service(
     };
     let new = service_row(alloc, drawn, kind, asked)?;
     catalog(tables.catalog.may_add_service(&new))?;
-    let told = BodyOut::One(Row::Service(new.copy()?), true);
+    let told = BodyOut::one(alloc, Row::Service(new.copy()?), true)?;
     Ok(Plan::changes(Change::PutService(new), told))
 }
 
@@ -132,7 +132,7 @@ fn create_endpoint(
     };
     let new = endpoint_row(drawn, service, interface, url, asked)?;
     catalog(tables.catalog.may_add_endpoint(&new))?;
-    let told = BodyOut::One(Row::Endpoint(new.copy()?), true);
+    let told = BodyOut::one(alloc, Row::Endpoint(new.copy()?), true)?;
     Ok(Plan::changes(Change::PutEndpoint(new), told))
 }
 

@@ -68,7 +68,7 @@ fn update_region(alloc: Global, tables: &Tables, id: &Id, asked: &CatalogIn) -> 
         description: text_or(&asked.description, &old.description)?,
     };
     catalog(tables.catalog.may_set_region(&new))?;
-    let told = BodyOut::One(Row::Region(new.copy()?), false);
+    let told = BodyOut::one(alloc, Row::Region(new.copy()?), false)?;
     Ok(Plan::changes(Change::PutRegion(new), told))
 }
 
@@ -79,7 +79,7 @@ fn update_service(alloc: Global, tables: &Tables, id: &Id, asked: &CatalogIn) ->
     let old = standing_service(tables, id)?;
     unchanged(alloc, "id", &asked.id, id)?;
     let new = service_with(old, asked)?;
-    let told = BodyOut::One(Row::Service(new.copy()?), false);
+    let told = BodyOut::one(alloc, Row::Service(new.copy()?), false)?;
     Ok(Plan::changes(Change::PutService(new), told))
 }
 
@@ -92,7 +92,7 @@ fn update_endpoint(alloc: Global, tables: &Tables, id: &Id, asked: &CatalogIn) -
     unchanged(alloc, "service_id", &asked.service, &old.service)?;
     let new = endpoint_with(old, asked)?;
     catalog(tables.catalog.may_set_endpoint(&new))?;
-    let told = BodyOut::One(Row::Endpoint(new.copy()?), false);
+    let told = BodyOut::one(alloc, Row::Endpoint(new.copy()?), false)?;
     Ok(Plan::changes(Change::PutEndpoint(new), told))
 }
 

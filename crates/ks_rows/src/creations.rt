@@ -93,15 +93,15 @@ pub fn create_domain(
 {
     let new = domain_row(alloc, id, name, description, enabled)?;
     let checked = tables.tree.may_add_domain(&new);
-    put_domain(checked, new, true)
+    put_domain(alloc, checked, new, true)
 }
 
 #[tactic(auto, unfolding(ks_machine::specs::Creations::create_project))]
-pub fn create_project(tables: &Tables, new: ProjectRow) -> Result<Plan, Halt>
+pub fn create_project(alloc: Global, tables: &Tables, new: ProjectRow) -> Result<Plan, Halt>
     ensures { Plans result (create_project (rows_told tables.now) new) }
 {
     let checked = tables.tree.may_add_project(&new);
-    put_project(checked, new, true)
+    put_project(alloc, checked, new, true)
 }
 
 /// A user, whose password is still to be derived: the fact of it is asked for before room is tested.
@@ -125,16 +125,16 @@ pub fn create_user(
         password: kept,
         ..new
     };
-    put_told(new, factors, true)
+    put_told(alloc, new, factors, true)
 }
 
 #[tactic(auto, unfolding(ks_machine::specs::Creations::create_group))]
-pub fn create_group(tables: &Tables, new: GroupRow) -> Result<Plan, Halt>
+pub fn create_group(alloc: Global, tables: &Tables, new: GroupRow) -> Result<Plan, Halt>
     ensures { Plans result (create_group (rows_told tables.now) new) }
 {
     let _domain = standing_domain(tables, &new.domain)?;
     row(tables.people.may_add_group(&new))?;
-    let told = BodyOut::One(Row::Group(new.copy()?), true);
+    let told = BodyOut::one(alloc, Row::Group(new.copy()?), true)?;
     Ok(Plan::changes(Change::PutGroup(new), told))
 }
 
@@ -154,7 +154,7 @@ pub fn create_role(
         description: text_or_empty(alloc, description)?,
     };
     row(tables.roles.may_add(&new))?;
-    let told = BodyOut::One(Row::Role(new.copy()?), true);
+    let told = BodyOut::one(alloc, Row::Role(new.copy()?), true)?;
     Ok(Plan::changes(Change::PutRole(new), told))
 }
 
@@ -265,7 +265,7 @@ pub fn create(
         } => {
             let home = domain_for(tables, caller, domain, parent);
             let new = project_row(alloc, id, home, parent, name, description, *enabled)?;
-            create_project(tables, new)
+            create_project(alloc, tables, new)
         }
         Made::User {
             name,
@@ -287,7 +287,7 @@ pub fn create(
         } => {
             let home = domain_for(tables, caller, domain, &None);
             let new = group_row(alloc, id, home, name, description)?;
-            create_group(tables, new)
+            create_group(alloc, tables, new)
         }
         Made::Role {
             name,

@@ -15,6 +15,7 @@ use ks_checks::checks::{row, standing_secret, standing_user};
 use ks_checks::draws::made_id;
 use ks_checks::{Halt, Plan};
 use ks_machine::{BodyOut, Change, MfaIn, Row, SecretBody};
+use std::alloc::Global;
 
 /// The change that puts a user. What a body says of the methods that the user has to log in by is the whole of it.
 fn put_user(row: UserRow, said: &Option<MfaIn>) -> Result<Change, Memory>
@@ -34,10 +35,15 @@ fn put_user(row: UserRow, said: &Option<MfaIn>) -> Result<Change, Memory>
 }
 
 /// Puts a user, and tells of it.
-pub fn put_told(row: UserRow, said: &Option<MfaIn>, is_new: bool) -> Result<Plan, Halt>
+pub fn put_told(
+    alloc: Global,
+    row: UserRow,
+    said: &Option<MfaIn>,
+    is_new: bool,
+) -> Result<Plan, Halt>
     ensures { Plans result (Go (changes (put_user row said.now) (BodyOut.One (Row.User row) is_new))) }
 {
-    let told = BodyOut::One(Row::User(row.copy()?), is_new);
+    let told = BodyOut::one(alloc, Row::User(row.copy()?), is_new)?;
     Ok(Plan::changes(put_user(row, said)?, told))
 }
 
@@ -53,13 +59,18 @@ fn secret_row(id: Id, asked: &SecretBody) -> Result<SecretRow, Memory>
 
 /// A new secret of a user that stands.
 #[tactic(auto, unfolding(ks_machine::specs::FactorCommands::create_secret))]
-pub fn create_secret(tables: &Tables, drawn: &[u8; 64], asked: &SecretBody) -> Result<Plan, Halt>
+pub fn create_secret(
+    alloc: Global,
+    tables: &Tables,
+    drawn: &[u8; 64],
+    asked: &SecretBody,
+) -> Result<Plan, Halt>
     ensures { Plans result (create_secret (rows_told tables.now) (drawns.Bytes drawn.now) asked.now) }
 {
     let _user = standing_user(tables, &asked.user)?;
     let new = secret_row(made_id(drawn), asked)?;
     row(tables.factors.may_add_secret(&new))?;
-    let told = BodyOut::One(Row::Secret(new.copy()?), true);
+    let told = BodyOut::one(alloc, Row::Secret(new.copy()?), true)?;
     Ok(Plan::changes(Change::PutSecret(new), told))
 }
 

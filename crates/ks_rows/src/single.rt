@@ -13,6 +13,7 @@ use ks_checks::checks::{
 use ks_checks::puts::dropped;
 use ks_checks::{Halt, Plan};
 use ks_machine::{BodyOut, Cause, Change, Row};
+use std::alloc::Global;
 
 /// The row of the kind with this id, which must stand; the other kinds have no rows that are told by themselves.
 #[tactic(auto, unfolding(ks_machine::specs::Listings::row_at))]
@@ -39,11 +40,11 @@ fn row_at(tables: &Tables, kind: Kind, id: &Id) -> Result<Row, Halt>
 }
 
 #[tactic(auto, unfolding(ks_machine::specs::Listings::get))]
-pub fn get(tables: &Tables, kind: Kind, id: &Id) -> Result<Plan, Halt>
+pub fn get(alloc: Global, tables: &Tables, kind: Kind, id: &Id) -> Result<Plan, Halt>
     ensures { Plans result (get (rows_told tables.now) kind id.now) }
 {
     let row = row_at(tables, kind, id)?;
-    Ok(Plan::tells(BodyOut::One(row, false)))
+    Ok(Plan::tells(BodyOut::one(alloc, row, false)?))
 }
 
 /// The row goes, with all that hangs on it.

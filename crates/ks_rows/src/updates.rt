@@ -66,7 +66,7 @@ pub fn update_domain(
         enabled: enabled.unwrap_or(old.enabled),
     };
     let checked = tables.tree.may_set_domain(&new);
-    put_domain(checked, new, false)
+    put_domain(alloc, checked, new, false)
 }
 
 #[tactic(auto, unfolding(ks_machine::specs::Updates::update_project))]
@@ -96,7 +96,7 @@ pub fn update_project(
         enabled: enabled.unwrap_or(old.enabled),
     };
     let checked = tables.tree.may_set_project(&new);
-    put_project(checked, new, false)
+    put_project(alloc, checked, new, false)
 }
 
 #[tactic(auto, unfolding(ks_machine::specs::Updates::update_user))]
@@ -131,7 +131,7 @@ pub fn update_user(
         password: kept,
         ..named
     };
-    put_told(new, factors, false)
+    put_told(alloc, new, factors, false)
 }
 
 #[tactic(auto, unfolding(ks_machine::specs::Updates::update_group))]
@@ -156,7 +156,7 @@ pub fn update_group(
         description: text_or(description, &old.description)?,
     };
     row(tables.people.may_set_group(&new))?;
-    let told = BodyOut::One(Row::Group(new.copy()?), false);
+    let told = BodyOut::one(alloc, Row::Group(new.copy()?), false)?;
     Ok(Plan::changes(Change::PutGroup(new), told))
 }
 
@@ -179,7 +179,7 @@ pub fn update_role(
         description: text_or(description, &old.description)?,
     };
     row(tables.roles.may_set(&new))?;
-    let told = BodyOut::One(Row::Role(new.copy()?), false);
+    let told = BodyOut::one(alloc, Row::Role(new.copy()?), false)?;
     Ok(Plan::changes(Change::PutRole(new), told))
 }
 

@@ -105,7 +105,7 @@ impl Account {
 /// Of whom a command speaks: the user that it names to log in, or the holder of the caller's token.
 fn who_of(alloc: Global, command: &Command, caller: Option<&Payload>) -> Who {
     if let Command::Login(body) = command {
-        if let Some(user) = user_named(&body.proof) {
+        if let Some(user) = user_named(&body.get().proof) {
             return who_logs_in(alloc, user).unwrap_or(Who::Nobody);
         }
     }

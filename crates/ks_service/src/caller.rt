@@ -2,6 +2,7 @@
 ghost use Rattle.std.specs.Prelude.{◌≡◌, IfSome, None, false};
 ghost use Rattle.ks_service.specs.Callers.{IsSaidBy, Says};
 
+use crate::opens::Opens;
 use ks_auth::Facts;
 use ks_base::Text;
 use ks_fernet::OpenAnswer;
@@ -23,11 +24,11 @@ fn said_with(facts: &Facts, held: &HeldKey, text: &Text) -> Option<Payload>
 }
 
 /// What the text says, where one of these keys is known to open it.
-fn said(facts: &Facts, keys: &[HeldKey], text: &Text) -> Option<Payload>
+fn said<K: Opens>(facts: &Facts, keys: &[K], text: &Text) -> Option<Payload>
     ensures { IfSome result (Says text.now) }
 {
-    for held in keys {
-        if let Some(payload) = said_with(facts, held, text) {
+    for key in keys {
+        if let Some(payload) = said_with(facts, &key.held(), text) {
             return Some(payload);
         }
     }
@@ -36,11 +37,11 @@ fn said(facts: &Facts, keys: &[HeldKey], text: &Text) -> Option<Payload>
 
 /// Takes down what the caller's token says, where that is asked for, is not known yet, and one of these keys is now known
 /// to open it.
-pub(crate) fn hear(
+pub(crate) fn hear<K: Opens>(
     caller: &mut Option<Payload>,
     hears: bool,
     facts: &Facts,
-    keys: &[HeldKey],
+    keys: &[K],
     call: &Call,
 )
     ensures said { IfSome caller.old (IsSaidBy call.now.caller) → IfSome caller.new (IsSaidBy call.now.caller) }
@@ -55,10 +56,10 @@ pub(crate) fn hear(
 }
 
 /// What the caller's token says, where that is asked for and one of these keys is known to open it before the call is decided.
-pub(crate) fn first_heard(
+pub(crate) fn first_heard<K: Opens>(
     hears: bool,
     facts: &Facts,
-    keys: &[HeldKey],
+    keys: &[K],
     call: &Call,
 ) -> Option<Payload>
     ensures said { IfSome result (IsSaidBy call.now.caller) }

@@ -8,11 +8,9 @@ use crate::caller::{first_heard, hear};
 use crate::recent::Recent;
 use crate::rounds::{ROUNDS, last_round, round, without_memory};
 use crate::work::work;
-use ks_base::ListOf;
 use ks_machine::Call;
 use ks_outside::{Gate, Place};
-use ks_ring::HeldKey;
-use ks_state::{Decides, Needs};
+use ks_state::Decides;
 use ks_turn::{First, Pass, Turn};
 use std::alloc::Global;
 use std::sync::Wait;
@@ -76,7 +74,7 @@ pub fn next_call<I: Decides, N: First, R: Wait, G: Gate>(
                     return without_memory(next);
                 }
                 hear(&mut caller, hears, &facts, needs.keys.as_slice(), call);
-                recent.learn(keys_of(needs));
+                recent.learn(needs.keys.as_slice());
             }
         }
         pass = next;
@@ -85,16 +83,4 @@ pub fn next_call<I: Decides, N: First, R: Wait, G: Gate>(
     let (next, mut answer) = last_round(alloc, turn, rt, pass, call, facts);
     answer.caller = caller;
     (next, answer)
-}
-
-/// The keys that are asked for.
-fn keys_of(needs: Needs) -> ListOf<HeldKey>
-    ensures { result ≡ needs.keys }
-{
-    let Needs {
-        keys,
-        stored: _,
-        fresh: _,
-    } = needs;
-    keys
 }

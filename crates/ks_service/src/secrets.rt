@@ -27,7 +27,7 @@ impl<'a> Secrets<'a> {
         ensures shown { option_copied result.shown ≡ (secrets_in call.now).shown }
     {
         match &call.command {
-            Command::Login(body) => Secrets::of_proof(&body.proof),
+            Command::Login(body) => Secrets::of_proof(&body.get().proof),
             Command::ChangePassword(_, original, _) => Secrets {
                 shown: Some(original),
                 ..NONE
@@ -62,10 +62,10 @@ pub(crate) fn new_secret(alloc: Global, call: &Call) -> Result<Option<Text>, Mem
 {
     match &call.command {
         Command::ChangePassword(_, _, password) => Ok(Some(password.copy()?)),
-        Command::Create(made) => password_of(made),
-        Command::Update(_, made) => password_of(made),
+        Command::Create(made) => password_of(made.get()),
+        Command::Update(_, made) => password_of(made.get()),
         Command::CreateAppCred(_, body) => {
-            Ok(Some(secret_of_draw(alloc, &call.draw, &body.secret)?))
+            Ok(Some(secret_of_draw(alloc, &call.draw, &body.get().secret)?))
         }
         _ => Ok(None),
     }

@@ -14,7 +14,7 @@ use crate::node::Node;
 use crate::rows::{PASSWORD, made};
 use crate::secret::secret;
 use crate::trust::trust;
-use ks_base::{CatalogIn, CatalogKind, ShapeFault, ShapeRefusal, Text};
+use ks_base::{Boxed, CatalogIn, CatalogKind, ShapeFault, ShapeRefusal, Text};
 use serde_json::Value;
 use std::alloc::Global;
 
@@ -34,11 +34,11 @@ fn read_form(form: Form, body: &Node) -> Result<BodyIn, ShapeRefusal>
     ensures { Reads result (form_of form (place_of body.now)) }
 {
     match form {
-        Form::Login => Ok(BodyIn::Login(login(body)?)),
-        Form::Made(kind, new) => Ok(BodyIn::Made(made(kind, new, body)?)),
+        Form::Login => Ok(BodyIn::Login(Boxed::new(body.alloc, login(body)?)?)),
+        Form::Made(kind, new) => Ok(BodyIn::Made(Boxed::new(body.alloc, made(kind, new, body)?)?)),
         Form::Password => password(body),
-        Form::Trust => Ok(BodyIn::Trust(trust(body)?)),
-        Form::AppCred => Ok(BodyIn::AppCred(app_cred(body)?)),
+        Form::Trust => Ok(BodyIn::Trust(Boxed::new(body.alloc, trust(body)?)?)),
+        Form::AppCred => Ok(BodyIn::AppCred(Boxed::new(body.alloc, app_cred(body)?)?)),
         Form::Secret => Ok(BodyIn::Secret(secret(body)?)),
     }
 }
@@ -75,11 +75,11 @@ pub fn read_catalog_body(
     kind: CatalogKind,
     new: bool,
     bytes: &[u8],
-) -> Result<CatalogIn, ShapeRefusal>
+) -> Result<Boxed<CatalogIn>, ShapeRefusal>
     ensures { Reads result (catalog_body_of kind new bytes.now) }
 {
     let value = read_document(alloc, bytes)?;
     let path = Text::of(alloc, "")?;
     let body = Node::known_as(alloc, path, &value);
-    catalog_row(kind, new, &body)
+    Ok(Boxed::new(alloc, catalog_row(kind, new, &body)?)?)
 }

@@ -1,4 +1,4 @@
-use ks_base::{Kind, Text};
+use ks_base::{Boxed, Kind, Text};
 use ks_machine::{AppCredBody, LoginBody, Made, SecretBody, TrustBody};
 
 /// What a body is to be.
@@ -18,11 +18,11 @@ pub enum Form {
 /// What a body asks for.
 #[derive(Drop)]
 pub enum BodyIn {
-    Login(LoginBody),
-    Made(Made),
+    Login(Boxed<LoginBody>),
+    Made(Boxed<Made>),
     /// The original password, and the new one.
     Password(Text, Text),
-    Trust(TrustBody),
-    AppCred(AppCredBody),
+    Trust(Boxed<TrustBody>),
+    AppCred(Boxed<AppCredBody>),
     Secret(SecretBody),
 }

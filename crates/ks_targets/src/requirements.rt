@@ -93,10 +93,13 @@ pub fn required(command: &Command) -> Requirements
         Command::Validate(_) => Requirements::about("identity:validate_token"),
         Command::Check(_) => Requirements::about("identity:check_token"),
         Command::RevokeToken => Requirements::about("identity:revoke_token"),
-        Command::Create(made) => Requirements::drawing(creation_action(made), true),
+        Command::Create(made) => Requirements::drawing(creation_action(made.get()), true),
         Command::List(kind, _) => Requirements::rule(listing_action(*kind)),
         Command::Get(kind, _) => Requirements::rule(get_action(*kind)),
-        Command::Update(_, made) => Requirements::drawing(update_action(made), draws_for(made)),
+        Command::Update(_, made) => {
+            let made = made.get();
+            Requirements::drawing(update_action(made), draws_for(made))
+        },
         Command::Delete(kind, _) => Requirements::rule(deletion_action(*kind)),
         Command::GroupsOf(_) => Requirements::rule("identity:list_groups_for_user"),
         Command::MembersOf(_) => Requirements::rule("identity:list_users_in_group"),
@@ -128,12 +131,14 @@ pub fn required(command: &Command) -> Requirements
             ..Requirements::rule("identity:load_keys")
         },
         Command::CreateCatalog(asked) => Requirements::drawing(
-            catalog_creation_action(asked.of),
+            catalog_creation_action(asked.get().of),
             true,
         ),
         Command::ListCatalog(of, _) => Requirements::rule(listing_action(catalog_kind(*of))),
         Command::GetCatalog(of, _) => Requirements::rule(get_action(catalog_kind(*of))),
-        Command::UpdateCatalog(_, asked) => Requirements::rule(catalog_update_action(asked.of)),
+        Command::UpdateCatalog(_, asked) => Requirements::rule(catalog_update_action(
+            asked.get().of,
+        )),
         Command::DeleteCatalog(of, _) => Requirements::rule(deletion_action(catalog_kind(*of))),
         Command::ShowCatalog => Requirements::open(false),
         Command::CreateAppCred(_, _) => {

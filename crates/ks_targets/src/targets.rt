@@ -46,10 +46,10 @@ fn put_target_of(
         Command::Validate(_) | Command::Check(_) | Command::RevokeToken => {
             put_subject(fields, subject)
         }
-        Command::Create(made) => put_body(fields, made),
+        Command::Create(made) => put_body(fields, made.get()),
         Command::List(kind, filter) => put_filter(fields, names_of(*kind), &filter.fields),
         Command::Get(kind, id) | Command::Delete(kind, id) => put_path(fields, tables, *kind, id),
-        Command::Update(id, made) => put_path(fields, tables, kind_of(made), id),
+        Command::Update(id, made) => put_path(fields, tables, kind_of(made.get()), id),
         Command::GroupsOf(id) => put_path(fields, tables, Kind::User, id),
         Command::CreateAppCred(user, _) | Command::ListAppCreds(user) => {
             put_path(fields, tables, Kind::User, user)
@@ -57,7 +57,7 @@ fn put_target_of(
         Command::GetAppCred(user, _) | Command::DeleteAppCred(user, _) => put_user_id(fields, user),
         Command::MembersOf(id) => put_object(fields, tables, Kind::Group, id),
         Command::Implied(id) => put_object(fields, tables, Kind::Role, id),
-        Command::CreateCatalog(asked) => put_catalog_body(fields, asked),
+        Command::CreateCatalog(asked) => put_catalog_body(fields, asked.get()),
         Command::ListCatalog(of, filter) => {
             put_filter(fields, names_of(catalog_kind(*of)), &filter.fields)
         }
@@ -65,7 +65,7 @@ fn put_target_of(
             put_object(fields, tables, catalog_kind(*of), id)
         }
         Command::UpdateCatalog(id, asked) => {
-            put_object(fields, tables, catalog_kind(asked.of), id)
+            put_object(fields, tables, catalog_kind(asked.get().of), id)
         }
         Command::Join(row) | Command::IsIn(row) | Command::Leave(row) => put_member(fields, row),
         Command::Imply(row)
@@ -76,7 +76,10 @@ fn put_target_of(
         Command::Grant(row) | Command::IsGranted(row) | Command::Ungrant(row) => {
             put_grant(fields, row)
         }
-        Command::CreateTrust(body) => put_parties(fields, &body.trustor, &body.trustee),
+        Command::CreateTrust(body) => {
+            let body = body.get();
+            put_parties(fields, &body.trustor, &body.trustee)
+        }
         Command::Trusts(filter) => put_parties_asked(fields, &filter.fields),
         Command::Trust(id) | Command::DeleteTrust(id) | Command::TrustRoles(id) => {
             put_trust(fields, tables, id)

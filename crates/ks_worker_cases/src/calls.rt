@@ -6,7 +6,7 @@ ghost use Rattle.ks_machine.specs.Actions.{requirements};
 
 use anyhow::{Result, bail, ensure};
 use ks_base::limits::PASSWORD_BYTES;
-use ks_base::{Bytes, Drawn, Id, Text};
+use ks_base::{Boxed, Bytes, Drawn, Id, Text};
 use ks_machine::{
     Call, Command, FolderRead, LoginBody, Made, MfaIn, ProjectNamed, Proof, ScopeIn, UserNamed,
 };
@@ -68,7 +68,7 @@ pub fn log_in(alloc: Global, user: &str, secret: &str, byte: u8) -> Result<Call>
         scope: ScopeIn::Project(ProjectNamed::Id(id(DEMO)?)),
     };
     let draw = Drawn::Bytes([byte; 64]);
-    Ok(asked(Command::Login(body), None, None, draw))
+    Ok(asked(Command::Login(Boxed::new(alloc, body)?), None, None, draw))
 }
 
 /// The owner of a token asks for all that is told of another one.
@@ -126,7 +126,12 @@ pub fn ask_for_code(alloc: Global, caller: &Text, user: &str, byte: u8) -> Resul
     let made = rule_of_methods(alloc, BOTH_METHODS)?;
     let caller = caller.copy()?;
     let draw = Drawn::Bytes([byte; 64]);
-    Ok(asked(Command::Update(user, made), Some(caller), None, draw))
+    Ok(asked(
+        Command::Update(user, Boxed::new(alloc, made)?),
+        Some(caller),
+        None,
+        draw,
+    ))
 }
 
 /// The user takes a new password. Each byte drawn is this one.

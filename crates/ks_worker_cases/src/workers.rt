@@ -37,7 +37,7 @@ pub fn make<I: Decides, N: First, R: Wait, G: Gate>(
 /// The token of a login.
 fn token_of(reply: &Reply) -> Result<Text> {
     match reply {
-        Reply::Ok(BodyOut::Token(token)) => Ok(token.text.copy()?),
+        Reply::Ok(BodyOut::Token(token)) => Ok(token.get().text.copy()?),
         _ => bail!("a login is refused"),
     }
 }
