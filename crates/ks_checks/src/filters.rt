@@ -1,6 +1,6 @@
 //! The filters of listings: the fields of a query, and what they ask of a row.
 ghost use Rattle.std.specs.Prelude.{◌≡◌, option_copied};
-ghost use Rattle.ks_machine.specs.Listings.{passes_domain, passes_enabled, passes_name, has_text, has_truth, says_no};
+ghost use Rattle.ks_machine.specs.Listings.{passes_domain, passes_enabled, has_text, has_truth, says_no};
 ghost use Rattle.ks_rule.specs.Kinds.{value_in};
 
 use ks_base::{FieldList, Id, Text};
@@ -48,12 +48,6 @@ fn has_truth(fields: &FieldList, name: &str, value: bool) -> bool
         }
         None => true,
     }
-}
-
-pub fn has_name(fields: &FieldList, name: &Text) -> bool
-    ensures { result ≡ passes_name fields.now name.now }
-{
-    has_text(fields, "name", name.as_slice())
 }
 
 pub fn has_domain(fields: &FieldList, domain: &Id) -> bool
