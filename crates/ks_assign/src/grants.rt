@@ -5,12 +5,12 @@ ghost use Rattle.ks_base.specs.Refusals.{Changes, Decides, fault_in};
 ghost use Rattle.ks_base.specs.Tables.{IsAscending, find_row};
 ghost use Rattle.ks_base.specs.Grants.{stands, with_grant, without_grant, grant_fault, ungrant_fault, is_of_actor, is_at_target, is_of_role};
 
-use crate::named::{Elsewhere, OfOtherRoles, OfOthers};
+use crate::named::{Elsewhere, OfOtherRoles};
 use ks_base::limits::GRANTS;
 use ks_base::{
-    Actor, GrantList, GrantRow, Id, Kind, Memory, RowFault, RowSet, Target, Test, refuse_if,
+    Actor, Boxed, GrantList, GrantRow, Id, Kind, Memory, RowFault, RowSet, Target, Test, refuse_if,
 };
-use std::alloc::Global;
+use std::alloc::{AllocError, Global};
 use std::marker::Model;
 
 /// Grants, each once: by actor (users first), target (the system first, then domains), whether they are inherited (those that
@@ -28,6 +28,13 @@ impl Model for Grants {
     ghost Value = { List GrantRow };
 
     ghost view = { λ grants. grants.rows };
+}
+
+/// Copies of these grants.
+fn copies(alloc: Global, rows: &[Boxed<GrantRow>]) -> Result<Vec<GrantRow>, AllocError>
+    ensures { IfOk result (λ copies. copies.items ≡ rows.now) }
+{
+    rows.iter().map(|row| *row.get()).collect(alloc)
 }
 
 impl Grants {
@@ -89,7 +96,7 @@ impl Grants {
 
     /// The grants of this user or group, by target, whether they are inherited, and role. It takes no memory, and
     /// looks at no other grants than a binary search for the first and one for the last of them.
-    pub fn of_actor(&self, actor: &Actor) -> Option<&[GrantRow]>
+    pub fn of_actor(&self, actor: &Actor) -> Option<&[Boxed<GrantRow>]>
         ensures rows { IfSome result (λ rows. rows.now ≡ filter (is_of_actor actor.now) self.now) }
         ensures none { IsNone result ↔ (filter (is_of_actor actor.now) self.now ≡ []) }
         ensures ascending { IfSome result (λ rows. IsAscending grant_cmp (λ row. row) rows.now) }
@@ -105,11 +112,11 @@ impl Grants {
         self.rows.has(row)
     }
 
-    /// Takes all grants to the user or group back.
+    /// Takes all grants to the user or group back. Others are not gone through, and it takes no memory.
     pub fn drop_actor(&mut self, actor: &Actor)
         ensures { self.new ≡ filter (λ row. not (is_of_actor actor.now row)) self.old }
     {
-        self.rows.keep(&OfOthers { actor });
+        self.rows.drop_of(actor);
     }
 
     /// Takes all grants at the target back.
@@ -137,12 +144,12 @@ impl Grants {
     pub fn rows(&self) -> Result<GrantList, Memory>
         ensures { IfOk result (λ rows. rows ≡ self.now) }
     {
-        let rows = Vec::from_slice(self.alloc, self.rows.rows())?;
+        let rows = copies(self.alloc, self.rows.rows())?;
         Ok(GrantList::from_vec(rows))
     }
 
     /// All grants, in their order.
-    pub fn as_slice(&self) -> &[GrantRow]
+    pub fn as_slice(&self) -> &[Boxed<GrantRow>]
         ensures rows { result.now ≡ self.now }
         ensures ascending { IsAscending grant_cmp (λ row. row) self.now }
     {

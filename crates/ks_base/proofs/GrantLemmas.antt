@@ -1,5 +1,5 @@
 -- The grants of an actor and at a target, by the order of grants.
-use Rattle.std.proofs.Common.{◌≡◌, List, refl, sym, ap, ◌∙◌}
+use Rattle.std.proofs.Common.{◌≡◌, not, List, refl, sym, ap, ◌∙◌}
 use Rattle.std.specs.Bool.{Decides}
 use Rattle.std.specs.List.{filter}
 use Rattle.std.specs.Ordering.{is_eq}
@@ -21,6 +21,9 @@ actor_same (actor.Group a) (actor.Group b) = id_same a b
 
 pub of_actor : (who : Actor) (rows : List GrantRow) → filter (λ row. is_eq (actor_cmp row.actor who)) rows ≡ filter (is_of_actor who) rows
 of_actor who rows = filter_alike (λ row. is_eq (actor_cmp row.actor who)) (is_of_actor who) rows (λ row among. actor_same row.actor who)
+
+pub not_of_actor : (who : Actor) (rows : List GrantRow) → filter (λ row. not (is_eq (actor_cmp row.actor who))) rows ≡ filter (λ row. not (is_of_actor who row)) rows
+not_of_actor who rows = filter_alike (λ row. not (is_eq (actor_cmp row.actor who))) (λ row. not (is_of_actor who row)) rows (λ row among. ap not (actor_same row.actor who))
 
 pub same_actor-Decides : (a b : Actor) → Decides (same_actor a b) (a ≡ b)
 same_actor-Decides a b = (

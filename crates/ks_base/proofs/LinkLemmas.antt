@@ -1,5 +1,5 @@
 -- Changes that keep rows and their sides the same.
-use Rattle.std.proofs.Common.{◌≡◌, ◌⊎◌, inl, inr, Bool, true, false, not, List, [], ◌∷◌, ◌++◌, map, is_some, length, refl, sym, ap, subst, ◌∙◌, arith}
+use Rattle.std.proofs.Common.{◌≡◌, ◌⊎◌, inl, inr, Bool, true, false, not, List, [], ◌∷◌, ◌++◌, fold, map, is_some, length, refl, sym, ap, subst, ◌∙◌, arith}
 use Rattle.std.specs.Prelude.{◌↔◌}
 use Rattle.std.specs.declared.cmp.Ordering.{Ordering}
 use Rattle.std.specs.declared.cmp.Ordering.TheVariants.{Less, Equal, Greater}
@@ -15,6 +15,7 @@ use Rattle.ks_base.specs.Tables.{Among, IsAscending, drop_row, find_row, has_key
 use Rattle.ks_base.proofs.AmongLemmas.{all_among, among_all, among_left, among_mapped, among_push, among_right, map_among}
 use Rattle.ks_base.proofs.RowLemmas.{above_among, among_drop, among_filter, among_found, among_put, among_put_other, eq_is, filter_among, put_among}
 use Rattle.ks_base.proofs.TableLemmas.{ascending_filter, ascending_part}
+use Rattle.ks_base.proofs.TruthLemmas.{not_both, not_if}
 
 -- what stood beside a row that is put stands on
 
@@ -112,6 +113,55 @@ linked_filter {A} {B} seen row_of returns test rows sides linked = record { fort
     back x among =
         let both = among_filter (λ side. test (row_of side)) sides (seen x) among in
         filter_among test rows x (linked.back x both.0) (sym (ap test (returns x)) ∙ both.1)
+
+-- the sides of rows that go, taken out one by one
+
+abbrev pub without_sides : {A B : Type 0} → (B → B → Ordering) → (A → B) → List B → List A → List B
+without_sides across seen sides gone = fold (λ left row. drop_row across (λ r. r) (seen row) left) sides gone
+
+stands_beside : {A B : Type 0} (across : B → B → Ordering) (seen : A → B) → IsTotalOrder across → (next : A) (gone : List A) (sides : List B) (x : B) →
+    Among (drop_row across (λ r. r) (seen next) sides) x → ((row : A) → Among gone row → seen row ≡ x → ⊥) → Among sides x × ((row : A) → Among (next ∷ gone) row → seen row ≡ x → ⊥)
+stands_beside {A} across seen p next gone sides x among none = ((among_drop across (λ r. r) (seen next) sides x among).0, other)
+  where
+    other : (row : A) → (next ≡ row) ⊎ Among gone row → seen row ≡ x → ⊥
+    other row (inl is) also = not_itself across p (seen next) x (among_drop across (λ r. r) (seen next) sides x among).1 (sym (ap seen is ∙ also))
+    other row (inr later) also = none row later also
+
+stands_without : {A B : Type 0} (across : B → B → Ordering) (seen : A → B) → IsTotalOrder across → (gone : List A) (sides : List B) (x : B) →
+    Among (without_sides across seen sides gone) x → Among sides x × ((row : A) → Among gone row → seen row ≡ x → ⊥)
+stands_without across seen p [] sides x among = (among, λ row none is. none)
+stands_without across seen p (next ∷ gone) sides x among =
+    let rest = stands_without across seen p gone (drop_row across (λ r. r) (seen next) sides) x among in
+    stands_beside across seen p next gone sides x rest.0 rest.1
+
+without_stands : {A B : Type 0} (across : B → B → Ordering) (seen : A → B) → IsExact across → (gone : List A) (sides : List B) (x : B) → Among sides x →
+    ((row : A) → Among gone row → seen row ≡ x → ⊥) → Among (without_sides across seen sides gone) x
+without_stands across seen exactly [] sides x among other = among
+without_stands across seen exactly (next ∷ gone) sides x among other =
+    without_stands across seen exactly gone (drop_row across (λ r. r) (seen next) sides) x
+    (drop_among across (seen next) sides x among (other_row across exactly (seen next) x (λ is. other next (inl refl) (sym is)))) (λ row later. other row (inr later))
+
+pub linked_without : {A B : Type 0} (across : B → B → Ordering) (seen : A → B) (row_of : B → A) → IsExact across → IsTotalOrder across → ((a : A) → row_of (seen a) ≡ a) →
+    (test : A → Bool) (rows : List A) (sides : List B) → AreLinked seen rows sides →
+    AreLinked seen (filter (λ row. not (test row)) rows) (without_sides across seen sides (filter test rows))
+linked_without {A} {B} across seen row_of exactly p returns test rows sides linked = record { forth = forth; back = back }
+  where
+    gone : (x row : A) → not (test x) ≡ true → Among (filter test rows) row → seen row ≡ seen x → ⊥
+    gone x row other among is =
+        let same : row ≡ x = sym (returns row) ∙ ap row_of is ∙ returns x in
+        let both = among_filter test rows row among in
+        not_both (test x) other (sym (ap test same) ∙ both.1)
+
+    forth : (x : A) → Among (filter (λ row. not (test row)) rows) x → Among (without_sides across seen sides (filter test rows)) (seen x)
+    forth x among =
+        let both = among_filter (λ row. not (test row)) rows x among in
+        without_stands across seen exactly (filter test rows) sides (seen x) (linked.forth x both.0) (λ row. gone x row both.1)
+
+    back : (x : A) → Among (without_sides across seen sides (filter test rows)) (seen x) → Among (filter (λ row. not (test row)) rows) x
+    back x among =
+        let both = stands_without across seen p (filter test rows) sides (seen x) among in
+        let stands = linked.back x both.0 in
+        filter_among (λ row. not (test row)) rows x stands (not_if (test x) (λ is. both.1 x (filter_among test rows x stands is) refl))
 
 -- the side of a new row that found no room comes out again
 pub linked_undone : {A B : Type 0} (less : A → A → Ordering) (across : B → B → Ordering) (seen : A → B) (row_of : B → A) → IsExact across →

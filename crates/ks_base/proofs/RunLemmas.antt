@@ -1,5 +1,5 @@
 -- Where the rows of a run begin and end.
-use Rattle.std.proofs.Common.{◌≡◌, ℕ, zero, suc, ◌+◌, ◌<◌, ◌≤◌, Bool, true, false, List, [], ◌∷◌, length, take, drop, get_or, refl, ap, arith}
+use Rattle.std.proofs.Common.{◌≡◌, ℕ, zero, suc, ◌+◌, ◌<◌, ◌≤◌, Bool, true, false, not, List, [], ◌∷◌, ◌++◌, length, take, drop, get_or, refl, ap, arith}
 use Rattle.std.specs.List.{filter}
 use Rattle.std.specs.declared.cmp.Ordering.{Ordering}
 use Rattle.std.specs.declared.cmp.Ordering.TheVariants.{Less, Equal, Greater}
@@ -89,3 +89,29 @@ run_is side (row ∷ rows) (suc low) n fits before from within behind =
     rw (lower_is_none (side row) (before zero row (omega arith)))
     (run_is side rows low n (omega arith) (λ k d lt. before (suc k) d (omega arith)) (λ k d le lt. from (suc k) d (omega arith) (omega arith)) (λ k d lt. within (suc k) d (omega arith))
     (λ k d le lt. behind (suc k) d (omega arith) (omega arith)))
+
+-- the rows before a run and behind it are the others
+pub others_are : {X : Type 0} (side : X → Ordering) (rows : List X) (low high : ℕ) → low ≤ high → high ≤ length rows →
+    ((k : ℕ) (d : X) → k < low → is_lt (side (get_or rows k d)) ≡ true) →
+    ((k : ℕ) (d : X) → low ≤ k → k < length rows → is_lt (side (get_or rows k d)) ≡ false) →
+    ((k : ℕ) (d : X) → k < high → is_le (side (get_or rows k d)) ≡ true) →
+    ((k : ℕ) (d : X) → high ≤ k → k < length rows → is_le (side (get_or rows k d)) ≡ false) →
+    take low rows ++ drop high rows ≡ filter (λ row. not (is_eq (side row))) rows
+others_are side [] zero zero le fits before from within behind = refl
+others_are side [] zero (suc high) le fits before from within behind = absurd (omega arith)
+others_are side [] (suc low) high le fits before from within behind = absurd (omega arith)
+others_are side (row ∷ rows) zero zero le fits before from within behind =
+    rw (higher_is_none (side row) (behind zero row (omega arith) (omega arith)))
+    (ap (λ (l : List _). row ∷ l)
+    (others_are side rows zero zero (omega arith) (omega arith) (λ k d lt. absurd (omega arith)) (λ k d le lt. from (suc k) d (omega arith) (omega arith)) (λ k d lt. absurd (omega arith))
+    (λ k d le lt. behind (suc k) d (omega arith) (omega arith))))
+others_are side (row ∷ rows) zero (suc high) le fits before from within behind =
+    rw (between_is_one (side row) (from zero row (omega arith) (omega arith)) (within zero row (omega arith)))
+    (others_are side rows zero high (omega arith) (omega arith) (λ k d lt. absurd (omega arith)) (λ k d le lt. from (suc k) d (omega arith) (omega arith)) (λ k d lt. within (suc k) d (omega arith))
+    (λ k d le lt. behind (suc k) d (omega arith) (omega arith)))
+others_are side (row ∷ rows) (suc low) zero le fits before from within behind = absurd (omega arith)
+others_are side (row ∷ rows) (suc low) (suc high) le fits before from within behind =
+    rw (lower_is_none (side row) (before zero row (omega arith)))
+    (ap (λ (l : List _). row ∷ l)
+    (others_are side rows low high (omega arith) (omega arith) (λ k d lt. before (suc k) d (omega arith)) (λ k d le lt. from (suc k) d (omega arith) (omega arith)) (λ k d lt. within (suc k) d (omega arith))
+    (λ k d le lt. behind (suc k) d (omega arith) (omega arith))))

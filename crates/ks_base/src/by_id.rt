@@ -4,7 +4,7 @@ ghost use Rattle.std.specs.List.Sorted.{IsSearchInRange};
 ghost use Rattle.ks_base.specs.Tables.{id_cmp, IsAscending};
 ghost use Rattle.ks_base.specs.Places.{IsPlace};
 
-use crate::{Id, Row, Test};
+use crate::{Boxed, Id, Row, Test};
 use std::alloc::{AllocError, Global};
 
 /// The place of the row with this id, or the one where it belongs.
@@ -26,13 +26,13 @@ pub fn ids_of<R: Row>(alloc: Global, rows: &[R]) -> Result<Vec<Id>, AllocError>
 /// The ids of the rows that pass the test.
 pub fn ids_passing<R: Row, T: Test<R>>(
     alloc: Global,
-    rows: &[R],
+    rows: &[Boxed<R>],
     test: &T,
 ) -> Result<Vec<Id>, AllocError>
     ensures { IfOk result (λ ids. ids.items ≡ map R.key (filter (T.test test.now) rows.now)) }
 {
     rows.iter()
-        .filter(|row| test.test(row))
+        .filter(|row| test.test(row.get()))
         .map(|row| *row.id())
         .collect(alloc)
 }

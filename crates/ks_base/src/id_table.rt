@@ -2,14 +2,15 @@ ghost use Rattle.std.specs.Prelude.{◌≡◌, [], find, filter, is_some, length
 ghost use Rattle.ks_base.specs.Tables.{id_cmp, IsAscending, find_row, put_row, drop_row};
 
 use crate::by_id::{ids_of, ids_passing, place};
-use crate::{Id, IdList, Memory, Row, Test};
+use crate::{Boxed, Id, IdList, Memory, Row, Test};
 use std::alloc::Global;
 use std::marker::Model;
 
-/// Rows in the order of their ids, one for each id, which are found by their ids alone.
+/// Rows in the order of their ids, one for each id, which are found by their ids alone. They stand behind pointers, so
+/// that making way for one among them moves little.
 #[derive(Drop)]
 pub struct IdTable<R: Row> {
-    rows: Vec<R>,
+    rows: Vec<Boxed<R>>,
 }
 
 impl<R: Row> Model for IdTable<R> {
@@ -39,7 +40,7 @@ impl<R: Row> IdTable<R> {
         ensures ascending { IsAscending id_cmp R.key self.now }
     {
         match place(self.rows.as_slice(), id) {
-            Ok(at) => Some(&self.rows[at]),
+            Ok(at) => Some(self.rows[at].get()),
             Err(_) => None,
         }
     }
@@ -60,11 +61,11 @@ impl<R: Row> IdTable<R> {
     {
         match place(self.rows.as_slice(), row.id()) {
             Ok(at) => {
-                self.rows[at] = row;
+                self.rows[at].set(row);
                 Ok(())
             }
             Err(at) => {
-                self.rows.insert(at, row)?;
+                Boxed::insert(&mut self.rows, at, row)?;
                 Ok(())
             }
         }
@@ -86,18 +87,19 @@ impl<R: Row> IdTable<R> {
     pub fn keep<T: Test<R>>(&mut self, test: &T)
         ensures { self.new ≡ filter (T.test test.now) self.old }
     {
-        self.rows.retain(|row| test.test(row));
+        self.rows.retain(|row| test.test(row.get()));
     }
 
     /// The first row that passes the test, in the order of ids.
     pub fn first<T: Test<R>>(&self, test: &T) -> Option<&R>
         ensures { option_copied result ≡ find (T.test test.now) self.now }
     {
-        self.rows.iter().find(|row| test.test(row))
+        let row = Boxed::first(self.rows.as_slice(), test)?;
+        Some(row.get())
     }
 
     /// The rows, in the order of their ids.
-    pub fn rows(&self) -> &[R]
+    pub fn rows(&self) -> &[Boxed<R>]
         ensures rows { result.now ≡ self.now }
         ensures ascending { IsAscending id_cmp R.key self.now }
     {

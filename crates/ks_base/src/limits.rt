@@ -102,6 +102,10 @@ pub const WORKERS: u32 = 32;
 pub const DEFAULT_WORKERS: u32 = 4;
 /// Connections after which a server may be told to stop.
 pub const CONNECTIONS: u32 = 1_000_000;
+/// The highest start of a drill, by which its members' roles are chosen.
+pub const DRILL_START: u32 = 1_000_000;
+/// Members that a drill makes.
+pub const DRILL_MEMBERS: u32 = 2_000;
 
 /// The shortest life of a token, in seconds.
 pub const SHORTEST_LIFE: u64 = 60;

@@ -1,10 +1,11 @@
-ghost use Rattle.std.specs.Prelude.{◌≡◌, filter};
+ghost use Rattle.std.specs.Prelude.{◌≡◌, ◌≤◌, filter, length, not, slice_range};
+ghost use Rattle.std.specs.List.{remove_range};
 ghost use Rattle.std.specs.declared.cmp.Ordering.{Ordering};
 ghost use Rattle.std.specs.Ordering.{is_eq};
 ghost use Rattle.ks_base.specs.Runs.{IsRun};
 ghost use Rattle.ks_base.specs.Tables.{IsAscending};
 
-use crate::Ordered;
+use crate::{Boxed, Ordered};
 use std::cmp::Ordering;
 
 /// What rows have in common that stand side by side in their order.
@@ -18,13 +19,26 @@ pub trait Near<R: Ordered> {
     ghost run: { (near : Self) → IsRun R.Ordered.cmp (side near) };
 }
 
-/// Those of the rows that have this in common. Some twice as many rows are looked at as a binary search looks at.
-pub fn run_of<'a, R: Ordered, W: Near<R>>(rows: &'a [R], near: &W) -> &'a [R]
+/// Where those of the rows that have this in common begin, and where they end. Some twice as many rows are looked at
+/// as a binary search looks at.
+pub(crate) fn bounds_of<R: Ordered, W: Near<R>>(rows: &[Boxed<R>], near: &W) -> (usize, usize)
+    requires { IsAscending R.cmp (λ row. row) rows.now }
+    ensures order { result.0 ≤ result.1 }
+    ensures within { result.1 ≤ length rows.now }
+    ensures run { slice_range rows.now result.0 result.1 ≡ filter (λ row. is_eq (W.side near.now row)) rows.now }
+    ensures others { remove_range rows.now result.0 result.1 ≡ filter (λ row. not (is_eq (W.side near.now row))) rows.now }
+{
+    let low = rows.partition_point(|row| near.side(row.get()).is_lt());
+    let high = rows.partition_point(|row| near.side(row.get()).is_le());
+    (low, high)
+}
+
+/// Those of the rows that have this in common, found by where they begin and end.
+pub fn run_of<'a, R: Ordered, W: Near<R>>(rows: &'a [Boxed<R>], near: &W) -> &'a [Boxed<R>]
     requires { IsAscending R.cmp (λ row. row) rows.now }
     ensures rows { result.now ≡ filter (λ row. is_eq (W.side near.now row)) rows.now }
     ensures ascending { IsAscending R.cmp (λ row. row) result.now }
 {
-    let low = rows.partition_point(|row| near.side(row).is_lt());
-    let high = rows.partition_point(|row| near.side(row).is_le());
+    let (low, high) = bounds_of(rows, near);
     &rows[low..high]
 }

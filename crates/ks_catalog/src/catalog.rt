@@ -2,7 +2,7 @@ ghost use Rattle.std.specs.Prelude.{◌≡◌, [], option_copied};
 ghost use Rattle.ks_base.specs.Catalog.{region_of, service_of, endpoint_of};
 ghost use Rattle.ks_base.specs.Tables.{id_cmp, IsAscending};
 
-use ks_base::{EndpointRow, Id, IdTable, RegionRow, ServiceRow};
+use ks_base::{Boxed, EndpointRow, Id, IdTable, RegionRow, ServiceRow};
 use std::alloc::Global;
 use std::marker::Model;
 
@@ -64,21 +64,21 @@ impl Catalog {
     }
 
     /// All regions, in the order of their ids.
-    pub fn regions(&self) -> &[RegionRow]
+    pub fn regions(&self) -> &[Boxed<RegionRow>]
         ensures { result.now ≡ self.now.regions }
     {
         self.regions.rows()
     }
 
     /// All services, in the order of their ids.
-    pub fn services(&self) -> &[ServiceRow]
+    pub fn services(&self) -> &[Boxed<ServiceRow>]
         ensures { result.now ≡ self.now.services }
     {
         self.services.rows()
     }
 
     /// All endpoints, in the order of their ids.
-    pub fn endpoints(&self) -> &[EndpointRow]
+    pub fn endpoints(&self) -> &[Boxed<EndpointRow>]
         ensures { result.now ≡ self.now.endpoints }
     {
         self.endpoints.rows()

@@ -7,7 +7,7 @@ ghost use Rattle.ks_catalog.specs.steps.Offers.{bare_services, with_endpoint};
 
 use crate::Catalog;
 use crate::urls::filled_url;
-use ks_base::{EndpointRow, Id, Interface, ListOf, Memory, ServiceRow, Text};
+use ks_base::{Boxed, EndpointRow, Id, Interface, ListOf, Memory, ServiceRow, Text};
 use std::alloc::Global;
 
 /// An endpoint as it is told with a token.
@@ -99,11 +99,12 @@ fn add_endpoint(
 }
 
 /// The enabled services, in the order of their ids, before any endpoint is told.
-fn bare_services(alloc: Global, rows: &[ServiceRow]) -> Result<Vec<ServiceOut>, Memory>
+fn bare_services(alloc: Global, rows: &[Boxed<ServiceRow>]) -> Result<Vec<ServiceOut>, Memory>
     ensures { IfOk result (λ made. made.items ≡ bare_services rows.now) }
 {
     let mut made = Vec::new(alloc);
     for row in rows {
+        let row = row.get();
         if row.enabled {
             made.push(ServiceOut {
                 id: row.id,
@@ -119,8 +120,8 @@ fn bare_services(alloc: Global, rows: &[ServiceRow]) -> Result<Vec<ServiceOut>, 
 /// The enabled services, in the order of their ids, each with its endpoints. Each endpoint is looked at once.
 fn services_out(
     alloc: Global,
-    rows: &[ServiceRow],
-    endpoints: &[EndpointRow],
+    rows: &[Boxed<ServiceRow>],
+    endpoints: &[Boxed<EndpointRow>],
     project: &Option<Id>,
 ) -> Result<ServiceOutList, Memory>
     requires { IsAscending id_cmp (λ row. row.id) rows.now }
@@ -128,7 +129,7 @@ fn services_out(
 {
     let mut made = bare_services(alloc, rows)?;
     for row in endpoints {
-        add_endpoint(made.as_mut_slice(), alloc, row, project)?;
+        add_endpoint(made.as_mut_slice(), alloc, row.get(), project)?;
     }
     Ok(ServiceOutList::from_vec(made))
 }

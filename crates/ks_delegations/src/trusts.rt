@@ -20,8 +20,8 @@ ghost use Rattle.ks_checks.specs.Plans.{Gives, Passes, Plans, outcome_of, valid_
 use ks_auth::{Tables, cred_in_payload, roles_to_give};
 use ks_base::limits::REDELEGATIONS;
 use ks_base::{
-    FieldList, Filter, Id, IdList, Kind, Memory, RoleList, RoleRow, ShapeFault, Text, TrustFault,
-    TrustRow,
+    Boxed, FieldList, Filter, Id, IdList, Kind, Memory, RoleList, RoleRow, ShapeFault, Text,
+    TrustFault, TrustRow,
 };
 use ks_checks::checks::{need, standing_project, standing_user};
 use ks_checks::draws::made_id;
@@ -250,8 +250,8 @@ fn put_trust(alloc: Global, tables: &Tables, moment: u64, new: TrustRow) -> Resu
 {
     let held = roles_to_give(alloc, tables, &new)?;
     unless_trust(tables.trusts.may_create(&new, &held, moment))?;
-    let told = told_trust(alloc, tables, &new)?;
-    Ok(Plan::changes(Change::PutTrust(new), BodyOut::One(told, true)))
+    let told = BodyOut::one(alloc, told_trust(alloc, tables, &new)?, true)?;
+    Ok(Plan::changes(Change::PutTrust(new), told))
 }
 
 /// A trust that the caller gives. Its roles are in the order of their ids, each once.
@@ -305,12 +305,13 @@ fn trusts_listed(
     alloc: Global,
     tables: &Tables,
     filters: &FieldList,
-    trusts: &[TrustRow],
+    trusts: &[Boxed<TrustRow>],
 ) -> Result<RowList, Memory>
     ensures { IfOk result (λ rows. rows ≡ map (told_trust (rows_told tables.now)) (filter (is_trust_listed filters.now) trusts.now)) }
 {
     let mut rows = RowList::new(alloc);
     for trust in trusts {
+        let trust = trust.get();
         if is_trust_listed(filters, trust) {
             rows.push(told_trust(alloc, tables, trust)?)?;
         }
@@ -335,7 +336,7 @@ pub fn get_trust(alloc: Global, tables: &Tables, id: &Id) -> Result<Plan, Halt>
 {
     let trust = standing_trust(tables, id)?;
     let told = told_trust(alloc, tables, trust)?;
-    Ok(Plan::tells(BodyOut::One(told, false)))
+    Ok(Plan::tells(BodyOut::one(alloc, told, false)?))
 }
 
 /// Ends a trust.
@@ -355,11 +356,12 @@ fn has_id(ids: &IdList, id: &Id) -> bool
 }
 
 /// The standing roles among these, in their order.
-fn roles_among(alloc: Global, rows: &[RoleRow], ids: &IdList) -> Result<RoleList, Memory>
+fn roles_among(alloc: Global, rows: &[Boxed<RoleRow>], ids: &IdList) -> Result<RoleList, Memory>
     ensures { IfOk result (λ roles. roles ≡ filter (λ role. has_id ids.now role.id) rows.now) }
 {
     let mut roles = RoleList::new(alloc);
     for role in rows {
+        let role = role.get();
         if has_id(ids, &role.id) {
             roles.push(role.copy()?)?;
         }

@@ -6,7 +6,7 @@ ghost use Rattle.ks_base.specs.Tables.{Among, IsAscending};
 ghost use Rattle.ks_effective.specs.Granted.{roles_at, roles_over};
 ghost use Rattle.ks_effective.specs.Reach.{on_domain, on_projects, sites};
 
-use ks_base::{Actor, GrantRow, GrantSite, Id, IdList, Memory, Target, run_of};
+use ks_base::{Actor, Boxed, GrantRow, GrantSite, Id, IdList, Memory, Target, run_of};
 use ks_tree::Tree;
 
 /// Where the grants stand that reach a target.
@@ -45,7 +45,7 @@ impl Reach {
 #[derive(Clone, Copy)]
 pub struct GrantsOf<'a> {
     pub actor: Actor,
-    pub rows: &'a [GrantRow],
+    pub rows: &'a [Boxed<GrantRow>],
 }
 
 impl GrantsOf<'_> {
@@ -103,7 +103,7 @@ impl GrantsOf<'_> {
         };
         let standing = run_of(self.rows, &site);
         for row in standing {
-            roles.push(row.role)?;
+            roles.push(row.get().role)?;
         }
         Ok(())
     }

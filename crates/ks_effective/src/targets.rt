@@ -7,7 +7,7 @@ ghost use Rattle.ks_effective.specs.Targets.{targets, AreReached, is_standing, h
 
 use crate::actors::Actors;
 use ks_assign::Grants;
-use ks_base::{Actor, GrantRow, Id, Memory, Ordered, RowSet, Target};
+use ks_base::{Actor, Boxed, GrantRow, Id, Memory, Ordered, RowSet, Target};
 use ks_people::People;
 use ks_tree::Tree;
 use std::alloc::Global;
@@ -71,10 +71,10 @@ fn all_targets(alloc: Global, tree: &Tree) -> Result<Vec<Target>, Memory>
     let mut all = Vec::new(alloc);
     all.push(Target::System)?;
     for domain in tree.domains() {
-        all.push(Target::Domain(domain.id))?;
+        all.push(Target::Domain(domain.get().id))?;
     }
     for project in tree.projects() {
-        all.push(Target::Project(project.id))?;
+        all.push(Target::Project(project.get().id))?;
     }
     Ok(all)
 }
@@ -84,7 +84,7 @@ fn has_inherited(grants: &Grants, actor: &Actor) -> bool
     ensures { result ≡ has_inherited grants.now actor.now }
 {
     match grants.of_actor(actor) {
-        Some(rows) => rows.iter().any(|row| row.inherited),
+        Some(rows) => rows.iter().any(|row| row.get().inherited),
         None => false,
     }
 }
@@ -140,23 +140,26 @@ fn add_places(grants: &Grants, actor: &Actor, places: &mut RowSet<Place>) -> Res
 
 /// Adds the targets of these grants.
 #[tactic(auto, unfolding(crate::specs::Targets::with_targets))]
-fn add_targets(rows: &[GrantRow], places: &mut RowSet<Place>) -> Result<(), Memory>
+fn add_targets(rows: &[Boxed<GrantRow>], places: &mut RowSet<Place>) -> Result<(), Memory>
     ensures { OnOk result (places.new ≡ with_targets rows.now places.old) }
 {
     for row in rows {
-        let _new = places.add(Place { target: row.target })?;
+        let _new = places.add(Place {
+            target: row.get().target,
+        })?;
     }
     Ok(())
 }
 
 /// Those of the places that stand.
-fn standing(alloc: Global, tree: &Tree, places: &[Place]) -> Result<Vec<Target>, Memory>
+fn standing(alloc: Global, tree: &Tree, places: &[Boxed<Place>]) -> Result<Vec<Target>, Memory>
     ensures { IfOk result (λ found. found.items ≡ filter (is_standing tree.now) places.now) }
 {
     let mut found = Vec::new(alloc);
     for place in places {
-        if is_standing(tree, &place.target) {
-            found.push(place.target)?;
+        let target = place.get().target;
+        if is_standing(tree, &target) {
+            found.push(target)?;
         }
     }
     Ok(found)

@@ -7,14 +7,17 @@ ghost use Rattle.ks_base.specs.Tables.{id_cmp, IsAscending};
 ghost use Rattle.ks_base.specs.Places.{IsFoundAt, IsGapAt, IsPlace};
 ghost use Rattle.ks_index.specs.Indexes.{AreNamesBut, AreNamesOf, full_cmp, full_name, is_named, is_other_named, lowered, raised, row_in};
 
-use ks_base::{Memory, Named, Test};
+use ks_base::{Boxed, Memory, Named, Test};
 use std::cmp::Ordering;
 
 /// The row at this place; the other, where there is none.
-pub(crate) fn row_at<'a, R>(rows: &'a [R], place: usize, other: &'a R) -> &'a R
+pub(crate) fn row_at<'a, R>(rows: &'a [Boxed<R>], place: usize, other: &'a R) -> &'a R
     ensures { result.now ≡ get_or rows.now place other.now }
 {
-    rows.get(place).unwrap_or(other)
+    match rows.get(place) {
+        Some(row) => row.get(),
+        None => other,
+    }
 }
 
 /// How the row compares with one of this home, name and id.
@@ -30,7 +33,7 @@ fn compare<R: Named>(row: &R, home: &[u8], name: &[u8], id: &[u8]) -> Ordering
 
 /// The slot of the row with this home, name and id, or the one where it belongs.
 fn slot<R: Named>(
-    rows: &[R],
+    rows: &[Boxed<R>],
     places: &[usize],
     other: &R,
     home: &[u8],
@@ -109,28 +112,28 @@ fn forget(places: &mut Vec<usize>, at: usize)
 
 /// Takes the rows that fail a test out of the index, while they still stand: a pass over the places for each, the last row first, so
 /// that the places before it stay as they are. It takes no memory.
-pub(crate) fn keep<R: Named, T: Test<R>>(rows: &[R], places: &mut Vec<usize>, test: &T)
+pub(crate) fn keep<R: Named, T: Test<R>>(rows: &[Boxed<R>], places: &mut Vec<usize>, test: &T)
     requires { AreNamesOf R.within R.naming R.key rows.now places.old.items }
     ensures { AreNamesOf R.within R.naming R.key (filter (T.test test.now) rows.now) places.new.items }
 {
     let mut at = rows.len();
     while at > 0 {
         at -= 1;
-        if !test.test(&rows[at]) {
+        if !test.test(rows[at].get()) {
             forget(places, at);
         }
     }
 }
 
 /// Puts a place into the index that lacks it.
-fn put_in<R: Named>(rows: &[R], places: &mut Vec<usize>, at: usize)
+fn put_in<R: Named>(rows: &[Boxed<R>], places: &mut Vec<usize>, at: usize)
     requires at { at < length rows.now }
     requires room { vec_len places.old < vec_capacity places.old }
     requires ascending { IsAscending id_cmp R.key rows.now }
     requires but { AreNamesBut R.within R.naming R.key rows.now places.old.items at }
     ensures { AreNamesOf R.within R.naming R.key rows.now places.new.items }
 {
-    let row = &rows[at];
+    let row = rows[at].get();
     match slot(
         rows,
         places.as_slice(),
@@ -148,13 +151,13 @@ fn put_in<R: Named>(rows: &[R], places: &mut Vec<usize>, at: usize)
 }
 
 /// Takes a place out of the index, which leaves room for one.
-fn take_out<R: Named>(rows: &[R], places: &mut Vec<usize>, at: usize)
+fn take_out<R: Named>(rows: &[Boxed<R>], places: &mut Vec<usize>, at: usize)
     requires at { at < length rows.now }
     requires names { AreNamesOf R.within R.naming R.key rows.now places.old.items }
     ensures but { AreNamesBut R.within R.naming R.key rows.now places.new.items at }
     ensures room { vec_len places.new < vec_capacity places.new }
 {
-    let row = &rows[at];
+    let row = rows[at].get();
     match slot(
         rows,
         places.as_slice(),
@@ -172,7 +175,7 @@ fn take_out<R: Named>(rows: &[R], places: &mut Vec<usize>, at: usize)
 
 /// Puts a new row into its place, and that into the index. A row that found no memory is dropped.
 pub(crate) fn insert<R: Named>(
-    rows: &mut Vec<R>,
+    rows: &mut Vec<Boxed<R>>,
     places: &mut Vec<usize>,
     at: usize,
     row: R,
@@ -187,14 +190,19 @@ pub(crate) fn insert<R: Named>(
 {
     let count = rows.len();
     places.reserve(1)?;
-    rows.insert(at, row)?;
+    Boxed::insert(rows, at, row)?;
     make_way(places.as_mut_slice(), at, count);
     put_in(rows.as_slice(), places, at);
     Ok(())
 }
 
 /// Puts a row over the one with its id. It takes no memory.
-pub(crate) fn replace<R: Named>(rows: &mut Vec<R>, places: &mut Vec<usize>, at: usize, row: R)
+pub(crate) fn replace<R: Named>(
+    rows: &mut Vec<Boxed<R>>,
+    places: &mut Vec<usize>,
+    at: usize,
+    row: R,
+)
     requires at { at < length rows.old.items }
     requires found { IsFoundAt id_cmp R.key (R.key row) rows.old.items at }
     requires ascending { IsAscending id_cmp R.key rows.old.items }
@@ -203,12 +211,12 @@ pub(crate) fn replace<R: Named>(rows: &mut Vec<R>, places: &mut Vec<usize>, at: 
     ensures names { AreNamesOf R.within R.naming R.key rows.new.items places.new.items }
 {
     take_out(rows.as_slice(), places, at);
-    rows[at] = row;
+    rows[at].set(row);
     put_in(rows.as_slice(), places, at);
 }
 
 /// Takes a row out. It takes no memory.
-pub(crate) fn remove<R: Named>(rows: &mut Vec<R>, places: &mut Vec<usize>, at: usize)
+pub(crate) fn remove<R: Named>(rows: &mut Vec<Boxed<R>>, places: &mut Vec<usize>, at: usize)
     requires at { at < length rows.old.items }
     requires names { AreNamesOf R.within R.naming R.key rows.old.items places.old.items }
     ensures rows { rows.new.items ≡ remove rows.old.items at }
@@ -220,7 +228,7 @@ pub(crate) fn remove<R: Named>(rows: &mut Vec<R>, places: &mut Vec<usize>, at: u
 }
 
 /// The first slot that may have a row of this home and name.
-fn first_slot<R: Named>(rows: &[R], places: &[usize], home: &[u8], name: &[u8]) -> usize
+fn first_slot<R: Named>(rows: &[Boxed<R>], places: &[usize], home: &[u8], name: &[u8]) -> usize
     requires { AreNamesOf R.within R.naming R.key rows.now places.now }
     ensures before { (slot : ℕ) (other : R) → slot < result → slot < length places.now → is_named R.within R.naming home.now name.now (row_in rows.now places.now slot other) ≡ false }
     ensures behind { (other : R) → result < length places.now → full_cmp (full_name R.within R.naming R.key (row_in rows.now places.now result other)) ((name.now, home.now), []) ≢ Less }
@@ -228,7 +236,7 @@ fn first_slot<R: Named>(rows: &[R], places: &[usize], home: &[u8], name: &[u8]) 
     let Some(other) = rows.first() else {
         return 0;
     };
-    match slot(rows, places, other, home, name, &[]) {
+    match slot(rows, places, other.get(), home, name, &[]) {
         Ok(slot) => slot,
         Err(slot) => slot,
     }
@@ -236,7 +244,7 @@ fn first_slot<R: Named>(rows: &[R], places: &[usize], home: &[u8], name: &[u8]) 
 
 /// The row at a slot, if it has this home and name.
 fn named_at<'a, R: Named>(
-    rows: &'a [R],
+    rows: &'a [Boxed<R>],
     places: &[usize],
     slot: usize,
     home: &[u8],
@@ -246,7 +254,7 @@ fn named_at<'a, R: Named>(
     ensures some { IfSome result (λ row. (slot < length places.now) × (row.now ≡ row_in rows.now places.now slot row.now) × IsTrue (is_named R.within R.naming home.now name.now row.now)) }
     ensures none { IfNone result ((other : R) → slot < length places.now → is_named R.within R.naming home.now name.now (row_in rows.now places.now slot other) ≡ false) }
 {
-    let row = &rows[*places.get(slot)?];
+    let row = rows[*places.get(slot)?].get();
     if row.home() == home && row.name().as_slice() == name {
         Some(row)
     } else {
@@ -256,7 +264,7 @@ fn named_at<'a, R: Named>(
 
 /// The first row of this home and name, in the order of ids.
 pub(crate) fn named<'a, R: Named>(
-    rows: &'a [R],
+    rows: &'a [Boxed<R>],
     places: &[usize],
     home: &[u8],
     name: &[u8],
@@ -270,7 +278,11 @@ pub(crate) fn named<'a, R: Named>(
 }
 
 /// The first other row with the home and name of this one, in the order of ids.
-pub(crate) fn other_named<'a, R: Named>(rows: &'a [R], places: &[usize], row: &R) -> Option<&'a R>
+pub(crate) fn other_named<'a, R: Named>(
+    rows: &'a [Boxed<R>],
+    places: &[usize],
+    row: &R,
+) -> Option<&'a R>
     requires ascending { IsAscending id_cmp R.key rows.now }
     requires names { AreNamesOf R.within R.naming R.key rows.now places.now }
     ensures { option_copied result ≡ find (is_other_named R.within R.naming R.key row.now) rows.now }

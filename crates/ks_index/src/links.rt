@@ -1,10 +1,10 @@
 //! Rows in two orders.
-ghost use Rattle.std.specs.Prelude.{◌≡◌, List, [], filter, map, is_none, is_some, length, IfOk, IsSome, OnErr, Ok, false};
+ghost use Rattle.std.specs.Prelude.{◌≡◌, List, [], filter, fold, map, is_none, is_some, length, not, IfOk, IsSome, OnErr, Ok, false};
 ghost use Rattle.std.specs.Ordering.{is_eq};
 ghost use Rattle.ks_base.specs.Links.{AreLinked};
 ghost use Rattle.ks_base.specs.Tables.{IsAscending, find_row, put_row, drop_row};
 
-use ks_base::{Far, Memory, Near, Ordered, RowSet, Side, Test};
+use ks_base::{Boxed, Far, Memory, Near, Ordered, RowSet, Side, Test};
 use std::alloc::{AllocError, Global};
 use std::marker::{Model, PhantomData};
 
@@ -42,14 +42,14 @@ impl<A: Ordered, B: Side<A>, T: Test<A>> Test<B> for RowTest<'_, A, T> {
 }
 
 /// The sides of the rows.
-fn seen<A: Ordered, B: Side<A>>(alloc: Global, rows: &[A]) -> Result<Vec<B>, AllocError>
+fn seen<A: Ordered, B: Side<A>>(alloc: Global, rows: &[Boxed<A>]) -> Result<Vec<B>, AllocError>
     ensures { IfOk result (λ sides. sides.items ≡ map B.seen rows.now) }
 {
-    rows.iter().map(|row| B::of(row)).collect(alloc)
+    rows.iter().map(|row| B::of(row.get())).collect(alloc)
 }
 
 /// The set of these sides. They go in by their order, so that each comes behind those that stand.
-fn sides_of<A: Ordered, B: Side<A>>(alloc: Global, rows: &[A]) -> Result<RowSet<B>, Memory>
+fn sides_of<A: Ordered, B: Side<A>>(alloc: Global, rows: &[Boxed<A>]) -> Result<RowSet<B>, Memory>
     ensures { IfOk result (λ sides. AreLinked B.seen rows.now sides) }
 {
     let mut left = seen::<A, B>(alloc, rows)?;
@@ -59,6 +59,15 @@ fn sides_of<A: Ordered, B: Side<A>>(alloc: Global, rows: &[A]) -> Result<RowSet<
         let _new = sides.add(side)?;
     }
     Ok(sides)
+}
+
+/// Takes the sides of these rows out.
+fn drop_sides<A: Ordered, B: Side<A>>(sides: &mut RowSet<B>, rows: &[Boxed<A>])
+    ensures { sides.new ≡ fold (λ left row. drop_row B.cmp (λ next. next) (B.seen row) left) sides.old rows.now }
+{
+    for row in rows {
+        sides.remove(&B::of(row.get()));
+    }
 }
 
 impl<A: Ordered, B: Side<A>> Links<A, B> {
@@ -129,8 +138,17 @@ impl<A: Ordered, B: Side<A>> Links<A, B> {
         });
     }
 
+    /// Takes the rows of a run out, which are found by where it begins and ends, and their sides one by one. It takes no
+    /// memory.
+    pub fn drop_of<W: Near<A>>(&mut self, near: &W)
+        ensures { self.new ≡ filter (λ row. not (is_eq (W.side near.now row))) self.old }
+    {
+        drop_sides(&mut self.sides, self.rows.of(near));
+        self.rows.drop_of(near);
+    }
+
     /// The rows of a run, which are found by where it begins and ends.
-    pub fn of<W: Near<A>>(&self, near: &W) -> &[A]
+    pub fn of<W: Near<A>>(&self, near: &W) -> &[Boxed<A>]
         ensures rows { result.now ≡ filter (λ row. is_eq (W.side near.now row)) self.now }
         ensures ascending { IsAscending A.cmp (λ next. next) result.now }
     {
@@ -138,7 +156,7 @@ impl<A: Ordered, B: Side<A>> Links<A, B> {
     }
 
     /// The rows of a run of the second order, seen from that side and in the first order of the rows.
-    pub fn at<W: Far<A, B>>(&self, far: &W) -> &[B]
+    pub fn at<W: Far<A, B>>(&self, far: &W) -> &[Boxed<B>]
         ensures { map B.row_of result.now ≡ filter (λ row. is_eq (W.side far.now (B.seen row))) self.now }
     {
         let _ascending = self.rows.rows();
@@ -147,7 +165,7 @@ impl<A: Ordered, B: Side<A>> Links<A, B> {
     }
 
     /// The rows, in their order.
-    pub fn rows(&self) -> &[A]
+    pub fn rows(&self) -> &[Boxed<A>]
         ensures rows { result.now ≡ self.now }
         ensures ascending { IsAscending A.cmp (λ next. next) self.now }
     {

@@ -6,7 +6,7 @@ ghost use Rattle.ks_index.specs.Indexes.{AreNamesOf, full_cmp, full_name};
 
 use crate::index::row_at;
 use crate::ordered::in_order;
-use ks_base::{Id, IdList, Memory, Named};
+use ks_base::{Boxed, Id, IdList, Memory, Named};
 use std::alloc::{AllocError, Global};
 use std::cmp::Ordering;
 
@@ -18,7 +18,12 @@ fn compare_name<R: Named>(row: &R, name: &[u8]) -> Ordering
 }
 
 /// The places of the rows of this name.
-fn run_named<'a, R: Named>(rows: &[R], places: &'a [usize], other: &R, name: &[u8]) -> &'a [usize]
+fn run_named<'a, R: Named>(
+    rows: &[Boxed<R>],
+    places: &'a [usize],
+    other: &R,
+    name: &[u8],
+) -> &'a [usize]
     requires { IsAscending full_cmp (λ place. full_name R.within R.naming R.key (get_or rows.now place other.now)) places.now }
     ensures { result.now ≡ filter (λ place. same (R.naming (get_or rows.now place other.now)) name.now) places.now }
 {
@@ -36,7 +41,7 @@ fn run_named<'a, R: Named>(rows: &[R], places: &'a [usize], other: &R, name: &[u
 /// The ids of the rows at these places, as the places stand.
 fn ids_at<R: Named>(
     alloc: Global,
-    rows: &[R],
+    rows: &[Boxed<R>],
     places: &[usize],
     other: &R,
 ) -> Result<Vec<Id>, AllocError>
@@ -51,7 +56,7 @@ fn ids_at<R: Named>(
 /// The ids of the rows of this name, in their order. No other rows are gone through.
 pub(crate) fn ids_named<R: Named>(
     alloc: Global,
-    rows: &[R],
+    rows: &[Boxed<R>],
     places: &[usize],
     name: &[u8],
 ) -> Result<IdList, Memory>
@@ -59,9 +64,10 @@ pub(crate) fn ids_named<R: Named>(
     requires names { AreNamesOf R.within R.naming R.key rows.now places.now }
     ensures { IfOk result (λ ids. ids ≡ map R.key (filter (λ row. same (R.naming row) name.now) rows.now)) }
 {
-    let Some(other) = rows.first() else {
+    let Some(first) = rows.first() else {
         return Ok(IdList::new(alloc));
     };
+    let other = first.get();
     let run = run_named(rows, places, other, name);
     let left = ids_at(alloc, rows, run, other)?;
     let ids = in_order(left)?;

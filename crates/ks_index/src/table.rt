@@ -5,14 +5,15 @@ ghost use Rattle.ks_index.specs.Indexes.{is_named, is_other_named};
 
 use crate::{index, runs};
 use ks_base::by_id::{ids_of, ids_passing, place};
-use ks_base::{Id, IdList, Memory, Named, Test, Text};
+use ks_base::{Boxed, Id, IdList, Memory, Named, Test, Text};
 use std::alloc::Global;
 use std::marker::Model;
 
-/// Rows in the order of their ids, one for each id, which are found by their ids and by their names.
+/// Rows in the order of their ids, one for each id, which are found by their ids and by their names. They stand behind
+/// pointers, so that making way for one among them moves little.
 #[derive(Drop)]
 pub struct Table<R: Named> {
-    rows: Vec<R>,
+    rows: Vec<Boxed<R>>,
     /// The places of the rows, in the order of their names, homes and ids.
     names: Vec<usize>,
 }
@@ -46,7 +47,7 @@ impl<R: Named> Table<R> {
         ensures ascending { IsAscending id_cmp R.key self.now }
     {
         match place(self.rows.as_slice(), id) {
-            Ok(at) => Some(&self.rows[at]),
+            Ok(at) => Some(self.rows[at].get()),
             Err(_) => None,
         }
     }
@@ -92,7 +93,7 @@ impl<R: Named> Table<R> {
         ensures { self.new ≡ filter (T.test test.now) self.old }
     {
         index::keep(self.rows.as_slice(), &mut self.names, test);
-        self.rows.retain(|row| test.test(row));
+        self.rows.retain(|row| test.test(row.get()));
     }
 
     /// The first row of this home and name, in the order of ids. Names are compared by bytes.
@@ -118,11 +119,12 @@ impl<R: Named> Table<R> {
     pub fn first<T: Test<R>>(&self, test: &T) -> Option<&R>
         ensures { option_copied result ≡ find (T.test test.now) self.now }
     {
-        self.rows.iter().find(|row| test.test(row))
+        let row = Boxed::first(self.rows.as_slice(), test)?;
+        Some(row.get())
     }
 
     /// The rows, in the order of their ids.
-    pub fn rows(&self) -> &[R]
+    pub fn rows(&self) -> &[Boxed<R>]
         ensures rows { result.now ≡ self.now }
         ensures ascending { IsAscending id_cmp R.key self.now }
     {

@@ -2,7 +2,7 @@
 ghost use Rattle.std.specs.Prelude.{◌≡◌, filter, map, IfOk};
 ghost use Rattle.ks_base.specs.CatalogLists.{is_endpoint_listed, is_region_listed, is_service_listed};
 
-use ks_base::{EndpointRow, Filter, Memory, RegionRow, ServiceRow};
+use ks_base::{Boxed, EndpointRow, Filter, Memory, RegionRow, ServiceRow};
 use ks_machine::{Row, RowList};
 use std::alloc::Global;
 
@@ -15,13 +15,14 @@ fn is_region_listed(filters: &Filter, row: &RegionRow) -> bool
 /// The regions that the filters list.
 pub fn regions_listed(
     alloc: Global,
-    rows: &[RegionRow],
+    rows: &[Boxed<RegionRow>],
     filters: &Filter,
 ) -> Result<RowList, Memory>
     ensures { IfOk result (λ listed. listed ≡ map (λ found. Row.Region found) (filter (is_region_listed filters.now.fields) rows.now)) }
 {
     let mut listed = RowList::new(alloc);
     for row in rows {
+        let row = row.get();
         if is_region_listed(filters, row) {
             listed.push(Row::Region(row.copy()?))?;
         }
@@ -38,13 +39,14 @@ fn is_service_listed(filters: &Filter, row: &ServiceRow) -> bool
 /// The services that the filters list.
 pub fn services_listed(
     alloc: Global,
-    rows: &[ServiceRow],
+    rows: &[Boxed<ServiceRow>],
     filters: &Filter,
 ) -> Result<RowList, Memory>
     ensures { IfOk result (λ listed. listed ≡ map (λ found. Row.Service found) (filter (is_service_listed filters.now.fields) rows.now)) }
 {
     let mut listed = RowList::new(alloc);
     for row in rows {
+        let row = row.get();
         if is_service_listed(filters, row) {
             listed.push(Row::Service(row.copy()?))?;
         }
@@ -63,13 +65,14 @@ fn is_endpoint_listed(filters: &Filter, row: &EndpointRow) -> bool
 /// The endpoints that the filters list.
 pub fn endpoints_listed(
     alloc: Global,
-    rows: &[EndpointRow],
+    rows: &[Boxed<EndpointRow>],
     filters: &Filter,
 ) -> Result<RowList, Memory>
     ensures { IfOk result (λ listed. listed ≡ map (λ found. Row.Endpoint found) (filter (is_endpoint_listed filters.now.fields) rows.now)) }
 {
     let mut listed = RowList::new(alloc);
     for row in rows {
+        let row = row.get();
         if is_endpoint_listed(filters, row) {
             listed.push(Row::Endpoint(row.copy()?))?;
         }

@@ -3,7 +3,9 @@ ghost use Rattle.std.specs.Prelude.{◌≡◌, List, filter, map, option_copied,
 ghost use Rattle.ks_base.specs.Rows.{same};
 ghost use Rattle.ks_base.specs.Tables.{id_cmp, IsAscending, find_row};
 
-use ks_base::{DomainRow, GroupRow, Id, IdList, Memory, Named, ProjectRow, RoleRow, Text, UserRow};
+use ks_base::{
+    Boxed, DomainRow, GroupRow, Id, IdList, Memory, Named, ProjectRow, RoleRow, Text, UserRow,
+};
 use ks_people::People;
 use ks_roles::Roles;
 use ks_tree::Tree;
@@ -13,7 +15,7 @@ pub(crate) trait Shelf<R: Named> {
     ghost rows: { Self → List R };
 
     /// All rows, in their order.
-    fn all(&self) -> &[R]
+    fn all(&self) -> &[Boxed<R>]
         ensures { result.now ≡ rows self.now };
 
     /// The row with this id.
@@ -29,7 +31,7 @@ pub(crate) trait Shelf<R: Named> {
 impl Shelf<DomainRow> for Tree {
     ghost rows = { λ tree. tree.domains };
 
-    fn all(&self) -> &[DomainRow] {
+    fn all(&self) -> &[Boxed<DomainRow>] {
         self.domains()
     }
 
@@ -45,7 +47,7 @@ impl Shelf<DomainRow> for Tree {
 impl Shelf<ProjectRow> for Tree {
     ghost rows = { λ tree. tree.projects };
 
-    fn all(&self) -> &[ProjectRow] {
+    fn all(&self) -> &[Boxed<ProjectRow>] {
         self.projects()
     }
 
@@ -61,7 +63,7 @@ impl Shelf<ProjectRow> for Tree {
 impl Shelf<UserRow> for People {
     ghost rows = { λ people. people.users };
 
-    fn all(&self) -> &[UserRow] {
+    fn all(&self) -> &[Boxed<UserRow>] {
         self.users()
     }
 
@@ -77,7 +79,7 @@ impl Shelf<UserRow> for People {
 impl Shelf<GroupRow> for People {
     ghost rows = { λ people. people.groups };
 
-    fn all(&self) -> &[GroupRow] {
+    fn all(&self) -> &[Boxed<GroupRow>] {
         self.groups()
     }
 
@@ -93,7 +95,7 @@ impl Shelf<GroupRow> for People {
 impl Shelf<RoleRow> for Roles {
     ghost rows = { λ all. all.roles };
 
-    fn all(&self) -> &[RoleRow] {
+    fn all(&self) -> &[Boxed<RoleRow>] {
         self.roles()
     }
 

@@ -1,5 +1,5 @@
 -- The memberships of a user ascend by group, and those of a group by user.
-use Rattle.std.proofs.Common.{◌≡◌, ℕ, List, map, filter, sym, ap, ◌∙◌}
+use Rattle.std.proofs.Common.{◌≡◌, ℕ, List, map, filter, not, sym, ap, ◌∙◌}
 use Rattle.std.specs.Ordering.{is_eq}
 use Rattle.ks_base.specs.declared.users.ByUser.{ByUser}
 use Rattle.ks_base.specs.declared.users.MemberRow.{MemberRow}
@@ -29,3 +29,8 @@ pub users_found : (group : List ℕ) (members rows : List MemberRow) → rows �
     map (λ row. row.user) rows ≡ map (λ row. row.user) (filter (is_of_group group) members)
 users_found group members rows is =
     ap (map (λ (row : MemberRow). row.user)) (is ∙ filter_alike (λ row. is_eq (id_cmp row.group group)) (is_of_group group) members (λ row among. id_same row.group group))
+
+-- those of other groups stay
+pub not_in_group : (group : List ℕ) (members : List MemberRow) →
+    filter (λ row. not (is_eq (id_cmp row.group group))) members ≡ filter (λ row. not (is_of_group group row)) members
+not_in_group group members = filter_alike (λ row. not (is_eq (id_cmp row.group group))) (λ row. not (is_of_group group row)) members (λ row among. ap not (id_same row.group group))

@@ -8,9 +8,8 @@ ghost use Rattle.ks_base.specs.People.{is_group_named, with_group, without_group
 ghost use Rattle.ks_base.specs.PeopleFaults.{group_absent, group_name_taken, other_group_named, add_group_fault, set_group_fault, drop_group_fault};
 
 use crate::People;
-use crate::select::OfOtherGroups;
 use ks_base::limits::GROUPS;
-use ks_base::{GroupRow, Id, Kind, RowFault, Text, refuse_if};
+use ks_base::{GroupRow, Id, InGroup, Kind, RowFault, Text, refuse_if};
 
 impl People {
     /// The group with this id.
@@ -51,7 +50,8 @@ impl People {
         Ok(())
     }
 
-    /// Takes a group out, with all its memberships. Refused is an id that no group has (`Absent`).
+    /// Takes a group out, with all its memberships; others are not gone through. Refused is an id that no group has
+    /// (`Absent`).
     #[tactic(auto, unfolding(ks_base::specs::PeopleFaults::drop_group_fault))]
     pub fn drop_group(&mut self, id: &Id) -> Result<(), RowFault>
         ensures decides { Decides (drop_group_fault self.old id.now) self.old (without_group id.now self.old) result self.new }
@@ -59,7 +59,7 @@ impl People {
     {
         self.may_drop_group(id)?;
         self.groups.remove(id);
-        self.members.keep(&OfOtherGroups { group: id });
+        self.members.drop_of(&InGroup { group: *id });
         Ok(())
     }
 

@@ -5,21 +5,24 @@ ghost use Rattle.ks_base.specs.Tables.{id_cmp, IsAscending};
 ghost use Rattle.ks_base.specs.People.{users_of, group_ids, groups_of, members_of};
 
 use crate::People;
-use ks_base::{ByUser, Id, IdList, InDomain, InGroup, MemberRow, Memory, OfUser, Text};
+use ks_base::{Boxed, ByUser, Id, IdList, InDomain, InGroup, MemberRow, Memory, OfUser, Text};
 use std::alloc::{AllocError, Global};
 
 /// The groups of these memberships.
-fn groups_in(alloc: Global, memberships: &[ByUser]) -> Result<Vec<Id>, AllocError>
+fn groups_in(alloc: Global, memberships: &[Boxed<ByUser>]) -> Result<Vec<Id>, AllocError>
     ensures { IfOk result (λ groups. groups.items ≡ map (λ side. side.row.group) memberships.now) }
 {
-    memberships.iter().map(|side| side.row.group).collect(alloc)
+    memberships
+        .iter()
+        .map(|side| side.get().row.group)
+        .collect(alloc)
 }
 
 /// The users of these memberships.
-fn users_in(alloc: Global, memberships: &[MemberRow]) -> Result<Vec<Id>, AllocError>
+fn users_in(alloc: Global, memberships: &[Boxed<MemberRow>]) -> Result<Vec<Id>, AllocError>
     ensures { IfOk result (λ users. users.items ≡ map (λ row. row.user) memberships.now) }
 {
-    memberships.iter().map(|row| row.user).collect(alloc)
+    memberships.iter().map(|row| row.get().user).collect(alloc)
 }
 
 impl People {

@@ -1,6 +1,6 @@
 ghost use Rattle.std.specs.Prelude.{◌≡◌, [], filter, IfOk};
 
-use ks_base::{ByUser, GroupRow, MemberRow, Memory, RowSet, Test, UserRow};
+use ks_base::{Boxed, ByUser, GroupRow, MemberRow, Memory, RowSet, Test, UserRow};
 use ks_index::{Links, Table};
 use std::alloc::Global;
 use std::marker::Model;
@@ -63,21 +63,21 @@ impl People {
     }
 
     /// All users, in the order of their ids.
-    pub fn users(&self) -> &[UserRow]
+    pub fn users(&self) -> &[Boxed<UserRow>]
         ensures { result.now ≡ self.now.users }
     {
         self.users.rows()
     }
 
     /// All groups, in the order of their ids.
-    pub fn groups(&self) -> &[GroupRow]
+    pub fn groups(&self) -> &[Boxed<GroupRow>]
         ensures { result.now ≡ self.now.groups }
     {
         self.groups.rows()
     }
 
     /// All memberships, by group and then by user.
-    pub fn members(&self) -> &[MemberRow]
+    pub fn members(&self) -> &[Boxed<MemberRow>]
         ensures { result.now ≡ self.now.members }
     {
         self.members.rows()

@@ -1,6 +1,6 @@
 //! The tests by which memberships are kept.
 ghost use Rattle.std.specs.Prelude.{not};
-ghost use Rattle.ks_base.specs.People.{is_of_user, is_of_group};
+ghost use Rattle.ks_base.specs.People.{is_of_user};
 
 use ks_base::{Id, MemberRow, Test};
 
@@ -15,19 +15,5 @@ impl Test<MemberRow> for OfOtherUsers<'_> {
 
     fn test(&self, row: &MemberRow) -> bool {
         row.user != *self.user
-    }
-}
-
-/// Memberships in other groups than this one.
-#[derive(Drop)]
-pub struct OfOtherGroups<'a> {
-    pub group: &'a Id,
-}
-
-impl Test<MemberRow> for OfOtherGroups<'_> {
-    ghost test = { λ wanted row. not (is_of_group wanted.group.now row) };
-
-    fn test(&self, row: &MemberRow) -> bool {
-        row.group != *self.group
     }
 }

@@ -9,7 +9,7 @@ ghost use Rattle.ks_base.specs.Grants.{is_of_actor};
 ghost use Rattle.ks_base.specs.declared.grants.Actor.TheVariants as actors;
 
 use ks_auth::{Tables, roles_at};
-use ks_base::{Actor, GrantList, GrantRow, Id, IdList, MemberRow, Memory, Target, Text};
+use ks_base::{Actor, Boxed, GrantList, GrantRow, Id, IdList, MemberRow, Memory, Target, Text};
 use ks_effective::targets_of;
 use std::alloc::Global;
 
@@ -57,22 +57,22 @@ fn given_at_all(alloc: Global, tables: &Tables, user: &Id) -> Result<GrantList, 
 }
 
 /// No membership names what is no id.
-fn none_is_member(members: &[MemberRow], user: &[u8])
+fn none_is_member(members: &[Boxed<MemberRow>], user: &[u8])
     requires { ¬ IsId user.now }
     ensures { list_any (λ row. same row.user user.now) members.now ≡ false }
 {
     for row in members {
-        let _id = row.user.as_slice();
+        let _id = row.get().user.as_slice();
     }
 }
 
 /// No grant to a user names what is no id.
-fn none_is_granted(grants: &[GrantRow], user: &[u8])
+fn none_is_granted(grants: &[Boxed<GrantRow>], user: &[u8])
     requires { ¬ IsId user.now }
     ensures { list_any (is_of_actor (actors.User user.now)) grants.now ≡ false }
 {
     for row in grants {
-        let _id = row.actor.id().as_slice();
+        let _id = row.get().actor.id().as_slice();
     }
 }
 

@@ -8,7 +8,7 @@ ghost use Rattle.ks_machine.specs.Effective.{is_member};
 ghost use Rattle.ks_checks.specs.Plans.{Passes, Plans, outcome_of};
 
 use ks_auth::Tables;
-use ks_base::{GroupRow, Id, ImplyRow, Kind, MemberRow, Memory, UserRow, has_id};
+use ks_base::{Boxed, GroupRow, Id, ImplyRow, Kind, MemberRow, Memory, UserRow, has_id};
 use ks_checks::checks::{row, standing_group, standing_role, standing_user};
 use ks_checks::names::{titled_role, titled_roles};
 use ks_checks::paths::joined;
@@ -29,12 +29,13 @@ pub fn unless_standing(stands: bool, new: Change, told: BodyOut) -> Plan
 }
 
 /// The groups whose ids are among these.
-fn groups_among(alloc: Global, groups: &[GroupRow], ids: &[Id]) -> Result<RowList, Memory>
+fn groups_among(alloc: Global, groups: &[Boxed<GroupRow>], ids: &[Id]) -> Result<RowList, Memory>
     requires { IsAscending id_cmp (λ next. next) ids.now }
     ensures { IfOk result (λ rows. rows ≡ map (λ found. Row.Group found) (filter (λ group. has_id ids.now group.id) groups.now)) }
 {
     let mut rows = RowList::new(alloc);
     for group in groups {
+        let group = group.get();
         if has_id(ids, &group.id) {
             rows.push(Row::Group(group.copy()?))?;
         }
@@ -43,12 +44,13 @@ fn groups_among(alloc: Global, groups: &[GroupRow], ids: &[Id]) -> Result<RowLis
 }
 
 /// The users whose ids are among these.
-fn users_among(alloc: Global, users: &[UserRow], ids: &[Id]) -> Result<RowList, Memory>
+fn users_among(alloc: Global, users: &[Boxed<UserRow>], ids: &[Id]) -> Result<RowList, Memory>
     requires { IsAscending id_cmp (λ next. next) ids.now }
     ensures { IfOk result (λ rows. rows ≡ map (λ found. Row.User found) (filter (λ user. has_id ids.now user.id) users.now)) }
 {
     let mut rows = RowList::new(alloc);
     for user in users {
+        let user = user.get();
         if has_id(ids, &user.id) {
             rows.push(Row::User(user.copy()?))?;
         }
@@ -142,7 +144,7 @@ fn told_inference(
 {
     let prior = titled_role(alloc, tables, &inference.prior)?;
     let implied = titled_role(alloc, tables, &inference.implied)?;
-    Ok(BodyOut::Inference(prior, implied, made))
+    Ok(BodyOut::Inference(Boxed::new(alloc, prior)?, Boxed::new(alloc, implied)?, made))
 }
 
 #[tactic(auto, unfolding(ks_machine::specs::Members::imply))]

@@ -4,7 +4,7 @@ ghost use Rattle.ks_base.specs.Tables.{id_cmp, Among, IsAscending, find_row, put
 ghost use Rattle.ks_base.specs.RoleLists.{implied_ids};
 
 use crate::Roles;
-use ks_base::{Id, IdList, Memory, Ordered, RowSet};
+use ks_base::{Boxed, Id, IdList, Memory, Ordered, RowSet};
 use std::alloc::{AllocError, Global};
 use std::cmp::Ordering;
 use std::marker::Model;
@@ -40,10 +40,10 @@ impl Ordered for Reached {
 }
 
 /// The ids, in their order.
-fn ids_of(alloc: Global, reached: &[Reached]) -> Result<Vec<Id>, AllocError>
+fn ids_of(alloc: Global, reached: &[Boxed<Reached>]) -> Result<Vec<Id>, AllocError>
     ensures { IfOk result (λ ids. ids.items ≡ reached.now) }
 {
-    reached.iter().map(|role| role.id).collect(alloc)
+    reached.iter().map(|role| role.get().id).collect(alloc)
 }
 
 impl Roles {

@@ -3,17 +3,21 @@ ghost use Rattle.ks_base.specs.Tables.{id_cmp, IsAscending};
 ghost use Rattle.ks_base.specs.RoleLists.{implied_ids, is_named};
 
 use crate::Roles;
-use ks_base::{Id, IdList, ImplyRow, Memory, Text};
+use ks_base::{Boxed, Id, IdList, ImplyRow, Memory, Text};
 use std::alloc::{AllocError, Global};
 
 /// The roles that these implications let follow from this one.
-fn implied_of(alloc: Global, implications: &[ImplyRow], prior: &Id) -> Result<Vec<Id>, AllocError>
+fn implied_of(
+    alloc: Global,
+    implications: &[Boxed<ImplyRow>],
+    prior: &Id,
+) -> Result<Vec<Id>, AllocError>
     ensures { IfOk result (λ ids. ids.items ≡ implied_ids prior.now implications.now) }
 {
     implications
         .iter()
-        .filter(|row| row.prior == *prior)
-        .map(|row| row.implied)
+        .filter(|row| row.get().prior == *prior)
+        .map(|row| row.get().implied)
         .collect(alloc)
 }
 

@@ -3,7 +3,7 @@ ghost use Rattle.ks_base.specs.Rows.{role_of};
 ghost use Rattle.ks_base.specs.Tables.{id_cmp, IsAscending};
 ghost use Rattle.ks_base.specs.RoleLists.{is_named};
 
-use ks_base::{Id, ImplyRow, RoleRow, RowSet, Text};
+use ks_base::{Boxed, Id, ImplyRow, RoleRow, RowSet, Text};
 use ks_index::Table;
 use std::alloc::Global;
 use std::marker::Model;
@@ -61,14 +61,14 @@ impl Roles {
     }
 
     /// All roles, in the order of their ids.
-    pub fn roles(&self) -> &[RoleRow]
+    pub fn roles(&self) -> &[Boxed<RoleRow>]
         ensures { result.now ≡ self.now.roles }
     {
         self.roles.rows()
     }
 
     /// All implications, by prior role and then by implied role.
-    pub fn implications(&self) -> &[ImplyRow]
+    pub fn implications(&self) -> &[Boxed<ImplyRow>]
         ensures { result.now ≡ self.now.implications }
     {
         self.implications.rows()

@@ -87,7 +87,7 @@ pub(crate) fn any_fits(
     let _ascending = secrets.rows();
     let mut found = false;
     for owner in owners.of(&OfOwner { user }) {
-        found |= secret_fits(secrets, &owner.secret, code, moment);
+        found |= secret_fits(secrets, &owner.get().secret, code, moment);
     }
     found
 }

@@ -3,7 +3,7 @@ ghost use Rattle.ks_base.specs.Rows.{domain_of, project_of};
 ghost use Rattle.ks_base.specs.Tables.{id_cmp, IsAscending};
 ghost use Rattle.ks_base.specs.Trees.{is_domain_named, is_project_named};
 
-use ks_base::{DomainRow, Id, ProjectRow, Text};
+use ks_base::{Boxed, DomainRow, Id, ProjectRow, Text};
 use ks_index::Table;
 use std::alloc::Global;
 use std::marker::Model;
@@ -61,14 +61,14 @@ impl Tree {
     }
 
     /// All domains, in the order of their ids.
-    pub fn domains(&self) -> &[DomainRow]
+    pub fn domains(&self) -> &[Boxed<DomainRow>]
         ensures { result.now ≡ self.now.domains }
     {
         self.domains.rows()
     }
 
     /// All projects, in the order of their ids.
-    pub fn projects(&self) -> &[ProjectRow]
+    pub fn projects(&self) -> &[Boxed<ProjectRow>]
         ensures { result.now ≡ self.now.projects }
     {
         self.projects.rows()

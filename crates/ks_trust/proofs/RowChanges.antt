@@ -1,5 +1,5 @@
 -- Changes of trusts, by the places of their rows and by lists of their ids.
-use Rattle.std.proofs.Common.{◌≡◌, ℕ, zero, suc, ◌-◌, Bool, true, false, not, List, [], ◌∷◌, get_or, Option, Some, None, refl, sym, ap, subst, ◌∙◌}
+use Rattle.std.proofs.Common.{◌≡◌, ℕ, zero, suc, ◌-◌, Bool, true, false, not, List, [], ◌∷◌, get_or, Option, None, refl, sym, ap, subst, ◌∙◌}
 use Rattle.std.proofs.Math.ListN.{set}
 use Rattle.std.specs.List.{insert}
 use Rattle.std.specs.declared.cmp.Ordering.TheVariants.{Less, Equal}
@@ -14,7 +14,7 @@ use Rattle.ks_base.specs.Rows.{Id, same, trust_of}
 use Rattle.ks_base.specs.Tables.{id_cmp, AreAbove, IsAscending}
 use Rattle.ks_base.specs.OrderLaws.{id_exact}
 use Rattle.ks_base.specs.Trusts.{AreChained, IsChained, used, use_trust}
-use Rattle.ks_base.proofs.PlaceLemmas.{find_found, put_gap}
+use Rattle.ks_base.proofs.PlaceLemmas.{put_gap}
 use Rattle.ks_base.proofs.RowLemmas.{id_same}
 use Rattle.ks_base.proofs.TrustLemmas.{chained_left, chained_put}
 use Rattle.ks_trust.specs.State.{is_listed, without_trusts, IsClosed}
@@ -53,14 +53,10 @@ used_at id (trust ∷ trusts) (suc i) d up is =
     let other : same trust.id id ≡ false = sym (id_same trust.id id) ∙ ap is_eq is.0 in
     rw other (ap (λ (rows : List TrustRow). trust ∷ rows) (used_at id trusts i d up.1 is.1))
 
-pub set_used : (id : Id) (trusts : List TrustRow) (i : ℕ) (row old : TrustRow) (left : Option ℕ) → IsAscending id_cmp (λ r. r.id) trusts → IsFoundAt id_cmp (λ r. r.id) id trusts i →
-    row ≡ get_or trusts i row → old ≡ get_or trusts i old → left ≡ option_map (λ n. n - 1) old.remaining → set trusts i (record row { remaining = left }) ≡ use_trust id trusts
-set_used id trusts i row old left up there is was lower =
-    let first = find_found id_cmp (λ r. r.id) id trusts i row there ∙ ap Some (sym is) in
-    let second = find_found id_cmp (λ r. r.id) id trusts i old there ∙ ap Some (sym was) in
-    let alike : old ≡ row = cc in
-    let lowered : left ≡ option_map (λ n. n - 1) row.remaining = lower ∙ ap (λ (t : TrustRow). option_map (λ n. n - 1) t.remaining) alike in
-    ap (λ (l : Option ℕ). set trusts i (record row { remaining = l })) lowered ∙ ap (λ (t : TrustRow). set trusts i (used t)) is ∙ used_at id trusts i row up there
+pub set_used : (id : Id) (trusts : List TrustRow) (i : ℕ) (row : TrustRow) (left : Option ℕ) → IsAscending id_cmp (λ r. r.id) trusts → IsFoundAt id_cmp (λ r. r.id) id trusts i →
+    row ≡ get_or trusts i row → left ≡ option_map (λ n. n - 1) row.remaining → set trusts i (record row { remaining = left }) ≡ use_trust id trusts
+set_used id trusts i row left up there is lower =
+    ap (λ (l : Option ℕ). set trusts i (record row { remaining = l })) lower ∙ ap (λ (t : TrustRow). set trusts i (used t)) is ∙ used_at id trusts i row up there
 
 -- what a new trust in its place leaves
 pub chained_insert : (trusts : List TrustRow) (row : TrustRow) (i : ℕ) → IsGapAt id_cmp (λ r. r.id) row.id trusts i → AreChained trusts →

@@ -7,8 +7,8 @@ ghost use Rattle.ks_trust.specs.State.{with_trust, without_trusts, IsClosed};
 
 use crate::Trusts;
 use crate::checks::usable;
-use crate::trusts::place;
-use ks_base::{Id, IdList, Memory, TrustFault, TrustRow, has_id};
+use ks_base::by_id::place;
+use ks_base::{Boxed, Id, IdList, Memory, Row, TrustFault, TrustRow, has_id};
 
 /// How often a trust serves yet after one use more.
 fn lowered(remaining: Option<u64>) -> Option<u64>
@@ -48,7 +48,8 @@ impl Trusts {
         ensures memory { result ≢ Err TrustFault.Memory }
     {
         let at = usable(self.rows.as_slice(), id, trustee, moment)?;
-        self.rows[at].remaining = lowered(self.rows[at].remaining);
+        let row = self.rows[at].get_mut();
+        row.remaining = lowered(row.remaining);
         Ok(())
     }
 
@@ -59,7 +60,7 @@ impl Trusts {
         ensures { self.new ≡ without_trusts ids.now self.old }
     {
         let ids = ids.as_slice();
-        self.rows.retain(|row| !has_id(ids, &row.id));
+        self.rows.retain(|row| !has_id(ids, row.id()));
     }
 
     /// Puts a new trust in its place.
@@ -72,7 +73,7 @@ impl Trusts {
         let Err(at) = place(self.rows.as_slice(), &row.id) else {
             unreachable!()
         };
-        self.rows.insert(at, row)?;
+        Boxed::insert(&mut self.rows, at, row)?;
         Ok(())
     }
 }

@@ -7,9 +7,10 @@ ghost use Rattle.ks_base.specs.Tables.{id_cmp, IsAscending};
 ghost use Rattle.ks_base.specs.Trusts.{creation_fault, first_missing, found_use_fault, is_expired, is_later, is_spent, parent_fault, parent_trust, under_fault, use_fault};
 
 use crate::Trusts;
-use crate::trusts::{lists_role, place};
+use crate::trusts::lists_role;
+use ks_base::by_id::place;
 use ks_base::limits::TRUSTS;
-use ks_base::{Id, IdList, Kind, TrustFault, TrustRow, refuse_if};
+use ks_base::{Boxed, Id, IdList, Kind, TrustFault, TrustRow, refuse_if};
 
 /// The first role that the list has not.
 fn first_missing<'a>(roles: &'a IdList, held: &IdList) -> Option<&'a Id>
@@ -93,7 +94,7 @@ fn may_use(row: &TrustRow, trustee: &Id, moment: u64) -> Result<(), TrustFault>
 
 /// The place of the trust with this id, which the trustee may use.
 pub(crate) fn usable(
-    rows: &[TrustRow],
+    rows: &[Boxed<TrustRow>],
     id: &Id,
     trustee: &Id,
     moment: u64,
@@ -106,7 +107,7 @@ pub(crate) fn usable(
     let Ok(at) = place(rows, id) else {
         return Err(TrustFault::Absent(*id));
     };
-    may_use(&rows[at], trustee, moment)?;
+    may_use(rows[at].get(), trustee, moment)?;
     Ok(at)
 }
 

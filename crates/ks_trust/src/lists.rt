@@ -8,7 +8,8 @@ ghost use Rattle.ks_trust.specs.State.{ids_of, is_listed, is_touched, IsClosed};
 
 use crate::Trusts;
 use crate::trusts::lists_role;
-use ks_base::{Id, IdList, Memory, Revoke, Test, TrustRow};
+use ks_base::by_id::{ids_of, ids_passing};
+use ks_base::{Boxed, Id, IdList, Memory, Revoke, Row, Test, TrustRow};
 use std::alloc::{AllocError, Global};
 
 /// Whether the trust is one that ends with what the revocation names.
@@ -34,35 +35,16 @@ fn has_role(role: Option<&Id>, trust: &TrustRow) -> bool
 
 fn ids_touched(
     alloc: Global,
-    rows: &[TrustRow],
+    rows: &[Boxed<TrustRow>],
     what: &Revoke,
     role: Option<&Id>,
 ) -> Result<Vec<Id>, AllocError>
     ensures { IfOk result (λ ids. ids.items ≡ ids_of (filter (is_touched what.now (option_copied role.entry)) rows.now)) }
 {
     rows.iter()
-        .filter(|row| is_of(what, row) || has_role(role, row))
-        .map(|row| row.id)
+        .filter(|row| is_of(what, row.get()) || has_role(role, row.get()))
+        .map(|row| *row.id())
         .collect(alloc)
-}
-
-fn ids_passing<T: Test<TrustRow>>(
-    alloc: Global,
-    rows: &[TrustRow],
-    test: &T,
-) -> Result<Vec<Id>, AllocError>
-    ensures { IfOk result (λ ids. ids.items ≡ ids_of (filter (T.test test.now) rows.now)) }
-{
-    rows.iter()
-        .filter(|row| test.test(row))
-        .map(|row| row.id)
-        .collect(alloc)
-}
-
-fn ids_of(alloc: Global, rows: &[TrustRow]) -> Result<Vec<Id>, AllocError>
-    ensures { IfOk result (λ ids. ids.items ≡ ids_of rows.now) }
-{
-    rows.iter().map(|row| row.id).collect(alloc)
 }
 
 impl Trusts {
@@ -113,8 +95,8 @@ impl Trusts {
     {
         self.rows
             .iter()
-            .filter(|row| self.hangs_on(ids, row))
-            .map(|row| row.id)
+            .filter(|row| self.hangs_on(ids, row.get()))
+            .map(|row| *row.id())
             .collect(*self.rows.allocator())
     }
 }

@@ -1,21 +1,20 @@
-ghost use Rattle.std.specs.Prelude.{◌≡◌, [], length, option_copied};
-ghost use Rattle.std.specs.List.Sorted.{IsSearchInRange};
-ghost use Rattle.ks_base.specs.Places.{IsPlace};
+ghost use Rattle.std.specs.Prelude.{◌≡◌, [], option_copied};
 ghost use Rattle.ks_base.specs.Rows.{trust_of, has_id};
 ghost use Rattle.ks_base.specs.Tables.{id_cmp, IsAscending};
 ghost use Rattle.ks_base.specs.Trusts.{parent_trust, AreChained};
 
-use ks_base::{Id, IdList, TrustRow};
+use ks_base::by_id::place;
+use ks_base::{Boxed, Id, IdList, TrustRow};
 use std::alloc::Global;
 use std::marker::Model;
 
 /// Trusts in the order of their ids. The parent of each redelegation stands.
 ///
 /// A use is taken in place, since a copy of a row would take memory; so the rows stand in a vector and not in a
-/// table.
+/// table. They stand behind pointers, so that making way for one among them moves little.
 #[derive(Drop)]
 pub struct Trusts {
-    pub(crate) rows: Vec<TrustRow>,
+    pub(crate) rows: Vec<Boxed<TrustRow>>,
 }
 
 impl Model for Trusts {
@@ -29,15 +28,6 @@ impl Model for Trusts {
     ghost view = { λ trusts. trusts.rows.items };
 
     ghost invariant = { λ trusts. IsAscending id_cmp (λ row. row.id) trusts.rows.items × AreChained trusts.rows.items };
-}
-
-/// The place of the trust with this id, or the one where it belongs.
-pub(crate) fn place(rows: &[TrustRow], id: &Id) -> Result<usize, usize>
-    requires { IsAscending id_cmp (λ row. row.id) rows.now }
-    ensures bound { IsSearchInRange result (length rows.now) }
-    ensures place { IsPlace id_cmp (λ row. row.id) id.now rows.now result }
-{
-    rows.binary_search_by(|row| row.id.cmp(id))
 }
 
 /// Whether the role is one of these, which stand in any order.
@@ -64,13 +54,13 @@ impl Trusts {
         ensures chained { AreChained self.now }
     {
         match place(self.rows.as_slice(), id) {
-            Ok(at) => Some(&self.rows[at]),
+            Ok(at) => Some(self.rows[at].get()),
             Err(_) => None,
         }
     }
 
     /// All trusts, in the order of their ids.
-    pub fn rows(&self) -> &[TrustRow]
+    pub fn rows(&self) -> &[Boxed<TrustRow>]
         ensures rows { result.now ≡ self.now }
         ensures ascending { IsAscending id_cmp (λ row. row.id) self.now }
         ensures chained { AreChained self.now }

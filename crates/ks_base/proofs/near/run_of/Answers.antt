@@ -1,43 +1,9 @@
-use Rattle.std.proofs.Common.{◌-◌, ◌≤◌, sym, subst, arith, rules}
-use Rattle.std.proofs.lemmas.List.Sorted.{IsPartitionPoint-from_clause}
-use Rattle.std.specs.Ordering.{is_lt, is_le, is_eq}
+use Rattle.std.proofs.Common.{sym, subst}
+use Rattle.std.specs.Ordering.{is_eq}
 use Rattle.ks_base.specs.Tables.{IsAscending}
 use Rattle.ks_base.proofs.TableLemmas.{ascending_filter}
-use Rattle.ks_base.proofs.RunLemmas.{parted_before, parted_within, in_order, run_is}
 use Rattle.ks_base.proofs.near.run_of.Goals as goal
-
-pub slice_bounds-result-count : goal.slice_bounds-result-count
-slice_bounds-result-count g c =
-    let side = g.W.Near.side c.args.near.now in
-    let rows = c.args.rows.now in
-    let run = g.met.W.Near.run c.args.near.now in
-    let low = IsPartitionPoint-from_clause (λ row. is_lt (side row)) rows _ c.partition_point-low.ensures.partitioned (parted_before g.R.Ordered.cmp side run rows c.requires) (λ a r f called. (search rules, search rules)) in
-    let high = IsPartitionPoint-from_clause (λ row. is_le (side row)) rows _ c.partition_point-high.ensures.partitioned (parted_within g.R.Ordered.cmp side run rows c.requires) (λ a r f called. (search rules, search rules)) in
-    in_order side rows c.partition_point-low.result c.partition_point-high.result c.partition_point-low.ensures.bound (λ k d lt. low.0 k d (omega arith) lt) (λ k d le lt. high.1 k d le lt)
-
-pub slice_bounds-result-start : goal.slice_bounds-result-start
-slice_bounds-result-start g c =
-    let side = g.W.Near.side c.args.near.now in
-    let rows = c.args.rows.now in
-    let run = g.met.W.Near.run c.args.near.now in
-    let low = IsPartitionPoint-from_clause (λ row. is_lt (side row)) rows _ c.partition_point-low.ensures.partitioned (parted_before g.R.Ordered.cmp side run rows c.requires) (λ a r f called. (search rules, search rules)) in
-    let high = IsPartitionPoint-from_clause (λ row. is_le (side row)) rows _ c.partition_point-high.ensures.partitioned (parted_within g.R.Ordered.cmp side run rows c.requires) (λ a r f called. (search rules, search rules)) in
-    in_order side rows c.partition_point-low.result c.partition_point-high.result c.partition_point-low.ensures.bound (λ k d lt. low.0 k d (omega arith) lt) (λ k d le lt. high.1 k d le lt)
-
-pub returns-clause-rows : goal.returns-clause-rows
-returns-clause-rows g c =
-    let side = g.W.Near.side c.args.near.now in
-    let rows = c.args.rows.now in
-    let run = g.met.W.Near.run c.args.near.now in
-    let first = c.partition_point-low.result in
-    let end = c.partition_point-high.result in
-    let low = IsPartitionPoint-from_clause (λ row. is_lt (side row)) rows _ c.partition_point-low.ensures.partitioned (parted_before g.R.Ordered.cmp side run rows c.requires) (λ a r f called. (search rules, search rules)) in
-    let high = IsPartitionPoint-from_clause (λ row. is_le (side row)) rows _ c.partition_point-high.ensures.partitioned (parted_within g.R.Ordered.cmp side run rows c.requires) (λ a r f called. (search rules, search rules)) in
-    let ordered : first ≤ end = in_order side rows first end c.partition_point-low.ensures.bound (λ k d lt. low.0 k d (omega arith) lt) (λ k d le lt. high.1 k d le lt) in
-    let fits = c.partition_point-high.ensures.bound in
-    run_is side rows first (end - first) (omega (arith, ordered, fits)) (λ k d lt. low.0 k d (omega arith) lt) (λ k d le lt. low.1 k d le lt)
-    (λ k d lt. high.0 k d (omega arith) (omega (arith, ordered))) (λ k d le lt. high.1 k d (omega (arith, ordered)) lt)
 
 pub returns-clause-ascending : goal.returns-clause-ascending
 returns-clause-ascending g c =
-    subst (IsAscending g.R.Ordered.cmp (λ row. row)) (sym (returns-clause-rows g c)) (ascending_filter g.R.Ordered.cmp (λ row. row) (λ row. is_eq (g.W.Near.side c.args.near.now row)) c.args.rows.now c.requires)
+    subst (IsAscending g.R.Ordered.cmp (λ row. row)) (sym c.bounds_of-low.ensures.run) (ascending_filter g.R.Ordered.cmp (λ row. row) (λ row. is_eq (g.W.Near.side c.args.near.now row)) c.args.rows.now c.requires)

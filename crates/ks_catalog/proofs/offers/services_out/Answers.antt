@@ -1,4 +1,5 @@
 use Rattle.std.proofs.Common.{◌∙◌, ap, length, map, sym, take}
+use Rattle.ks_base.specs.declared.catalog.EndpointRow.{EndpointRow}
 use Rattle.ks_catalog.specs.steps.Offers.{with_endpoint}
 use Rattle.ks_catalog.proofs.OfferLemmas.{none_yet, one_more, services_ascend}
 use Rattle.ks_catalog.proofs.offers.services_out.Goals as goal
@@ -13,6 +14,7 @@ add_endpoint-requires c =
 
 pub loop-row-preserved : goal.loop-row-preserved
 loop-row-preserved c =
+    let told = c.in_ok-add_endpoint.ensures ∙ ap (λ (row : EndpointRow). map (with_endpoint c.args.project.now row) c.as_mut_slice.result.now) c.get.ensures in
     one_more c.args.project.now c.args.endpoints.now c.args.rows.now c.loop-row.row-index c.row-item.result c.loop-row.made.len c.loop-row.made.items
     c.add_endpoint.new.services c.loop-row-test.true c.row-item.is (sym (ap length c.as_mut_slice.ensures.value) ∙ c.as_mut_slice.ensures.len)
-    c.loop-row.invariant (c.in_ok-add_endpoint.ensures ∙ ap (map (with_endpoint c.args.project.now c.row-item.result)) c.as_mut_slice.ensures.value)
+    c.loop-row.invariant (told ∙ ap (map (with_endpoint c.args.project.now c.row-item.result)) c.as_mut_slice.ensures.value)

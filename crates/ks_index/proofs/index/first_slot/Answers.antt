@@ -6,11 +6,11 @@ use Rattle.ks_index.proofs.NameLemmas.{all_at, at_slot, before_slot, name_below}
 use Rattle.ks_index.proofs.index.first_slot.Goals as goal
 
 pub slot-requires : goal.slot-requires
-slot-requires g c = c.requires.up c.in-Some.other.now
+slot-requires g c = c.requires.up c.get.result.now
 
 pub returns-in-Ok-clause-before : goal.returns-in-Ok-clause-before
 returns-in-Ok-clause-before g c = λ slot other less inside.
-    let first = c.in-Some.other.now in
+    let first = c.get.result.now in
     let key_at = λ (p : ℕ). full_name g.R.Named.within g.R.Named.naming g.R.Row.key (get_or c.args.rows.now p first) in
     let place = get_or c.args.places.now slot 0 in
     let any = get_any c.args.rows.now place first other (all_at (λ p. p < length c.args.rows.now) c.args.places.now slot 0 c.requires.within inside) in
@@ -20,7 +20,7 @@ returns-in-Ok-clause-before g c = λ slot other less inside.
 
 pub returns-in-Ok-clause-behind : goal.returns-in-Ok-clause-behind
 returns-in-Ok-clause-behind g c = λ other inside.
-    let first = c.in-Some.other.now in
+    let first = c.get.result.now in
     let key_at = λ (p : ℕ). full_name g.R.Named.within g.R.Named.naming g.R.Row.key (get_or c.args.rows.now p first) in
     let place = get_or c.args.places.now c.in-Ok.slot 0 in
     let any = get_any c.args.rows.now place first other (all_at (λ p. p < length c.args.rows.now) c.args.places.now c.in-Ok.slot 0 c.requires.within inside) in
@@ -29,7 +29,7 @@ returns-in-Ok-clause-behind g c = λ other inside.
 
 pub returns-in-Err-clause-before : goal.returns-in-Err-clause-before
 returns-in-Err-clause-before g c = λ slot other less inside.
-    let first = c.in-Some.other.now in
+    let first = c.get.result.now in
     let key_at = λ (p : ℕ). full_name g.R.Named.within g.R.Named.naming g.R.Row.key (get_or c.args.rows.now p first) in
     let place = get_or c.args.places.now slot 0 in
     let any = get_any c.args.rows.now place first other (all_at (λ p. p < length c.args.rows.now) c.args.places.now slot 0 c.requires.within inside) in
@@ -39,7 +39,7 @@ returns-in-Err-clause-before g c = λ slot other less inside.
 
 pub returns-in-Err-clause-behind : goal.returns-in-Err-clause-behind
 returns-in-Err-clause-behind g c = λ other inside.
-    let first = c.in-Some.other.now in
+    let first = c.get.result.now in
     let key_at = λ (p : ℕ). full_name g.R.Named.within g.R.Named.naming g.R.Row.key (get_or c.args.rows.now p first) in
     let place = get_or c.args.places.now c.in-Err.slot 0 in
     let any = get_any c.args.rows.now place first other (all_at (λ p. p < length c.args.rows.now) c.args.places.now c.in-Err.slot 0 c.requires.within inside) in

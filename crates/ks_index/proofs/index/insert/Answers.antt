@@ -8,7 +8,7 @@ use Rattle.ks_index.proofs.index.insert.Goals as goal
 
 pub put_in-requires-clause-ascending : goal.put_in-requires-clause-ascending
 put_in-requires-clause-ascending g c =
-    subst (λ l. IsAscending id_cmp g.R.Row.key l) (sym (c.as_slice.ensures.value ∙ c.in_ok-insert.ensures.items))
+    subst (λ l. IsAscending id_cmp g.R.Row.key l) (sym (c.as_slice.ensures.value ∙ c.in_ok-insert.ensures.ok))
     (ascending_insert id_cmp g.R.Row.key nat_list_cmp_total c.args.row c.args.rows.now.items c.args.at c.requires.ascending c.requires.gap)
 
 pub put_in-requires-clause-but : goal.put_in-requires-clause-but
@@ -18,4 +18,4 @@ put_in-requires-clause-but g c =
     let new = c.make_way.ensures ∙ ap (map (raised c.args.at)) old in
     let there = written_back c.make_way.new.places c.reserve.new.self.items c.reserve.new.self.len (search rules) ∙ new in
     subst (λ l. AreNamesBut g.R.Named.within g.R.Named.naming g.R.Row.key c.as_slice.result.now l c.args.at) (sym there)
-    (subst (λ l. AreNamesBut g.R.Named.within g.R.Named.naming g.R.Row.key l (map (raised c.args.at) c.args.places.now.items) c.args.at) (sym (c.as_slice.ensures.value ∙ c.in_ok-insert.ensures.items)) index)
+    (subst (λ l. AreNamesBut g.R.Named.within g.R.Named.naming g.R.Row.key l (map (raised c.args.at) c.args.places.now.items) c.args.at) (sym (c.as_slice.ensures.value ∙ c.in_ok-insert.ensures.ok)) index)

@@ -7,13 +7,13 @@ use Rattle.ks_base.specs.Tables.{Among}
 use Rattle.ks_index.proofs.runs.ids_named.Goals as goal
 
 pub run_named-run-requires : goal.run_named-run-requires
-run_named-run-requires g c = c.requires.names.up c.in-Some.other.now
+run_named-run-requires g c = c.requires.names.up c.get-other.result.now
 
 pub returns : goal.returns
 returns g c =
     let key = g.R.Row.key in
     let rows = c.args.rows.now in
-    let other = c.in-Some.other.now in
+    let other = c.get-other.result.now in
     let test = λ (row : _). same (g.R.Named.naming row) c.args.name.now in
     let ids = c.in_ok-ids.ids.items in
     let are = c.in_ok-left.ensures ∙ ap (map (λ (p : ℕ). key (get_or rows p other))) c.run_named-run.ensures in

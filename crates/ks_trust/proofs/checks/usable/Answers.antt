@@ -1,4 +1,4 @@
-use Rattle.std.proofs.Common.{◌≡◌, Some, rules, sym, ap, ◌∙◌}
+use Rattle.std.proofs.Common.{◌≡◌, Some, rules, get_or, sym, ap, subst, ◌∙◌}
 use Rattle.ks_base.specs.Refusals.{fault_in}
 use Rattle.ks_base.specs.Tables.{id_cmp}
 use Rattle.ks_base.specs.Trusts.{found_use_fault}
@@ -13,17 +13,19 @@ returns-in_default-clause-refusal c =
 
 pub returns-in_err-may_use-clause-refusal : goal.returns-in_err-may_use-clause-refusal
 returns-in_err-may_use-clause-refusal c =
-    let row = c.index-rows-at.result in
+    let row = c.get.result.now in
+    let is = subst (λ (r : _). r ≡ get_or c.args.rows.now c.in-Ok.at r) (sym c.get.ensures) c.index-rows-at.is in
     let fault : fault_in c.from_residual.result ≡ found_use_fault row.id c.args.trustee.now c.args.moment (Some row) = search rules in
-    fault ∙ sym (use_found c.args.rows.now c.args.id.now c.args.trustee.now c.args.moment c.in-Ok.at row c.in-Ok.ensures.place c.index-rows-at.is)
+    fault ∙ sym (use_found c.args.rows.now c.args.id.now c.args.trustee.now c.args.moment c.in-Ok.at row c.in-Ok.ensures.place is)
 
 pub returns-in_err-may_use-clause-memory : goal.returns-in_err-may_use-clause-memory
 returns-in_err-may_use-clause-memory c =
-    let row = c.index-rows-at.result in
+    let row = c.get.result.now in
     let fault : fault_in c.from_residual.result ≡ found_use_fault row.id c.args.trustee.now c.args.moment (Some row) = search rules in
     λ is. use_takes_none row.id c.args.trustee.now c.args.moment row (sym fault ∙ ap fault_in is)
 
 pub returns-clause-refusal : goal.returns-clause-refusal
 returns-clause-refusal c =
-    let row = c.index-rows-at.result in
-    c.in_ok-may_use.ensures ∙ sym (use_found c.args.rows.now c.args.id.now c.args.trustee.now c.args.moment c.in-Ok.at row c.in-Ok.ensures.place c.index-rows-at.is)
+    let row = c.get.result.now in
+    let is = subst (λ (r : _). r ≡ get_or c.args.rows.now c.in-Ok.at r) (sym c.get.ensures) c.index-rows-at.is in
+    c.in_ok-may_use.ensures ∙ sym (use_found c.args.rows.now c.args.id.now c.args.trustee.now c.args.moment c.in-Ok.at row c.in-Ok.ensures.place is)

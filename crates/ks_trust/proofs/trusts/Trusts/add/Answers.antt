@@ -21,7 +21,7 @@ invariant_of-self-2 c =
     let gap = rw c.as_slice.ensures.value at c.in-Err.ensures.place in
     let none = ap (trust_of c.args.row.id) c.self.view_is ∙ c.requires.new in
     let chained = subst (λ (trusts : List TrustRow). IsChained trusts c.args.row) (sym c.self.view_is) c.requires.chained in
-    rw c.in_ok-insert.ensures.items (
+    rw c.in_ok-insert.ensures.ok (
       ascending_insert id_cmp (λ row. row.id) nat_list_cmp_total c.args.row c.self.inside.rows.items c.in-Err.at c.self.invariant.0 gap,
       chained_insert c.self.inside.rows.items c.args.row c.in-Err.at gap c.self.invariant.1 none chained,
     )
@@ -29,4 +29,4 @@ invariant_of-self-2 c =
 pub returns-clause-ok : goal.returns-clause-ok
 returns-clause-ok c =
     let gap = rw c.as_slice.ensures.value at c.in-Err.ensures.place in
-    c.in_ok-insert.ensures.items ∙ sym (put_gap id_cmp (λ row. row.id) c.args.row c.self.inside.rows.items _ gap) ∙ ap (with_trust c.args.row) c.self.view_is
+    c.in_ok-insert.ensures.ok ∙ sym (put_gap id_cmp (λ row. row.id) c.args.row c.self.inside.rows.items _ gap) ∙ ap (with_trust c.args.row) c.self.view_is
