@@ -16,8 +16,6 @@ FACTS = ("≡", "≢", "≤", "<", "⊥", "Among", "Decides", "↔")
 COMPUTED = ("Examples", "Vectors")
 # What stands twice until a crate below both shows it, which proves all crates above it again.
 KNOWN = [
-    ["answer_bare of crates/ks_drill/proofs/AloneLemmas.antt", "answer_bare of crates/ks_server/proofs/ExchangeLemmas.antt"],
-    ["made_bare of crates/ks_drill/proofs/AloneLemmas.antt", "made_by_bare of crates/ks_server/proofs/ExchangeLemmas.antt"],
     ["all_below_at of crates/ks_aes_cbc/proofs/Fields.antt", "below_at of crates/ks_totp/proofs/LetterLemmas.antt"],
     ["over_zeros of crates/ks_hmac/proofs/HmacLemmas.antt", "over_zeros of crates/ks_totp/proofs/HmacLemmas.antt"],
 ]

@@ -12,7 +12,7 @@ use Rattle.ks_machine.specs.Moment.{moment_of}
 use Rattle.ks_machine.specs.Openings.{NamedRule, PlainOpening}
 use Rattle.ks_service.specs.declared.answer.Answer.{Answer}
 use Rattle.ks_service.specs.Called.{Called, IsDecided, IsDecidedUnless, IsNextUnless, is_memory, made_by}
-use Rattle.ks_service.proofs.EventLemmas.{after_is, after_raised, answer_raised, event, made_raised, raised}
+use Rattle.ks_service.proofs.EventLemmas.{after_is, after_raised, answer_bare, answer_raised, event, made_bare, raised}
 use Rattle.ks_turn.specs.Passes.{Passed}
 use Rattle.ks_drill.specs.Drill.{AreDefault, IsDrill, drill, drill_of, opened}
 use Rattle.ks_drill.specs.Openings.{drill_opening}
@@ -23,12 +23,6 @@ no_more xs ys [] e same = e ∙ append-nil xs
 no_more xs ys (entry ∷ later) e same = let long = ap length e ∙ length-append xs (entry ∷ later) in absurd (omega arith)
 
 -- the plain machine does not look at how many changes are kept
-
-answer_bare : (f : Front) (call : Call) → answer (bare f) call ≡ answer f call
-answer_bare f call = sym (answer_raised (bare f) call 0) ∙ answer_raised f call 0
-
-made_bare : (f : Front) (call : Call) → made_by (bare f) call ≡ made_by f call
-made_bare f call = sym (made_raised (bare f) call 0) ∙ made_raised f call 0
 
 then_bare : (f : Front) (moment : ℕ) (change : Option Change) → then (bare f) moment change ≡ event f moment change 0
 then_bare f moment None = refl

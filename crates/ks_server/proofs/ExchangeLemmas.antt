@@ -16,7 +16,7 @@ use Rattle.ks_machine.specs.declared.reply.Reply.TheVariants as reply
 use Rattle.ks_machine.specs.Actions.{requirements}
 use Rattle.ks_machine.specs.Attempts.{everything}
 use Rattle.ks_machine.specs.Fit.{Fit, IsDrawFor, IsFolderFor}
-use Rattle.ks_machine.specs.Fronts.{Front, IsSound, after, answer, change_of as change_stepped, cut, replay, then as with_change}
+use Rattle.ks_machine.specs.Fronts.{Front, IsSound, after, change_of as change_stepped, cut, replay, then as with_change}
 use Rattle.ks_machine.specs.Moment.{moment_of}
 use Rattle.ks_machine.specs.Outcomes.{bytes_in}
 use Rattle.ks_machine.specs.Steps.{step}
@@ -42,20 +42,13 @@ use Rattle.ks_server.specs.Ties.{Asks, IsAsked, IsDrawOf, IsPlain, IsReadFor, Is
 use Rattle.ks_server.specs.Work.{PassMoves}
 use Rattle.ks_server.specs.steps.Answers.{Exchanges, IsReadied, Refuses, Says, told_by, told_where}
 use Rattle.ks_service.specs.declared.answer.Answer.{Answer}
-use Rattle.ks_service.specs.Called.{Called, IsDecidedUnless, IsNextUnless, capped, is_memory, made_by, numbered}
+use Rattle.ks_service.proofs.EventLemmas.{answer_bare, made_bare}
+use Rattle.ks_service.specs.Called.{Called, IsDecidedUnless, IsNextUnless, capped, is_memory, numbered}
 use Rattle.ks_state.specs.declared.decides.Kept.{Kept}
 use Rattle.ks_state.specs.declared.decides.Kept.TheVariants as keeping
 use Rattle.ks_turn.specs.Passes.{Passed}
 
 -- the machine does not look at how many changes are kept
-
-answer_bare : (f : Front) (call : Call) → answer (bare f) call ≡ answer f call
-unfolding answer replay
-answer_bare f call = refl
-
-made_by_bare : (f : Front) (call : Call) → made_by (bare f) call ≡ made_by f call
-unfolding made_by replay
-made_by_bare f call = refl
 
 then_bare : (f : Front) (moment : ℕ) (change : Option Change) → with_change (bare f) moment change ≡ bare (with_change f moment change)
 then_bare f moment None = refl
@@ -82,7 +75,7 @@ front_by true p q call at said h = sym (ap bare h.seen)
 
 own_by : {F : Type 0} (memory : Bool) (p q : Passed) (call : Call) (at : Front) (said : Answer F) → IsDecidedUnless memory p q call at said
     → q.own ≡ p.own ++ numbered said.changes (change_in (bare at) (calls call) memory)
-own_by false p q call at said h = h.own ∙ ap (λ c. p.own ++ numbered said.changes c) (sym (made_by_bare at call))
+own_by false p q call at said h = h.own ∙ ap (λ c. p.own ++ numbered said.changes c) (sym (made_bare at call))
 own_by true p q call at said h = h.own ∙ sym (append-nil p.own)
 
 late_by : {F : Type 0} (memory : Bool) (p q : Passed) (call : Call) (at : Front) (said : Answer F) → IsDecidedUnless memory p q call at said

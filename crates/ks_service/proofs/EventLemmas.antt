@@ -35,6 +35,16 @@ pub made_raised : (f : Front) (call : Call) (kept : ℕ) → made_by (raised f c
 unfolding made_by
 made_raised f call kept = ap change_of (step_raised f call kept)
 
+-- nor at what is kept alone
+
+pub answer_bare : (f : Front) (call : Call) → answer (record f { kept = 0 }) call ≡ answer f call
+unfolding answer replay
+answer_bare f call = refl
+
+pub made_bare : (f : Front) (call : Call) → made_by (record f { kept = 0 }) call ≡ made_by f call
+unfolding made_by replay
+made_bare f call = refl
+
 pub after_is : (f : Front) (call : Call) → after f call ≡ then f (moment_of f.high call.reading) (made_by f call)
 unfolding after made_by
 after_is f call = refl
