@@ -38,7 +38,11 @@ pub struct Kept {
     /// How long the request in front of the inbox looks, less what was read of it, once that is known.
     long: Option<usize>,
     outbox: Queue,
-    /// The client sends no more.
+    /// All was read that had come, so that what comes next is reported.
+    is_drained: bool,
+    /// The client has closed its side, so that the end lies behind what came.
+    has_closed: bool,
+    /// The client sends no more, and all was read.
     has_ended: bool,
     /// Nothing is to be written behind the outbox.
     is_last: bool,
@@ -62,6 +66,8 @@ impl Kept {
             inbox: Queue::new(alloc),
             long: None,
             outbox: Queue::new(alloc),
+            is_drained: false,
+            has_closed: false,
             has_ended: false,
             is_last: false,
             passed_over: 0,
@@ -69,6 +75,18 @@ impl Kept {
             until: Deadline::new(Awaited::Request, now),
             ending: Ending::new(),
         }
+    }
+
+    /// Something was reported of it, and whether its client has closed its side.
+    pub fn hear(&mut self, has_closed: bool) {
+        self.is_drained = false;
+        self.has_closed |= has_closed;
+    }
+
+    /// Notes that bytes came, and whether these were fewer than there was room for, so that no more lie there. Where its client
+    /// has closed its side, the end still lies behind them, and is not reported again.
+    pub fn note_read(&mut self, is_short: bool) {
+        self.is_drained = is_short && !self.has_closed;
     }
 
     /// Whether a whole request lies in the inbox.
@@ -168,7 +186,8 @@ impl Kept {
         }
     }
 
-    /// Reads ahead into the inbox until a whole request lies there, or nothing more is there.
+    /// Reads ahead into the inbox until a whole request lies there, or nothing more is there. A connection that is known to be
+    /// drained is not asked again: that call to the system would be one of four for a request.
     pub fn read_ahead(&mut self) -> Result<AtHand, Failed> {
         self.look();
         'pieces: for _ in 0..u64::MAX {
@@ -178,9 +197,15 @@ impl Kept {
             if self.has_ended {
                 return Ok(self.at_end());
             }
+            if self.is_drained {
+                return Ok(AtHand::Part);
+            }
             match self.inbox.read_from(&mut self.stream)? {
                 Some(0) => self.has_ended = true,
-                Some(count) => self.look_behind(count),
+                Some(count) => {
+                    self.note_read(count < PIECE);
+                    self.look_behind(count);
+                }
                 None => return Ok(AtHand::Part),
             }
         }

@@ -13,8 +13,8 @@ pub enum Report {
     Nothing,
     /// Of the listener: a connection is to be accepted.
     Listener,
-    /// Of the connection of this place.
-    Connection(usize),
+    /// Of the connection of this place, and whether its client has closed its side.
+    Connection(usize, bool),
 }
 
 /// What waits for reports, one at a time.
@@ -58,7 +58,7 @@ impl Poller {
         };
         Ok(match event.token() {
             LISTENER => Report::Listener,
-            Token(key) => Report::Connection(key),
+            Token(key) => Report::Connection(key, event.is_read_closed()),
         })
     }
 }

@@ -144,8 +144,11 @@ impl Slots {
         match report {
             Report::Nothing => Step::Wait,
             Report::Listener => Step::Accept,
-            Report::Connection(key) => match self.lend(key) {
-                Some(kept) => Step::Serve(kept),
+            Report::Connection(key, has_closed) => match self.lend(key) {
+                Some(mut kept) => {
+                    kept.hear(has_closed);
+                    Step::Serve(kept)
+                }
                 None => Step::Wait,
             },
         }

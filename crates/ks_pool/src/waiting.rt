@@ -44,6 +44,7 @@ impl Kept {
         }
         'waits: for _ in 0..u64::MAX {
             if let Some(count) = read_now(&mut self.stream, into)? {
+                self.note_read(count < into.len());
                 return Ok(count);
             }
             self.wait(clock, Awaited::Body, POLLIN)?;
