@@ -24,7 +24,7 @@ NO_KEYS = "the key folder has no key"
 ALREADY_SET = "the key folder has keys already"
 INDEX_END = "the key folder has a file 999999999, and none can follow it"
 NO_OUTPUT = "ks: standard output could not be written"
-USAGE = "usage: ks check | ks talk FILE FOLDER | ks serve FILE FOLDER ADDRESS [--workers N] [--connections N] [--log FILE] | ks setup FOLDER | ks rotate FOLDER [--max N] | ks password [--rounds N]"
+USAGE = "usage: ks check | ks talk FILE FOLDER | ks serve FILE FOLDER ADDRESS [--workers N] [--connections N] [--log FILE] | ks setup FOLDER | ks rotate FOLDER [--max N] | ks password [--rounds N] | ks drill START COUNT"
 
 wrong = []
 runs = 0

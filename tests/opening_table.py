@@ -27,7 +27,7 @@ TOP = os.path.dirname(os.path.dirname(os.path.abspath(__file__)))
 KS = os.path.abspath(os.environ.get("KS") or os.path.join(TOP, "bin", "ks"))
 DATA = os.path.join(TOP, "crates", "ks_run_cases", "data")
 
-USAGE = "usage: ks check | ks talk FILE FOLDER | ks serve FILE FOLDER ADDRESS [--workers N] [--connections N] [--log FILE] | ks setup FOLDER | ks rotate FOLDER [--max N] | ks password [--rounds N]"
+USAGE = "usage: ks check | ks talk FILE FOLDER | ks serve FILE FOLDER ADDRESS [--workers N] [--connections N] [--log FILE] | ks setup FOLDER | ks rotate FOLDER [--max N] | ks password [--rounds N] | ks drill START COUNT"
 NOT_JSON = b'{"error":{"code":400,"message":"The body is not JSON.","title":"Bad Request"}}'
 NAMES = {name.decode(): text for name, text in rows(os.path.join(DATA, "parts.txt"))}
 

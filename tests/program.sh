@@ -17,7 +17,7 @@ runs=0
 copies=0
 
 key=cw_0x689RpI-jtRR7oE8h_eQsKImvJapLeSbXpwF4e4=
-usage='usage: ks check | ks talk FILE FOLDER | ks serve FILE FOLDER ADDRESS [--workers N] [--connections N] [--log FILE] | ks setup FOLDER | ks rotate FOLDER [--max N] | ks password [--rounds N]'
+usage='usage: ks check | ks talk FILE FOLDER | ks serve FILE FOLDER ADDRESS [--workers N] [--connections N] [--log FILE] | ks setup FOLDER | ks rotate FOLDER [--max N] | ks password [--rounds N] | ks drill START COUNT'
 
 # is STATUS OUTPUT LINE: the run before ended so, with its status in $status.
 is() {
@@ -188,6 +188,9 @@ is 3 '' 'ks: standard input could not be read'
 if [ -w /dev/full ]; then
     status=0
     printf '%s\n1 a\n' "$key" | "$ks" check >/dev/full 2>"$work/err" || status=$?
+    is 4 '' 'ks: standard output could not be written'
+    status=0
+    "$ks" drill 0 1 >/dev/full 2>"$work/err" || status=$?
     is 4 '' 'ks: standard output could not be written'
     status=0
     fresh examples/o1.json

@@ -53,6 +53,7 @@ fn keeps(command: &Words) -> bool {
         Words::Setup(_) => false,
         Words::Rotate(_, _) => false,
         Words::Password(_) => false,
+        Words::Drill(_, _) => false,
         Words::Usage => false,
     }
 }

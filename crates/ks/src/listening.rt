@@ -21,6 +21,7 @@ pub fn serving(command: &Words) -> Option<&Places> {
         Words::Setup(_) => None,
         Words::Rotate(_, _) => None,
         Words::Password(_) => None,
+        Words::Drill(_, _) => None,
         Words::Usage => None,
     }
 }

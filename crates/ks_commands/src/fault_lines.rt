@@ -6,7 +6,7 @@ use ks_base::limits::CHECK_LINES;
 use std::fmt;
 
 const USAGE: &str =
-    "usage: ks check | ks talk FILE FOLDER | ks serve FILE FOLDER ADDRESS [--workers N] [--connections N] [--log FILE] | ks setup FOLDER | ks rotate FOLDER [--max N] | ks password [--rounds N]";
+    "usage: ks check | ks talk FILE FOLDER | ks serve FILE FOLDER ADDRESS [--workers N] [--connections N] [--log FILE] | ks setup FOLDER | ks rotate FOLDER [--max N] | ks password [--rounds N] | ks drill START COUNT";
 
 const FAILED: &str =
     "the key folder could not be read or written; if there is none yet, make it first";

@@ -3,3 +3,4 @@ mod OpeningLemmas
 mod CallLemmas
 mod StepLemmas
 mod AloneLemmas
+mod RuleLemmas

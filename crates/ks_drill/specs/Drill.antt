@@ -35,11 +35,34 @@ use Rattle.ks_drill.specs.Scripts.{Script, Stage, asks, done, ◌>>=◌}
 abbrev pub id_of_row : Row → Id
 id_of_row (row.Project project) = project.id
 id_of_row (row.User user) = user.id
-id_of_row _ = codes "none"
+id_of_row (row.Domain domain) = codes "none"
+id_of_row (row.Group group) = codes "none"
+id_of_row (row.Role role) = codes "none"
+id_of_row (row.Trust trust roles) = codes "none"
+id_of_row (row.Region region) = codes "none"
+id_of_row (row.Service service) = codes "none"
+id_of_row (row.Endpoint endpoint) = codes "none"
+id_of_row (row.AppCred credential roles) = codes "none"
+id_of_row (row.Secret secret) = codes "none"
 
 abbrev pub id_told : BodyOut → Id
 id_told (body.One told made) = id_of_row told
-id_told _ = codes "none"
+id_told body.Nothing = codes "none"
+id_told body.Version = codes "none"
+id_told (body.Token token) = codes "none"
+id_told (body.Many kind rows path) = codes "none"
+id_told (body.Inference prior implied made) = codes "none"
+id_told (body.Inferences prior implied) = codes "none"
+id_told (body.Grants roles path) = codes "none"
+id_told (body.Assignments grants path) = codes "none"
+id_told (body.Trusts rows path) = codes "none"
+id_told (body.TrustRoles roles path) = codes "none"
+id_told (body.Events events path) = codes "none"
+id_told (body.Keys indices primary) = codes "none"
+id_told (body.Catalog services path) = codes "none"
+id_told (body.AppCredMade credential roles secret) = codes "none"
+id_told (body.AppCreds rows path) = codes "none"
+id_told (body.Secrets rows path) = codes "none"
 
 unfoldable pub id_in : Reply → Id
 id_in (reply.Ok told) = id_told told
@@ -47,7 +70,22 @@ id_in (reply.Refused why) = codes "none"
 
 abbrev pub token_told : BodyOut → Option TokenOut
 token_told (body.Token token) = Some token
-token_told _ = None
+token_told body.Nothing = None
+token_told body.Version = None
+token_told (body.One told made) = None
+token_told (body.Many kind rows path) = None
+token_told (body.Inference prior implied made) = None
+token_told (body.Inferences prior implied) = None
+token_told (body.Grants roles path) = None
+token_told (body.Assignments grants path) = None
+token_told (body.Trusts rows path) = None
+token_told (body.TrustRoles roles path) = None
+token_told (body.Events events path) = None
+token_told (body.Keys indices primary) = None
+token_told (body.Catalog services path) = None
+token_told (body.AppCredMade credential roles secret) = None
+token_told (body.AppCreds rows path) = None
+token_told (body.Secrets rows path) = None
 
 unfoldable pub token_in : Reply → Option TokenOut
 token_in (reply.Ok told) = token_told told
@@ -70,7 +108,26 @@ abbrev pub is_absence : Cause → Bool
 is_absence (cause.Absent kind id) = true
 is_absence (cause.SubjectToken why) = true
 is_absence cause.NoRoute = true
-is_absence _ = false
+is_absence (cause.Shape fault) = false
+is_absence cause.NoToken = false
+is_absence (cause.CallerToken why) = false
+is_absence cause.Credentials = false
+is_absence (cause.ScopeRefused why) = false
+is_absence (cause.Rule action) = false
+is_absence (cause.Trust fault) = false
+is_absence (cause.Tree fault) = false
+is_absence cause.Prohibited = false
+is_absence (cause.Immutable field) = false
+is_absence cause.TrustToken = false
+is_absence cause.KeyMode = false
+is_absence (cause.NoMethod methods) = false
+is_absence (cause.NameTaken id) = false
+is_absence (cause.Keys fault) = false
+is_absence (cause.Full kind) = false
+is_absence (cause.IdTaken id) = false
+is_absence cause.Random = false
+is_absence cause.KeyDir = false
+is_absence cause.Memory = false
 
 unfoldable pub is_unknown : Reply → Bool
 is_unknown (reply.Ok told) = false

@@ -4,6 +4,7 @@
 
 mod calls;
 mod commands;
+mod laws;
 mod opening;
 mod policy;
 mod replies;
@@ -12,4 +13,5 @@ mod session;
 mod steps;
 mod words;
 
+pub use laws::drill_says_one_line;
 pub use running::drill;

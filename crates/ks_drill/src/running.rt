@@ -1,4 +1,5 @@
 ghost use Rattle.std.specs.Prelude.{◌≡◌, ◌≤◌, IfOk};
+ghost use Rattle.ks_base.specs.declared.limits.TheConstants.{DRILL_MEMBERS, DRILL_START};
 ghost use Rattle.ks_machine.specs.Fronts.{first_front};
 ghost use Rattle.ks_state.specs.Standing.{StandsWithAllKept};
 ghost use Rattle.ks_policy.specs.Openings.{plain};
@@ -20,9 +21,9 @@ use std::sync::Wait;
 /// Opens an identity, makes so many members of it who log in, ends the tokens of those with some roles, and validates all tokens.
 /// The text is a line that counts the replies.
 pub fn drill<R: Wait>(alloc: Global, rt: &R, start: u64, count: u32) -> Result<Text, Memory>
-    requires start { start ≤ 1_000_000 }
+    requires start { start ≤ DRILL_START }
     requires least { 1 ≤ count }
-    requires most { count ≤ 2_000 }
+    requires most { count ≤ DRILL_MEMBERS }
     ensures { IfOk result (IsDrill start count) }
 {
     // The rows of the opening fit each other, so that only memory can be wanting.
@@ -47,8 +48,8 @@ fn run<N: First, R: Wait>(
     requires rules { AreDefault opening.value.rules }
     requires front { N.front ≡ first_front (plain opening.value) }
     requires stands { StandsWithAllKept identity N.front }
-    requires start { start ≤ 1_000_000 }
-    requires most { count ≤ 2_000 }
+    requires start { start ≤ DRILL_START }
+    requires most { count ≤ DRILL_MEMBERS }
     ensures { IfOk result (IsDrill start count) }
 {
     let session = Session::<N>::new(alloc, identity)?;

@@ -1,5 +1,6 @@
 //! The steps of a drill. The caller of each call but the logins is the text of the token of its administrator.
 ghost use Rattle.std.specs.Prelude.{◌≡◌, ◌+◌, ◌*◌, ◌<◌, ◌≤◌, ◌^◌, length, IfOk};
+ghost use Rattle.ks_base.specs.declared.limits.TheConstants.{DRILL_MEMBERS, DRILL_START};
 ghost use Rattle.ks_drill.specs.Drill.{checks, drill, ending_if, endings, member, members, role_number};
 
 use crate::calls::copied;
@@ -16,7 +17,7 @@ use std::sync::Wait;
 
 /// Which role a member has.
 fn role_number(start: u64, i: u64) -> u64
-    requires start { start ≤ 1_000_000 }
+    requires start { start ≤ DRILL_START }
     requires member { i < 2 ^ 32 }
     ensures { result ≡ role_number start i }
 {
@@ -32,7 +33,7 @@ fn member<N: First, R: Wait>(
     start: u64,
     i: u32,
 ) -> Result<(Session<N>, Reply), Memory>
-    requires start { start ≤ 1_000_000 }
+    requires start { start ≤ DRILL_START }
     requires calls { session.calls ≤ 8_001 }
     ensures made { IfOk result (λ made. made ≡ member caller.now start i session) }
     ensures calls { IfOk result (λ made. made.0.calls ≡ session.calls + 4) }
@@ -43,7 +44,8 @@ fn member<N: First, R: Wait>(
     let role = role_id(alloc, role_number(start, u64::from(i)))?;
     let (session, _granted) = session.ask(rt, grant(user, project, role), copied(caller)?, None)?;
     let password = numbered(alloc, "w", u64::from(i))?;
-    session.ask(rt, log_in(user, password, project), None, None)
+    let command = log_in(alloc, user, password, project)?;
+    session.ask(rt, command, None, None)
 }
 
 /// Makes so many members, and answers the replies to their logins.
@@ -55,8 +57,8 @@ fn members<N: First, R: Wait>(
     start: u64,
     count: u32,
 ) -> Result<(Session<N>, ListOf<Reply>), Memory>
-    requires start { start ≤ 1_000_000 }
-    requires count { count ≤ 2_000 }
+    requires start { start ≤ DRILL_START }
+    requires count { count ≤ DRILL_MEMBERS }
     requires calls { session.calls ≤ 1 }
     ensures made { IfOk result (λ made. made ≡ members caller.now start count session) }
     ensures calls { IfOk result (λ made. made.0.calls ≤ 8_001) }
@@ -81,7 +83,7 @@ fn ending_if<N: First, R: Wait>(
     i: u64,
     login: &Reply,
 ) -> Result<Session<N>, Memory>
-    requires start { start ≤ 1_000_000 }
+    requires start { start ≤ DRILL_START }
     requires member { i < 2 ^ 32 }
     requires calls { session.calls < 2 ^ 32 }
     ensures ended { IfOk result (λ ended. ended ≡ (ending_if caller.now start i login.now session).0) }
@@ -103,8 +105,8 @@ fn endings<N: First, R: Wait>(
     start: u64,
     logins: &[Reply],
 ) -> Result<Session<N>, Memory>
-    requires start { start ≤ 1_000_000 }
-    requires few { length logins.now ≤ 2_000 }
+    requires start { start ≤ DRILL_START }
+    requires few { length logins.now ≤ DRILL_MEMBERS }
     requires calls { session.calls ≤ 8_001 }
     ensures ended { IfOk result (λ ended. ended ≡ (endings caller.now start 0 logins.now session).0) }
     ensures calls { IfOk result (λ ended. ended.calls ≤ 10_001) }
@@ -123,7 +125,7 @@ fn checks<N: First, R: Wait>(
     caller: &Option<Text>,
     logins: &[Reply],
 ) -> Result<ListOf<Reply>, Memory>
-    requires few { length logins.now ≤ 2_000 }
+    requires few { length logins.now ≤ DRILL_MEMBERS }
     requires calls { session.calls ≤ 10_001 }
     ensures { IfOk result (λ found. found ≡ (checks caller.now logins.now session).1) }
 {
@@ -144,13 +146,13 @@ pub(crate) fn play<N: First, R: Wait>(
     start: u64,
     count: u32,
 ) -> Result<Text, Memory>
-    requires start { start ≤ 1_000_000 }
-    requires most { count ≤ 2_000 }
+    requires start { start ≤ DRILL_START }
+    requires most { count ≤ DRILL_MEMBERS }
     requires first { session.calls ≡ 0 }
     ensures { IfOk result (λ made. made ≡ (drill start count session).1) }
 {
     let password = Text::of(alloc, ROOT)?;
-    let command = log_in(root_id(), password, root_id());
+    let command = log_in(alloc, root_id(), password, root_id())?;
     let (session, login) = session.ask(rt, command, None, None)?;
     let caller = text_in(&login)?;
     let (session, logins) = members(alloc, rt, session, &caller, start, count)?;

@@ -6,7 +6,7 @@ mod check;
 mod credentials;
 mod filling;
 mod kind;
-mod laws;
+pub mod laws;
 mod pieces;
 mod reader;
 mod rule;

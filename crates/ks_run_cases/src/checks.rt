@@ -1,4 +1,4 @@
-//! The tables of `check` and of `password`, and of words that are no command's.
+//! The tables of `check`, of `password` and of `drill`, and of words that are no command's.
 
 use crate::run::{End, Outside, WHOLE, run};
 use anyhow::{Result, ensure};
@@ -37,6 +37,14 @@ pub fn passwords<R: AllocGlobal + Threads + Wait + Sync>(rt: &R, case: &Case) ->
     outside.random = case.bytes(2);
     outside.fails.read = case.number(4)?;
     outside.fails.write = case.number(5)?;
+    let end = run(rt, case.str(0)?, &outside)?;
+    shown(rt.alloc(), &end)
+}
+
+/// Of words, the length of the pieces, and the write that fails: the end of their run and the output.
+pub fn drills<R: AllocGlobal + Threads + Wait + Sync>(rt: &R, case: &Case) -> Result<String> {
+    let mut outside = Outside::of(&[], case.size(1)?);
+    outside.fails.write = case.number(2)?;
     let end = run(rt, case.str(0)?, &outside)?;
     shown(rt.alloc(), &end)
 }

@@ -1,5 +1,5 @@
-//! Tries whole runs of the program's commands on tables of cases, over objects in memory: lines of `check`, passwords, words, connections of
-//! `talk` and of `serve`, folders of keys, openings, whole sessions, of which every byte that is written is compared, and restarts. Prints
+//! Tries whole runs of the program's commands on tables of cases, over objects in memory: lines of `check`, passwords, drills, words, connections
+//! of `talk` and of `serve`, folders of keys, openings, whole sessions, of which every byte that is written is compared, and restarts. Prints
 //! for each table of `data/` how many of its cases held, and what was otherwise.
 #![tactic(auto)]
 
@@ -65,6 +65,7 @@ fn try_commands<R: Files + Print + AllocGlobal + Threads + Wait + Sync>(
         |_alloc, case| checks::check_faults(rt, case),
     )?;
     try_table(rt, "passwords", |_alloc, case| checks::passwords(rt, case))?;
+    try_table(rt, "drills", |_alloc, case| checks::drills(rt, case))?;
     try_table(rt, "words", |_alloc, case| checks::words(rt, case))?;
     let mut session = Session::over(rt, world, "o1")?;
     session.need(rt.alloc(), "499162800", "01")?;

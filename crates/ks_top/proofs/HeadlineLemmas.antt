@@ -286,6 +286,7 @@ does_tell keeping view stream (asked.Serve places connections) old new f state d
 does_tell keeping view stream (asked.Setup places) old new f state does = absurd (cc does.1)
 does_tell keeping view stream (asked.Rotate places max) old new f state does = absurd (cc does.1)
 does_tell keeping view stream (asked.Password rounds) old new f state does = absurd (cc does.1)
+does_tell keeping view stream (asked.Drill start count) old new f state does = absurd (cc does.1)
 does_tell keeping view stream asked.Usage old new f state does = absurd (cc does.2)
 
 -- wherever an identity was opened

@@ -24,7 +24,7 @@ use Rattle.ks_commands.specs.declared.fault.Fault.TheVariants as fault
 use Rattle.ks_top.specs.Identities.{Begins, Opened, Stopped, Stops, anew, early, given, other, unformed, unread}
 use Rattle.ks_top.specs.Laws.{CommandsComplete, ConnectionsComplete, DeskFaultsAreCounted, EndsUnfailed, IsCounted, IsUnfailed, NothingFailed, SomeAcceptRose, StoodStill, places_of}
 use Rattle.ks_commands.specs.Opened.{StopsOpening, StopsRestoring}
-use Rattle.ks_top.specs.Runs.{ChangesKeys, Checks, Does, MakesRecord, Runs}
+use Rattle.ks_top.specs.Runs.{ChangesKeys, Checks, Does, Drills, MakesRecord, Runs}
 use Rattle.ks_top.specs.Serve.{serving, workers_fault}
 use Rattle.ks_top.specs.Serve as serve
 use Rattle.ks_top.specs.Talk.{ServedOne, Talks, ending}
@@ -35,7 +35,7 @@ use Rattle.ks_top.specs.World.{World}
 unfailed_as : (f g : Option Fault) → f ≡ g → EndsUnfailed g → EndsUnfailed f
 unfailed_as f g is ends = subst EndsUnfailed (sym is) ends
 
--- `check`, `password`, `setup` and `rotate`
+-- `check`, `password`, `drill`, `setup` and `rotate`
 
 check_unfailed : {Link Seat K : Type 0} (keeping : Keeping K) (view : Seat → Place Link) (old new : World Link Seat K) (f : Option Fault) → Checks old new f → NothingFailed keeping view old new → EndsUnfailed f
 check_unfailed keeping view old new None checks nothing = tt
@@ -70,6 +70,23 @@ password_unfailed keeping view rounds old new (Some fault.OtherOpening) makes no
 password_unfailed keeping view rounds old new (Some (fault.BadEntry n)) makes nothing = absurd makes.causes
 password_unfailed keeping view rounds old new (Some fault.Folder) makes nothing = absurd makes.causes
 password_unfailed keeping view rounds old new (Some (fault.Keys reason)) makes nothing = absurd makes.causes
+
+drill_unfailed : {Link Seat K : Type 0} (keeping : Keeping K) (view : Seat → Place Link) (start count : ℕ) (old new : World Link Seat K) (f : Option Fault) → Drills start count old new f → NothingFailed keeping view old new → EndsUnfailed f
+drill_unfailed keeping view start count old new None drills nothing = tt
+drill_unfailed keeping view start count old new (Some fault.Write) drills nothing = absurd (nothing.output (drills.writes.writes.rose refl))
+drill_unfailed keeping view start count old new (Some fault.Memory) drills nothing = inl refl
+drill_unfailed keeping view start count old new (Some fault.Read) drills nothing = absurd drills.causes
+drill_unfailed keeping view start count old new (Some (fault.BadLine n)) drills nothing = absurd drills.causes
+drill_unfailed keeping view start count old new (Some fault.Usage) drills nothing = absurd drills.causes
+drill_unfailed keeping view start count old new (Some fault.BadPassword) drills nothing = absurd drills.causes
+drill_unfailed keeping view start count old new (Some (fault.Opening reason)) drills nothing = absurd drills.causes
+drill_unfailed keeping view start count old new (Some (fault.State reason)) drills nothing = absurd drills.causes
+drill_unfailed keeping view start count old new (Some (fault.Keeper why)) drills nothing = absurd drills.causes
+drill_unfailed keeping view start count old new (Some fault.OtherOpening) drills nothing = absurd drills.causes
+drill_unfailed keeping view start count old new (Some (fault.BadEntry n)) drills nothing = absurd drills.causes
+drill_unfailed keeping view start count old new (Some fault.Folder) drills nothing = absurd drills.causes
+drill_unfailed keeping view start count old new (Some (fault.Keys reason)) drills nothing = absurd drills.causes
+drill_unfailed keeping view start count old new (Some fault.Desk) drills nothing = absurd drills.causes
 
 keys_unfailed : {Link Seat K : Type 0} (keeping : Keeping K) (view : Seat → Place Link) (old new : World Link Seat K) (f : Option Fault) → ChangesKeys old new f → NothingFailed keeping view old new → EndsUnfailed f
 keys_unfailed keeping view old new None changes nothing = tt
@@ -276,6 +293,7 @@ does_unfailed keeping view stream (asked.Serve places connections) old new f sta
 does_unfailed keeping view stream (asked.Setup places) old new f state does nothing = keys_unfailed keeping view old new f does.0.changes nothing
 does_unfailed keeping view stream (asked.Rotate places max) old new f state does nothing = keys_unfailed keeping view old new f does.0.changes nothing
 does_unfailed keeping view stream (asked.Password rounds) old new f state does nothing = password_unfailed keeping view rounds old new f does.0 nothing
+does_unfailed keeping view stream (asked.Drill start count) old new f state does nothing = drill_unfailed keeping view start count old new f does.0 nothing
 does_unfailed keeping view stream asked.Usage old new f state does nothing = unfailed_as f (Some fault.Usage) does.0 (inr (inl tt))
 
 pub commands_complete : (Link Seat : Type 0) {K : Type 0} (keeping : Keeping K) → CommandsComplete Link Seat keeping
@@ -287,6 +305,9 @@ commands_complete Link Seat {K} keeping view stream words old new f state (inr n
 
 check_counted : {Link Seat K : Type 0} (old new : World Link Seat K) → Checks old new (Some fault.Desk) → ⊥
 check_counted old new checks = checks.causes
+
+drill_counted : {Link Seat K : Type 0} (start count : ℕ) (old new : World Link Seat K) → Drills start count old new (Some fault.Desk) → ⊥
+drill_counted start count old new drills = drills.causes
 
 stops_counted : {Link Seat K : Type 0} (keeping : Keeping K) (old new : World Link Seat K) (f : Fault) → Stops keeping old new f → f ≡ fault.Desk
     → Rose old.desk.fill_faults new.desk.fill_faults
@@ -393,6 +414,7 @@ does_count keeping view stream (asked.Serve places connections) old new state do
 does_count keeping view stream (asked.Setup places) old new state does = keys_counted keeping view old new state does.1 does.0.changes
 does_count keeping view stream (asked.Rotate places max) old new state does = keys_counted keeping view old new state does.1 does.0.changes
 does_count keeping view stream (asked.Password rounds) old new state does = password_counted keeping view rounds old new state does.1 does.0
+does_count keeping view stream (asked.Drill start count) old new state does = absurd (drill_counted start count old new does.0)
 does_count keeping view stream asked.Usage old new state does = absurd (cc does.0)
 
 pub desk_faults_are_counted : (Link Seat : Type 0) {K : Type 0} (keeping : Keeping K) → DeskFaultsAreCounted Link Seat keeping

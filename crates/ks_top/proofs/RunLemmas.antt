@@ -16,7 +16,8 @@ use Rattle.ks_commands.specs.declared.fault.Fault.TheVariants as fault
 use Rattle.ks_commands.specs.Ending.{EndsCheck, IsStreamFault, result_of}
 use Rattle.ks_commands.specs.KeyFolders.{EndsRotation, EndsSetup, IsFolderFault, OnlyDraws}
 use Rattle.ks_commands.specs.Passwords.{DrawsOnce, EndsPassword, IsPasswordFault, ReadsFront}
-use Rattle.ks_top.specs.Runs.{ChangesKeys, Checks, Does, MakesRecord, Rotates, Runs, SetsUp, outside}
+use Rattle.ks_top.specs.Drills.{EndsDrill, IsDrillFault}
+use Rattle.ks_top.specs.Runs.{ChangesKeys, Checks, Does, Drills, MakesRecord, Rotates, Runs, SetsUp, outside}
 use Rattle.ks_top.specs.World.{World}
 use Rattle.ks_commands.proofs.CountLemmas.{counts_for, reads_for}
 
@@ -129,4 +130,16 @@ makes_record rounds old new r f is says = subst (MakesRecord rounds old new) (sy
   drew = says.drew;
   writes = writes_for (r ≡ Err fault.Write) (fault_in r ≡ Some fault.Write) old.output new.output (err_of r fault.Write) says.writes;
   others = says.others;
+})
+
+abbrev TellsDrill : {Link Seat K : Type 0} → ℕ → ℕ → World Link Seat K → World Link Seat K → Result (Unit {0}) Fault → Type 0
+TellsDrill start count old new r = (before : List ℕ) → old.output.written ≡ Some before → EndsDrill start count before new.output.written r
+
+pub drills : {Link Seat K : Type 0} (start count : ℕ) (old new : World Link Seat K) (r : Result (Unit {0}) Fault) (f : Option Fault) → f ≡ fault_in r → TellsDrill start count old new r
+    → IfErr r IsDrillFault → OnlyWrites (r ≡ Err fault.Write) old.output new.output → new ≡ record old { output = new.output } → Drills start count old new f
+drills start count old new r f is told causes writes others = subst (Drills start count old new) (sym is) (record {
+  told = λ before written. subst (EndsDrill start count before new.output.written) (sym (same_result r)) (told before written);
+  causes = caused IsDrillFault r causes;
+  writes = writes_for (r ≡ Err fault.Write) (fault_in r ≡ Some fault.Write) old.output new.output (err_of r fault.Write) writes;
+  others = others;
 })

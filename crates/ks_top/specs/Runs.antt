@@ -16,6 +16,7 @@ use Rattle.ks_commands.specs.declared.fault.Fault.TheVariants as fault
 use Rattle.ks_commands.specs.Ending.{EndsCheck, IsStreamFault, result_of}
 use Rattle.ks_commands.specs.KeyFolders.{EndsRotation, EndsSetup, IsFolderFault, OnlyDraws, Outside}
 use Rattle.ks_commands.specs.Passwords.{DrawsOnce, EndsPassword, IsPasswordFault, ReadsFront}
+use Rattle.ks_top.specs.Drills.{EndsDrill, IsDrillFault}
 use Rattle.ks_top.specs.Serve.{Serves}
 use Rattle.ks_top.specs.Talk.{Talks}
 use Rattle.ks_top.specs.World.{World}
@@ -67,6 +68,13 @@ pub record MakesRecord {Link Seat K : Type 0} (rounds : ℕ) (old new : World Li
   pub writes : OnlyWrites (f ≡ Some fault.Write) old.output new.output
   pub others : new ≡ record old { input = new.input; output = new.output; desk = new.desk }
 
+-- a drill writes its output, and touches nothing else
+pub record Drills {Link Seat K : Type 0} (start count : ℕ) (old new : World Link Seat K) (f : Option Fault) : Type 0 where
+  pub told : (before : List ℕ) → old.output.written ≡ Some before → EndsDrill start count before new.output.written (result_of f)
+  pub causes : IfSome f IsDrillFault
+  pub writes : OnlyWrites (f ≡ Some fault.Write) old.output new.output
+  pub others : new ≡ record old { output = new.output }
+
 -- a command does this, and `talk` and `serve` alone have an identity at their end and touch the keeper
 unfoldable pub Does : {Link Seat K : Type 0} → Keeping K → (Seat → Place Link) → (Link → StreamState) → Words → World Link Seat K → World Link Seat K → Option Fault → Option (BookedState K) → Type 0
 Does keeping view stream asked.Check old new f state = Checks old new f × (state ≡ None)
@@ -75,6 +83,7 @@ Does keeping view stream (asked.Serve places connections) old new f state = Serv
 Does keeping view stream (asked.Setup places) old new f state = SetsUp old new f × (state ≡ None)
 Does keeping view stream (asked.Rotate places max) old new f state = Rotates max old new f × (state ≡ None)
 Does keeping view stream (asked.Password rounds) old new f state = MakesRecord rounds old new f × (state ≡ None)
+Does keeping view stream (asked.Drill start count) old new f state = Drills start count old new f × (state ≡ None)
 Does keeping view stream asked.Usage old new f state = (f ≡ Some fault.Usage) × (new ≡ old) × (state ≡ None)
 
 -- there was no memory to read the words: nothing happened

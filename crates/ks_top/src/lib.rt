@@ -2,6 +2,7 @@
 #![tactic(auto)]
 
 mod begun;
+mod drill;
 mod laws;
 mod opened;
 mod outcome;

@@ -8,6 +8,7 @@ ghost use Rattle.ks_top.specs.Runs.{Runs};
 ghost use Rattle.ks_top.specs.World.{HasKeeper};
 ghost use Rattle.ks_top.specs.steps.Ends.{keeper_at, state_at};
 
+use crate::drill::drill;
 use crate::laws::{
     changes_are_determined, commands_complete, connections_complete, desk_faults_are_counted,
     refused_ever_after, requests_complete, restart_forgets_nothing, told_is_kept,
@@ -20,6 +21,7 @@ use ks_commands::Fault;
 use ks_commands::check::check;
 use ks_commands::key_folder::{rotate, set_up};
 use ks_commands::password::make_record;
+use ks_drill::drill_says_one_line;
 use ks_keep::Booked;
 use ks_keeper::Keeper;
 use ks_outside::{Desk, KeyDir, Sink, Source};
@@ -55,6 +57,9 @@ pub struct Ended<P, D, B: Keeper> {
 ///
 /// `password [--rounds N]` reads a password, the first line of the input, and writes what an opening file may hold in its
 /// place: the text of its record, derived with 16 random bytes of the first desk.
+///
+/// `drill START COUNT` makes calls to an identity of its own, and writes a line that counts their replies. Nothing but the output
+/// is touched.
 ///
 /// `serve FILE FOLDER ADDRESS [--workers N] [--connections N]` begins as `talk` does, and serves with the first
 /// N desks beside each other, 4 where N is not said and never more than there are. Each accepts links and serves them one
@@ -114,6 +119,7 @@ where
     refused_ever_after::<P::Link, (P, D), B>();
     told_is_kept::<P::Link, (P, D), B>();
     restart_forgets_nothing::<P::Link, (P, D), B>();
+    drill_says_one_line();
     let (Outcome { fault, end }, desks) = run_command(
         rt, words, input, file, output, dir, desks, keeper,
     );
@@ -190,6 +196,9 @@ where
             let (desk, _place) = &mut desks[0];
             let outcome = Outcome::of(make_record(rt.alloc(), rounds, input, desk, output), keeper);
             (outcome, desks)
+        }
+        Ok(Words::Drill(start, count)) => {
+            (Outcome::of(drill(rt, start, count, output), keeper), desks)
         }
         Ok(Words::Usage) => (Outcome::stopped(Fault::Usage, keeper), desks),
         Err(_) => (Outcome::stopped(Fault::Memory, keeper), desks),

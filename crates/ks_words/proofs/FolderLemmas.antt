@@ -8,7 +8,8 @@ use Rattle.clap.specs.Words.{Row, first_of, matches_of}
 use Rattle.ks_words.specs.declared.words.Places.{Places}
 use Rattle.ks_words.specs.declared.words.Words.{Words}
 use Rattle.ks_words.specs.declared.words.Words.TheVariants.{Setup, Rotate, Usage}
-use Rattle.ks_words.specs.Words.{Form, IsInRange, check, check_app, folder_places, is_dashed, is_open, max_said, names_option, password_app, read_by, rotate, rotate_app, rotated_with, rows_read, serve_app, setup, setup_app, talk, talk_app, words_of}
+use Rattle.ks_words.specs.Words.{Form, IsInRange, check, check_app, drill_app, folder_places, is_dashed, is_open, max_said, names_option, password_app, read_by, rotate, rotate_app, rotated_with, rows_read, serve_app, setup, setup_app, talk, talk_app, words_of}
+use Rattle.ks_words.proofs.DrillLemmas.{drill_is_other}
 use Rattle.ks_words.proofs.FolderWordLemmas.{folder_is_first, folder_is_rotated, folder_rotated, folder_taken, no_folder_fault, no_max_is_said, two_folders_fault}
 use Rattle.ks_words.proofs.NameLemmas.{any_name, is_name, named_rotate, named_setup, not_named}
 use Rattle.ks_words.proofs.NumberLemmas.{number_within}
@@ -152,6 +153,7 @@ setup_words_are (name ∷ rest) places =
     (λ e. absurd (rotate_is_not (rows_read rotate_app (name ∷ rest)) places e))
     (λ e. absurd ((serve_is_other (rows_read serve_app (name ∷ rest)) places).2 e))
     (λ e. absurd ((password_is_other (rows_read password_app (name ∷ rest)) places).2 e))
+    (λ e. absurd ((drill_is_other (rows_read drill_app (name ∷ rest)) places).2 e))
     (λ e. cc)
 
 pub setup_words_give : (folder : List ℕ) → is_dashed folder ≡ false → words_of (codes "setup" ∷ folder ∷ []) ≡ Setup (folder_places (Some folder))

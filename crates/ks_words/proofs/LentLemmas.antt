@@ -6,8 +6,8 @@ use Rattle.std.specs.Str.{bytes_eq}
 use Rattle.ks_base.specs.declared.memory.Memory.{Memory}
 use Rattle.ks_words.specs.declared.words.Words.{Words}
 use Rattle.ks_words.specs.declared.words.Words.TheVariants.{Usage}
-use Rattle.ks_words.specs.Words.{check, password, read_by, rotate, serve, setup, talk, words_of}
-use Rattle.ks_words.proofs.NameLemmas.{named_check, named_else, named_password, named_rotate, named_serve, named_setup, named_talk, not_named}
+use Rattle.ks_words.specs.Words.{check, drill, password, read_by, rotate, serve, setup, talk, words_of}
+use Rattle.ks_words.proofs.NameLemmas.{named_check, named_drill, named_else, named_password, named_rotate, named_serve, named_setup, named_talk, not_named}
 
 abbrev texts : List (Bor (List ℕ)) → List (List ℕ)
 texts lent = map (λ word. word.now) lent
@@ -55,12 +55,21 @@ pub password_lent : (words : List (List ℕ)) (lent : List (Bor (List ℕ))) (na
 password_lent words lent name b d e r v w are first is h also g third f fourth k fifth j sixth i =
     sym (named_password (texts lent) name.now b d e r v w (first_text lent name first) is h also g third f fourth k fifth j sixth i) ∙ ap words_of are
 
-pub else_lent : (words : List (List ℕ)) (lent : List (Bor (List ℕ))) (name : Bor (List ℕ)) (b d e r v w : Bool) → map (λ word. word.now) lent ≡ words
+pub drill_lent : (words : List (List ℕ)) (lent : List (Bor (List ℕ))) (name : Bor (List ℕ)) (b d e r v w x : Bool) → map (λ word. word.now) lent ≡ words
     → Some name ≡ slice_get lent 0 → b ≡ bytes_eq name.now (codes "check") → b ≡ false → d ≡ bytes_eq name.now (codes "talk") → d ≡ false
     → e ≡ bytes_eq name.now (codes "setup") → e ≡ false → r ≡ bytes_eq name.now (codes "rotate") → r ≡ false
-    → v ≡ bytes_eq name.now (codes "serve") → v ≡ false → w ≡ bytes_eq name.now (codes "password") → w ≡ false → Usage ≡ words_of words
-else_lent words lent name b d e r v w are first is h also g third f fourth k fifth j sixth i =
-    sym (named_else (texts lent) name.now b d e r v w (first_text lent name first) is h also g third f fourth k fifth j sixth i) ∙ ap words_of are
+    → v ≡ bytes_eq name.now (codes "serve") → v ≡ false → w ≡ bytes_eq name.now (codes "password") → w ≡ false
+    → x ≡ bytes_eq name.now (codes "drill") → x ≡ true → read_by drill (map (λ word. word.now) lent) ≡ words_of words
+drill_lent words lent name b d e r v w x are first is h also g third f fourth k fifth j sixth i seventh l =
+    sym (named_drill (texts lent) name.now b d e r v w x (first_text lent name first) is h also g third f fourth k fifth j sixth i seventh l) ∙ ap words_of are
+
+pub else_lent : (words : List (List ℕ)) (lent : List (Bor (List ℕ))) (name : Bor (List ℕ)) (b d e r v w x : Bool) → map (λ word. word.now) lent ≡ words
+    → Some name ≡ slice_get lent 0 → b ≡ bytes_eq name.now (codes "check") → b ≡ false → d ≡ bytes_eq name.now (codes "talk") → d ≡ false
+    → e ≡ bytes_eq name.now (codes "setup") → e ≡ false → r ≡ bytes_eq name.now (codes "rotate") → r ≡ false
+    → v ≡ bytes_eq name.now (codes "serve") → v ≡ false → w ≡ bytes_eq name.now (codes "password") → w ≡ false
+    → x ≡ bytes_eq name.now (codes "drill") → x ≡ false → Usage ≡ words_of words
+else_lent words lent name b d e r v w x are first is h also g third f fourth k fifth j sixth i seventh l =
+    sym (named_else (texts lent) name.now b d e r v w x (first_text lent name first) is h also g third f fourth k fifth j sixth i seventh l) ∙ ap words_of are
 
 pub none_lent : (words : List (List ℕ)) (lent : List (Bor (List ℕ))) → map (λ word. word.now) lent ≡ words → None ≡ slice_get lent 0 → Usage ≡ words_of words
 none_lent words [] are first = sym (not_named [] refl) ∙ ap words_of are

@@ -1,3 +1,4 @@
+pub mod DrillLemmas
 pub mod FolderLemmas
 pub mod FolderWordLemmas
 pub mod FrontLemmas

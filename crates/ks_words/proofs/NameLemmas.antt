@@ -6,7 +6,7 @@ use Rattle.std.proofs.lemmas.Bool.{cases_Bool}
 use Rattle.std.proofs.lemmas.Slice.Eq.{bytes_eq-Decides}
 use Rattle.ks_words.specs.declared.words.Words.{Words}
 use Rattle.ks_words.specs.declared.words.Words.TheVariants.{Usage}
-use Rattle.ks_words.specs.Words.{check, password, read_by, rotate, serve, setup, talk, words_of}
+use Rattle.ks_words.specs.Words.{check, drill, password, read_by, rotate, serve, setup, talk, words_of}
 
 pub named_check : (words : List (List ℕ)) (name : List ℕ) (b : Bool) → slice_get words 0 ≡ Some name → b ≡ bytes_eq name (codes "check") → b ≡ true
     → words_of words ≡ read_by check words
@@ -88,18 +88,35 @@ named_password (word ∷ words) name b d e r v w first is h also g third f fourt
     let last : bytes_eq word (codes "password") ≡ true = ap (λ w. bytes_eq w (codes "password")) same ∙ sym sixth ∙ i in
     rw (tests.check_no, tests.talk_no, tests.setup_no, next, later, last) refl
 
-pub named_else : (words : List (List ℕ)) (name : List ℕ) (b d e r v w : Bool) → slice_get words 0 ≡ Some name → b ≡ bytes_eq name (codes "check") → b ≡ false
+pub named_drill : (words : List (List ℕ)) (name : List ℕ) (b d e r v w x : Bool) → slice_get words 0 ≡ Some name → b ≡ bytes_eq name (codes "check") → b ≡ false
     → d ≡ bytes_eq name (codes "talk") → d ≡ false → e ≡ bytes_eq name (codes "setup") → e ≡ false → r ≡ bytes_eq name (codes "rotate") → r ≡ false
-    → v ≡ bytes_eq name (codes "serve") → v ≡ false → w ≡ bytes_eq name (codes "password") → w ≡ false → words_of words ≡ Usage
+    → v ≡ bytes_eq name (codes "serve") → v ≡ false → w ≡ bytes_eq name (codes "password") → w ≡ false
+    → x ≡ bytes_eq name (codes "drill") → x ≡ true → words_of words ≡ read_by drill words
 unfolding words_of
-named_else [] name b d e r v w first is h also g third f fourth k fifth j sixth i = cc
-named_else (word ∷ words) name b d e r v w first is h also g third f fourth k fifth j sixth i =
+named_drill [] name b d e r v w x first is h also g third f fourth k fifth j sixth i seventh l = cc
+named_drill (word ∷ words) name b d e r v w x first is h also g third f fourth k fifth j sixth i seventh l =
     let same : word ≡ name = cc in
     let tests = not_first word name b d e same is h also g third f in
     let next : bytes_eq word (codes "rotate") ≡ false = ap (λ w. bytes_eq w (codes "rotate")) same ∙ sym fourth ∙ k in
     let later : bytes_eq word (codes "serve") ≡ false = ap (λ w. bytes_eq w (codes "serve")) same ∙ sym fifth ∙ j in
-    let last : bytes_eq word (codes "password") ≡ false = ap (λ w. bytes_eq w (codes "password")) same ∙ sym sixth ∙ i in
-    rw (tests.check_no, tests.talk_no, tests.setup_no, next, later, last) refl
+    let further : bytes_eq word (codes "password") ≡ false = ap (λ w. bytes_eq w (codes "password")) same ∙ sym sixth ∙ i in
+    let last : bytes_eq word (codes "drill") ≡ true = ap (λ w. bytes_eq w (codes "drill")) same ∙ sym seventh ∙ l in
+    rw (tests.check_no, tests.talk_no, tests.setup_no, next, later, further, last) refl
+
+pub named_else : (words : List (List ℕ)) (name : List ℕ) (b d e r v w x : Bool) → slice_get words 0 ≡ Some name → b ≡ bytes_eq name (codes "check") → b ≡ false
+    → d ≡ bytes_eq name (codes "talk") → d ≡ false → e ≡ bytes_eq name (codes "setup") → e ≡ false → r ≡ bytes_eq name (codes "rotate") → r ≡ false
+    → v ≡ bytes_eq name (codes "serve") → v ≡ false → w ≡ bytes_eq name (codes "password") → w ≡ false
+    → x ≡ bytes_eq name (codes "drill") → x ≡ false → words_of words ≡ Usage
+unfolding words_of
+named_else [] name b d e r v w x first is h also g third f fourth k fifth j sixth i seventh l = cc
+named_else (word ∷ words) name b d e r v w x first is h also g third f fourth k fifth j sixth i seventh l =
+    let same : word ≡ name = cc in
+    let tests = not_first word name b d e same is h also g third f in
+    let next : bytes_eq word (codes "rotate") ≡ false = ap (λ w. bytes_eq w (codes "rotate")) same ∙ sym fourth ∙ k in
+    let later : bytes_eq word (codes "serve") ≡ false = ap (λ w. bytes_eq w (codes "serve")) same ∙ sym fifth ∙ j in
+    let further : bytes_eq word (codes "password") ≡ false = ap (λ w. bytes_eq w (codes "password")) same ∙ sym sixth ∙ i in
+    let last : bytes_eq word (codes "drill") ≡ false = ap (λ w. bytes_eq w (codes "drill")) same ∙ sym seventh ∙ l in
+    rw (tests.check_no, tests.talk_no, tests.setup_no, next, later, further, last) refl
 
 pub not_named : (words : List (List ℕ)) → slice_get words 0 ≡ None → words_of words ≡ Usage
 unfolding words_of
@@ -114,36 +131,39 @@ talk_name name rest h g = named_talk (name ∷ rest) name false true refl (sym h
 
 -- whatever holds of the other commands holds of the words of another name
 of_later : (P : Words → Type 0) (name : List ℕ) (rest : List (List ℕ)) → bytes_eq name (codes "check") ≡ false → bytes_eq name (codes "talk") ≡ false
-    → bytes_eq name (codes "setup") ≡ false → P (read_by rotate (name ∷ rest)) → P (read_by serve (name ∷ rest)) → P (read_by password (name ∷ rest)) → P Usage
-    → P (words_of (name ∷ rest))
-of_later P name rest h g e of_rotate of_serve of_password of_none = elim (cases_Bool (bytes_eq name (codes "rotate"))) [
+    → bytes_eq name (codes "setup") ≡ false → P (read_by rotate (name ∷ rest)) → P (read_by serve (name ∷ rest)) → P (read_by password (name ∷ rest))
+    → P (read_by drill (name ∷ rest)) → P Usage → P (words_of (name ∷ rest))
+of_later P name rest h g e of_rotate of_serve of_password of_drill of_none = elim (cases_Bool (bytes_eq name (codes "rotate"))) [
   | inl r ↦ subst P (sym (named_rotate (name ∷ rest) name false false false true refl (sym h) refl (sym g) refl (sym e) refl (sym r) refl)) of_rotate
   | inr r ↦ elim (cases_Bool (bytes_eq name (codes "serve"))) [
     | inl v ↦ subst P (sym (named_serve (name ∷ rest) name false false false false true refl (sym h) refl (sym g) refl (sym e) refl (sym r) refl (sym v) refl)) of_serve
     | inr v ↦ elim (cases_Bool (bytes_eq name (codes "password"))) [
       | inl w ↦ subst P (sym (named_password (name ∷ rest) name false false false false false true refl (sym h) refl (sym g) refl (sym e) refl (sym r) refl (sym v) refl (sym w) refl)) of_password
-      | inr w ↦ subst P (sym (named_else (name ∷ rest) name false false false false false false refl (sym h) refl (sym g) refl (sym e) refl (sym r) refl (sym v) refl (sym w) refl)) of_none
+      | inr w ↦ elim (cases_Bool (bytes_eq name (codes "drill"))) [
+        | inl x ↦ subst P (sym (named_drill (name ∷ rest) name false false false false false false true refl (sym h) refl (sym g) refl (sym e) refl (sym r) refl (sym v) refl (sym w) refl (sym x) refl)) of_drill
+        | inr x ↦ subst P (sym (named_else (name ∷ rest) name false false false false false false false refl (sym h) refl (sym g) refl (sym e) refl (sym r) refl (sym v) refl (sym w) refl (sym x) refl)) of_none
+      ]
     ]
   ]
 ]
 
 pub other_name : (P : Words → Type 0) (name : List ℕ) (rest : List (List ℕ)) → bytes_eq name (codes "check") ≡ false → bytes_eq name (codes "talk") ≡ false
     → (bytes_eq name (codes "setup") ≡ true → P (read_by setup (name ∷ rest))) → P (read_by rotate (name ∷ rest)) → P (read_by serve (name ∷ rest))
-    → P (read_by password (name ∷ rest)) → P Usage → P (words_of (name ∷ rest))
-other_name P name rest h g of_setup of_rotate of_serve of_password of_none = elim (cases_Bool (bytes_eq name (codes "setup"))) [
+    → P (read_by password (name ∷ rest)) → P (read_by drill (name ∷ rest)) → P Usage → P (words_of (name ∷ rest))
+other_name P name rest h g of_setup of_rotate of_serve of_password of_drill of_none = elim (cases_Bool (bytes_eq name (codes "setup"))) [
   | inl e ↦ subst P (sym (named_setup (name ∷ rest) name false false true refl (sym h) refl (sym g) refl (sym e) refl)) (of_setup e)
-  | inr e ↦ of_later P name rest h g e of_rotate of_serve of_password of_none
+  | inr e ↦ of_later P name rest h g e of_rotate of_serve of_password of_drill of_none
 ]
 
 -- whatever holds of all commands, and where there is none, holds of any words
 pub any_name : (P : Words → Type 0) (name : List ℕ) (rest : List (List ℕ)) → P (read_by check (name ∷ rest)) → P (read_by talk (name ∷ rest))
     → (bytes_eq name (codes "setup") ≡ true → P (read_by setup (name ∷ rest))) → P (read_by rotate (name ∷ rest)) → P (read_by serve (name ∷ rest))
-    → P (read_by password (name ∷ rest)) → P Usage → P (words_of (name ∷ rest))
-any_name P name rest of_check of_talk of_setup of_rotate of_serve of_password of_none = elim (cases_Bool (bytes_eq name (codes "check"))) [
+    → P (read_by password (name ∷ rest)) → P (read_by drill (name ∷ rest)) → P Usage → P (words_of (name ∷ rest))
+any_name P name rest of_check of_talk of_setup of_rotate of_serve of_password of_drill of_none = elim (cases_Bool (bytes_eq name (codes "check"))) [
   | inl h ↦ subst P (sym (check_name name rest h)) of_check
   | inr h ↦ elim (cases_Bool (bytes_eq name (codes "talk"))) [
     | inl g ↦ subst P (sym (talk_name name rest h g)) of_talk
-    | inr g ↦ other_name P name rest h g of_setup of_rotate of_serve of_password of_none
+    | inr g ↦ other_name P name rest h g of_setup of_rotate of_serve of_password of_drill of_none
   ]
 ]
 

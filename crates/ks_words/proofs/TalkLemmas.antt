@@ -8,7 +8,8 @@ use Rattle.clap.specs.Words.{Row, first_of, matches_of}
 use Rattle.ks_words.specs.declared.words.Places.{Places}
 use Rattle.ks_words.specs.declared.words.Words.{Words}
 use Rattle.ks_words.specs.declared.words.Words.TheVariants.{Check, Talk, Usage}
-use Rattle.ks_words.specs.Words.{check, check_app, is_dashed, is_open, max_said, names_option, password, password_app, read_by, rotate, rotate_app, rotated_with, rows_read, serve, serve_app, setup, setup_app, talk, talk_app, talk_places, words_of}
+use Rattle.ks_words.specs.Words.{check, check_app, drill, drill_app, is_dashed, is_open, max_said, names_option, password, password_app, read_by, rotate, rotate_app, rotated_with, rows_read, serve, serve_app, setup, setup_app, talk, talk_app, talk_places, words_of}
+use Rattle.ks_words.proofs.DrillLemmas.{drill_is_other}
 use Rattle.ks_words.proofs.NameLemmas.{check_name, is_name, not_named, other_name, talk_name}
 use Rattle.ks_words.proofs.PasswordLemmas.{password_is_other}
 use Rattle.ks_words.proofs.ReadLemmas.{read_fault, read_none, read_some}
@@ -140,12 +141,18 @@ password_is_neither found places =
     let other = password_is_other found places in
     (other.0, other.1)
 
+drill_is_neither : (found : Option (List Row)) (places : Places) → IsNeither places (option_map_or drill.meaning found Usage)
+drill_is_neither found places =
+    let other = drill_is_other found places in
+    (other.0, other.1)
+
 other_is_neither : (name : List ℕ) (rest : List (List ℕ)) (places : Places) → bytes_eq name (codes "check") ≡ false → bytes_eq name (codes "talk") ≡ false
     → IsNeither places (words_of (name ∷ rest))
 unfolding read_by
 other_is_neither name rest places h g =
     other_name (IsNeither places) name rest h g (λ e. setup_found (rows_read setup_app (name ∷ rest)) places) (rotate_found (rows_read rotate_app (name ∷ rest)) places)
-    (serve_is_neither (rows_read serve_app (name ∷ rest)) places) (password_is_neither (rows_read password_app (name ∷ rest)) places) (λ e. cc, λ e. cc)
+    (serve_is_neither (rows_read serve_app (name ∷ rest)) places) (password_is_neither (rows_read password_app (name ∷ rest)) places)
+    (drill_is_neither (rows_read drill_app (name ∷ rest)) places) (λ e. cc, λ e. cc)
 
 pub check_words_are : (words : List (List ℕ)) → words_of words ≡ Check → words ≡ codes "check" ∷ []
 check_words_are [] e = not_usage _ (not_named [] refl) e

@@ -7,10 +7,10 @@ use Rattle.std.specs.Str.{bytes_eq}
 use Rattle.std.specs.Str.Parse.{digits_value, without_leading_plus}
 use Rattle.clap.specs.Kinds.{Kinds}
 use Rattle.clap.specs.Words.{App, Row, Rule, fault_of, first_of, matches_of, new_app, new_rule, with_rule}
-use Rattle.ks_base.specs.declared.limits.TheConstants.{KEYS, FEWEST_KEYS, DEFAULT_KEYS, WORKERS, DEFAULT_WORKERS, CONNECTIONS, ROUNDS, DEFAULT_ROUNDS}
+use Rattle.ks_base.specs.declared.limits.TheConstants.{KEYS, FEWEST_KEYS, DEFAULT_KEYS, WORKERS, DEFAULT_WORKERS, CONNECTIONS, ROUNDS, DEFAULT_ROUNDS, DRILL_START, DRILL_MEMBERS}
 use Rattle.ks_words.specs.declared.words.Places.{Places}
 use Rattle.ks_words.specs.declared.words.Words.{Words}
-use Rattle.ks_words.specs.declared.words.Words.TheVariants.{Check, Talk, Serve, Setup, Rotate, Password, Usage}
+use Rattle.ks_words.specs.declared.words.Words.TheVariants.{Check, Talk, Serve, Setup, Rotate, Password, Drill, Usage}
 
 -- the word begins with `-`
 abbrev pub is_dashed : List ℕ → Bool
@@ -140,8 +140,17 @@ abbrev pub rounds_said : Option (List ℕ) → Option ℕ
 rounds_said None = Some DEFAULT_ROUNDS
 rounds_said (Some word) = number_between 1 ROUNDS word
 
+abbrev pub drill_app : App
+drill_app = with_rule (with_rule (new_app (codes "drill")) (required_word (codes "start"))) (required_word (codes "count"))
+
+-- the number within these bounds, where a word was said
+abbrev pub number_said : ℕ → ℕ → Option (List ℕ) → Option ℕ
+number_said least most None = None
+number_said least most (Some word) = number_between least most word
+
 -- the numbers that a command was told: a rotation leaves from 2 to 32 keys; from 1 to 32 workers serve, and
--- each is told of at most 1,000,000 connections; a password is derived by 1 to 100,000 rounds
+-- each is told of at most 1,000,000 connections; a password is derived by 1 to 100,000 rounds; a drill starts at
+-- 1,000,000 at most, and has from 1 to 2,000 members
 abbrev pub IsInRange : Words → Type 0
 IsInRange (Rotate places max) = (FEWEST_KEYS ≤ max) × (max ≤ KEYS)
 IsInRange (Serve places connections) = (1 ≤ places.workers) × (places.workers ≤ WORKERS) × (connections ≤ CONNECTIONS)
@@ -149,6 +158,7 @@ IsInRange Check = Unit {0}
 IsInRange (Talk places) = Unit {0}
 IsInRange (Setup places) = Unit {0}
 IsInRange (Password rounds) = (1 ≤ rounds) × (rounds ≤ ROUNDS)
+IsInRange (Drill start count) = (start ≤ DRILL_START) × (1 ≤ count) × (count ≤ DRILL_MEMBERS)
 IsInRange Usage = Unit {0}
 
 -- the path of the opening file that a command names
@@ -159,6 +169,7 @@ file_in (Serve places connections) = places.file
 file_in (Setup places) = None
 file_in (Rotate places max) = None
 file_in (Password rounds) = None
+file_in (Drill start count) = None
 file_in Usage = None
 
 -- the path of the folder that a command names
@@ -169,6 +180,7 @@ folder_in (Serve places connections) = places.folder
 folder_in (Setup places) = places.folder
 folder_in (Rotate places max) = places.folder
 folder_in (Password rounds) = None
+folder_in (Drill start count) = None
 folder_in Usage = None
 
 -- the address to listen at that a command names
@@ -179,6 +191,7 @@ address_in (Serve places connections) = places.address
 address_in (Setup places) = None
 address_in (Rotate places max) = None
 address_in (Password rounds) = None
+address_in (Drill start count) = None
 address_in Usage = None
 
 -- the path of the log of requests that a command names
@@ -189,6 +202,7 @@ log_in (Serve places connections) = places.log
 log_in (Setup places) = None
 log_in (Rotate places max) = None
 log_in (Password rounds) = None
+log_in (Drill start count) = None
 log_in Usage = None
 
 abbrev pub rotated_with : Option (List ℕ) → Option ℕ → Words
@@ -220,8 +234,19 @@ derived_by (Some rounds) = Password rounds
 abbrev pub password : Form
 password = record { app = password_app; meaning = λ rows. derived_by (rounds_said (first_of (codes "rounds") rows)) }
 
+abbrev pub drilled_with : Option ℕ → Option ℕ → Words
+drilled_with None count = Usage
+drilled_with (Some start) None = Usage
+drilled_with (Some start) (Some count) = Drill start count
+
+abbrev pub drill : Form
+drill = record {
+  app = drill_app;
+  meaning = λ rows. drilled_with (number_said 0 DRILL_START (first_of (codes "start") rows)) (number_said 1 DRILL_MEMBERS (first_of (codes "count") rows));
+}
+
 abbrev pub forms : List Form
-forms = check ∷ talk ∷ setup ∷ rotate ∷ serve ∷ password ∷ []
+forms = check ∷ talk ∷ setup ∷ rotate ∷ serve ∷ password ∷ drill ∷ []
 
 -- what the words of a command mean
 unfoldable pub read_by : Form → List (List ℕ) → Words

@@ -1,12 +1,13 @@
 ghost use Rattle.std.specs.Prelude.{◌≡◌, IfOk, codes, map, option_map};
 ghost use Rattle.clap.specs.Words.{app_of, first_value, found_of};
-ghost use Rattle.ks_words.specs.Words.{check, check_app, connections_said, folder_places, max_said, number_between, password, password_app, places_app, read_by, rotate, rotate_app, rounds_said, serve, serve_app, serve_places, setup, setup_app, talk, talk_app, workers_said};
+ghost use Rattle.ks_words.specs.Words.{check, check_app, connections_said, drill, drill_app, folder_places, max_said, number_between, number_said, password, password_app, places_app, read_by, rotate, rotate_app, rounds_said, serve, serve_app, serve_places, setup, setup_app, talk, talk_app, workers_said};
 
 use crate::reader::parsed;
 use crate::words::{Places, Words};
 use clap::{Arg, ArgMatches, Command};
 use ks_base::limits::{
-    CONNECTIONS, DEFAULT_KEYS, DEFAULT_ROUNDS, DEFAULT_WORKERS, FEWEST_KEYS, KEYS, ROUNDS, WORKERS,
+    CONNECTIONS, DEFAULT_KEYS, DEFAULT_ROUNDS, DEFAULT_WORKERS, DRILL_MEMBERS, DRILL_START,
+    FEWEST_KEYS, KEYS, ROUNDS, WORKERS,
 };
 use ks_base::{Memory, Text};
 use std::alloc::{AllocError, Global};
@@ -237,5 +238,39 @@ fn rounds_of(matches: &ArgMatches<'_>) -> Option<u32>
     match matches.get_str("rounds") {
         Some(word) => number_between(word, 1, ROUNDS),
         None => Some(DEFAULT_ROUNDS),
+    }
+}
+
+/// `drill START COUNT`.
+pub(crate) fn read_drill(alloc: Global, words: &[&str]) -> Result<Words, Memory>
+    ensures { IfOk result (λ read. read ≡ read_by drill (map (λ word. word.now) words.now)) }
+{
+    let Some(matches) = parsed(drill_command(alloc)?, words)? else {
+        return Ok(Words::Usage);
+    };
+    let Some(start) = number_of(&matches, "start", 0, DRILL_START) else {
+        return Ok(Words::Usage);
+    };
+    match number_of(&matches, "count", 1, DRILL_MEMBERS) {
+        Some(count) => Ok(Words::Drill(u64::from(start), count)),
+        None => Ok(Words::Usage),
+    }
+}
+
+fn drill_command<'a>(alloc: Global) -> Result<Command<'a>, AllocError>
+    ensures { IfOk result (λ command. app_of command ≡ drill_app) }
+{
+    let start = Arg::new(alloc, "start").required(true);
+    let count = Arg::new(alloc, "count").required(true);
+    Command::new(alloc, "drill").arg(start)?.arg(count)
+}
+
+/// The number within these bounds that the first value of an argument writes.
+fn number_of(matches: &ArgMatches<'_>, id: &str, least: u32, most: u32) -> Option<u32>
+    ensures { result ≡ number_said least most (first_value (found_of matches.now) id.now) }
+{
+    match matches.get_str(id) {
+        Some(word) => number_between(word, least, most),
+        None => None,
     }
 }

@@ -1,7 +1,7 @@
 //! What holds of the definitions that the contracts cite. Each law is the contract of a function that
 //! does nothing.
 ghost use Rattle.std.specs.Prelude.{◌≡◌, ◌↔◌, ℕ, List, [], ◌∷◌, false, Some, codes};
-ghost use Rattle.ks_words.specs.Words.{folder_places, is_dashed, serve_places, talk_places, words_of};
+ghost use Rattle.ks_words.specs.Words.{drilled_with, folder_places, is_dashed, number_between, serve_places, talk_places, words_of};
 ghost use Rattle.ks_words.specs.declared.words.Places.{Places};
 ghost use Rattle.ks_words.specs.declared.words.Words.TheVariants.{Check, Talk, Serve, Setup, Rotate, Password};
 
@@ -42,4 +42,11 @@ pub fn serve_has_four_workers()
 /// `password` alone derives by 10,000 rounds.
 pub fn password_has_ten_thousand_rounds()
     ensures { words_of (codes "password" ∷ []) ≡ Password 10_000 }
+{}
+
+/// `drill` with two words behind it, of which neither begins with `-`, is given its numbers by them: the first at most
+/// 1,000,000, the second from 1 to 2,000. Where a word writes no such number they are no command's.
+pub fn drill_takes_two_numbers()
+    ensures { (start count : List ℕ) → is_dashed start ≡ false → is_dashed count ≡ false
+        → words_of (codes "drill" ∷ start ∷ count ∷ []) ≡ drilled_with (number_between 0 1_000_000 start) (number_between 1 2_000 count) }
 {}

@@ -1,7 +1,9 @@
 ghost use Rattle.std.specs.Prelude.{◌≡◌, IfOk, map, option_copied};
 ghost use Rattle.ks_words.specs.Words.{IsInRange, address_in, file_in, folder_in, log_in, words_of};
 
-use crate::commands::{read_check, read_password, read_rotate, read_serve, read_setup, read_talk};
+use crate::commands::{
+    read_check, read_drill, read_password, read_rotate, read_serve, read_setup, read_talk,
+};
 use ks_base::{Memory, Text};
 use std::alloc::{AllocError, Global};
 
@@ -52,6 +54,9 @@ pub enum Words {
     /// `password [--rounds N]`: the record of a password is made, derived by so many rounds, from 1 to 100,000;
     /// where that is not said there are 10,000.
     Password(u32),
+    /// `drill START COUNT`: calls are made to an identity of its own. Its members are as many as the second number
+    /// says, from 1 to 2,000, and have their roles by the first, which is at most 1,000,000.
+    Drill(u64, u32),
     /// The words are no command's.
     Usage,
 }
@@ -68,6 +73,7 @@ impl Words {
             Words::Setup(_) => None,
             Words::Rotate(_, _) => None,
             Words::Password(_) => None,
+            Words::Drill(_, _) => None,
             Words::Usage => None,
         }
     }
@@ -83,6 +89,7 @@ impl Words {
             Words::Rotate(places, _) => places.folder.as_ref(),
             Words::Check => None,
             Words::Password(_) => None,
+            Words::Drill(_, _) => None,
             Words::Usage => None,
         }
     }
@@ -98,6 +105,7 @@ impl Words {
             Words::Setup(_) => None,
             Words::Rotate(_, _) => None,
             Words::Password(_) => None,
+            Words::Drill(_, _) => None,
             Words::Usage => None,
         }
     }
@@ -113,6 +121,7 @@ impl Words {
             Words::Setup(_) => None,
             Words::Rotate(_, _) => None,
             Words::Password(_) => None,
+            Words::Drill(_, _) => None,
             Words::Usage => None,
         }
     }
@@ -150,6 +159,9 @@ pub fn read_words(alloc: Global, words: &[Text]) -> Result<Words, Memory>
     }
     if *name == "password" {
         return read_password(alloc, words);
+    }
+    if *name == "drill" {
+        return read_drill(alloc, words);
     }
     Ok(Words::Usage)
 }

@@ -1,7 +1,7 @@
 use Rattle.std.proofs.Common.{◌≡◌, inr, refl}
 use Rattle.ks_words.specs.declared.words.Words.TheVariants as asked
 use Rattle.ks_words.specs.Words.{words_of}
-use Rattle.ks_top.proofs.RunLemmas.{checks, makes_record, rotates, runs_by, sets_up}
+use Rattle.ks_top.proofs.RunLemmas.{checks, drills, makes_record, rotates, runs_by, sets_up}
 use Rattle.ks_top.specs.Runs.{Does, Runs}
 use Rattle.ks_top.proofs.program.run_command.Goals as goal
 
@@ -99,6 +99,19 @@ returns-in-Ok-Password g c first others e =
           writes = c.make_record.ensures.writes;
           others = refl;
         }),
+        refl,
+      )),
+    )
+
+pub returns-in-Ok-Drill : goal.returns-in-Ok-Drill
+unfolding Does
+returns-in-Ok-Drill g c first others e =
+    let is : asked.Drill c.in-Ok-Drill.start c.in-Ok-Drill.count ≡ words_of c.args.words.now = (let w = c.in-Ok-Drill.ensures.words in let i = c.in-Ok-Drill.field-0-is in cc) in (
+      first,
+      others,
+      e,
+      rw c.of-in-Ok-Drill.ensures.end (runs_by _ _ _ _ (asked.Drill c.in-Ok-Drill.start c.in-Ok-Drill.count) _ _ _ _ is (
+        drills c.in-Ok-Drill.start c.in-Ok-Drill.count _ _ c.drill.result _ c.of-in-Ok-Drill.ensures.fault c.drill.ensures.told c.drill.ensures.causes c.drill.ensures.writes refl,
         refl,
       )),
     )
