@@ -2,6 +2,7 @@
 #![tactic(auto)]
 
 ghost use Rattle.std.specs.Prelude.{◌≤◌};
+ghost use Rattle.ks_base.specs.declared.limits.TheConstants.{DRILL_MEMBERS, DRILL_START};
 
 use anyhow::{Result, bail};
 use ks_drill::drill;
@@ -9,9 +10,9 @@ use std::sync::Wait;
 
 /// Prints the line of a drill.
 fn show<R: Print + Wait + AllocGlobal>(rt: &R, start: u64, count: u32) -> Result<()>
-    requires start { start ≤ 1_000_000 }
+    requires start { start ≤ DRILL_START }
     requires least { 1 ≤ count }
-    requires most { count ≤ 2_000 }
+    requires most { count ≤ DRILL_MEMBERS }
 {
     let Ok(line) = drill(rt.alloc(), rt, start, count) else {
         bail!("no memory");
