@@ -3,7 +3,7 @@ ghost use Rattle.std.specs.Prelude.{◌≡◌, ◌≤◌, find, length, option_c
 ghost use Rattle.std.specs.Borrow.{Lends, sem};
 ghost use Rattle.std.specs.List.{insert};
 
-use crate::{Memory, Row, Test, TryCopy};
+use crate::{Memory, Row, Test};
 use std::alloc::Global;
 use std::marker::Model;
 
@@ -84,18 +84,20 @@ impl<T: Drop> Boxed<T> {
     }
 }
 
+impl<T> From<Box<T>> for Boxed<T> {
+    ghost use Rattle.std.specs.Prelude.{◌≡◌};
+
+    ghost from_gives = { λ held boxed. boxed ≡ held.value };
+
+    fn from(held: Box<T>) -> Boxed<T> {
+        Boxed { held }
+    }
+}
+
 impl<R: Row> Row for Boxed<R> {
     ghost key = { R.key };
 
     fn id(&self) -> &crate::Id {
         self.get().id()
-    }
-}
-
-impl<T: TryCopy> TryCopy for Boxed<T> {
-    fn copy(&self) -> Result<Boxed<T>, Memory> {
-        Ok(Boxed {
-            held: Box::new(*Box::allocator(&self.held), self.get().copy()?)?,
-        })
     }
 }

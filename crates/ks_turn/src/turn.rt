@@ -9,7 +9,8 @@ use crate::first::{First, Journaled};
 use crate::pass::{NoSplit, Pass};
 use crate::view::{Cut, Give, Law, Meet, Take, View};
 use atomic_table::{Refused, Seat, Table};
-use std::alloc::Global;
+use ks_base::Boxed;
+use std::alloc::{AllocFailed, Global};
 use std::marker::{Model, PhantomData};
 use std::sync::Wait;
 
@@ -26,10 +27,10 @@ const WAITED_FOR: u64 = 2;
 // falling asleep and being woken do, which is longer than most holds.
 const LOOKS: u32 = 20_000;
 
-/// A value that many callers use, one at a time.
+/// A value that many callers use, one at a time. It stands behind a pointer, so that a hold moves no more than that.
 #[derive(Drop)]
 pub struct Turn<S: Journaled, N: First> {
-    table: Table<Option<S>, View, (), Law<N>, Global>,
+    table: Table<Option<Boxed<S>>, View, (), Law<N>, Global>,
 }
 
 impl<S: Journaled, N: First> Model for Turn<S, N> {
@@ -47,8 +48,8 @@ impl<S: Journaled, N: First> Model for Turn<S, N> {
 
 /// The turn, taken, with its value.
 pub struct Held<S: Journaled, N: First> {
-    seat: Seat<Option<S>, View>,
-    value: S,
+    seat: Seat<Option<Boxed<S>>, View>,
+    value: Boxed<S>,
     of: PhantomData<N>,
 }
 
@@ -73,6 +74,28 @@ pub struct NoRoom<S> {
     pub state: S,
 }
 
+// The one slot of a table, with the state behind a pointer.
+fn one_slot<S>(alloc: Global, state: S) -> Result<Vec<Option<Boxed<S>>>, NoRoom<S>>
+    ensures ok { IfOk result (λ slots. slots.items ≡ Some state ∷ []) }
+    ensures back { IfErr result (λ e. e.state ≡ state) }
+{
+    let mut slots = Vec::new(alloc);
+    if slots.reserve(1).is_err() {
+        slots.destroy_empty();
+        return Err(NoRoom { state });
+    }
+    match Box::new(alloc, state) {
+        Ok(held) => {
+            slots.push_reserved(Some(Boxed::from(held)));
+            Ok(slots)
+        }
+        Err(AllocFailed { value }) => {
+            slots.destroy_empty();
+            Err(NoRoom { state: value })
+        }
+    }
+}
+
 impl<S: Journaled, N: First> Turn<S, N> {
     /// Puts the state into a new turn. The first pass has seen the front of `N` and has all the weight.
     pub fn new(alloc: Global, state: S) -> Result<(Turn<S, N>, Pass<N>), NoRoom<S>>
@@ -81,12 +104,7 @@ impl<S: Journaled, N: First> Turn<S, N> {
         ensures back { IfErr result (λ e. e.state ≡ state) }
     {
         let (changes, moment) = state.front();
-        let mut slots = Vec::new(alloc);
-        if slots.reserve(1).is_err() {
-            slots.destroy_empty();
-            return Err(NoRoom { state });
-        }
-        slots.push_reserved(Some(state));
+        let slots = one_slot(alloc, state)?;
         match Table::new(alloc, &[FREE, FREE], slots, &()) {
             Ok((table, seat)) => {
                 let pass = Pass {
@@ -102,7 +120,9 @@ impl<S: Journaled, N: First> Turn<S, N> {
                     unreachable!()
                 };
                 slots.destroy_empty();
-                Err(NoRoom { state })
+                Err(NoRoom {
+                    state: state.into_inner(),
+                })
             }
         }
     }
@@ -137,7 +157,7 @@ impl<S: Journaled, N: First> Turn<S, N> {
     }
 
     // Takes the turn where it is given back within a moment.
-    fn seize_soon(&self, seat: &mut Seat<Option<S>, View>) -> bool
+    fn seize_soon(&self, seat: &mut Seat<Option<Boxed<S>>, View>) -> bool
         requires own { seat.old.table_id ≡ self.now }
         requires free { seat.old.me.1 ≡ [] }
         requires can { (0 < seat.old.me.0.weight) × (seat.old.me.0.holds ≡ false) }
@@ -160,7 +180,7 @@ impl<S: Journaled, N: First> Turn<S, N> {
     }
 
     // Takes the turn. A caller that finds it taken for long sleeps until it is given back.
-    fn seize<R: Wait>(&self, rt: &R, seat: &mut Seat<Option<S>, View>)
+    fn seize<R: Wait>(&self, rt: &R, seat: &mut Seat<Option<Boxed<S>>, View>)
         requires own { seat.old.table_id ≡ self.now }
         requires free { seat.old.me.1 ≡ [] }
         requires can { (0 < seat.old.me.0.weight) × (seat.old.me.0.holds ≡ false) }
@@ -180,7 +200,7 @@ impl<S: Journaled, N: First> Turn<S, N> {
     }
 
     // Takes the turn and the value.
-    fn take<R: Wait>(&self, rt: &R, seat: &mut Seat<Option<S>, View>) -> S
+    fn take<R: Wait>(&self, rt: &R, seat: &mut Seat<Option<Boxed<S>>, View>) -> Boxed<S>
         requires own { seat.old.table_id ≡ self.now }
         requires free { seat.old.me.1 ≡ [] }
         requires can { (0 < seat.old.me.0.weight) × (seat.old.me.0.holds ≡ false) }
@@ -195,7 +215,7 @@ impl<S: Journaled, N: First> Turn<S, N> {
     }
 
     // Gives the value and the turn back.
-    fn put(&self, seat: &mut Seat<Option<S>, View>, value: S)
+    fn put(&self, seat: &mut Seat<Option<Boxed<S>>, View>, value: Boxed<S>)
         requires own { seat.old.table_id ≡ self.now }
         requires held { (seat.old.me.1 ≡ (0, None) ∷ []) × (seat.old.me.0.holds ≡ true) × (0 < seat.old.me.0.weight) }
         requires lands { (f : Front) × IsSound f × Lands S.stands value (front_at N.front seat.old.me.0.seen) f }
@@ -210,14 +230,14 @@ impl<S: Journaled, N: First> Turn<S, N> {
     }
 
     // Lets a seat see all that happened.
-    fn renew<R: Wait>(&self, rt: &R, mut seat: Seat<Option<S>, View>) -> Pass<N>
+    fn renew<R: Wait>(&self, rt: &R, mut seat: Seat<Option<Boxed<S>>, View>) -> Pass<N>
         requires own { seat.table_id ≡ self.now }
         requires free { seat.me.1 ≡ [] }
         requires can { (0 < seat.me.0.weight) × (seat.me.0.holds ≡ false) }
         ensures { (w : View) × (x : S) × Told N.front S.stands seat.me.0 w x × (result ≡ passed N.front seat.table_id (given (front_at N.front w.seen) w)) }
     {
         let value = self.take(rt, &mut seat);
-        let (changes, moment) = value.front();
+        let (changes, moment) = value.get().front();
         self.put(&mut seat, value);
         Pass {
             changes,
@@ -254,7 +274,7 @@ impl<S: Journaled, N: First> Turn<S, N> {
             value,
             of,
         } = held;
-        let (changes, moment) = value.front();
+        let (changes, moment) = value.get().front();
         self.put(&mut seat, value);
         Pass {
             changes,
@@ -306,7 +326,7 @@ impl<S: Journaled, N: First> Turn<S, N> {
         let left = closed.take(0);
         closed.free();
         let Some(value) = left else { unreachable!() };
-        value
+        value.into_inner()
     }
 }
 
@@ -319,6 +339,6 @@ impl<S: Journaled, N: First> Held<S, N> {
         ensures* writes_back { sem 𝓛 (Lends (the_row S.row N.row S.Journaled N.First) S.row self.entry result (with_value self.old)) }
         ensures shows { result.now ≡ self.old.value }
     {
-        &mut self.value
+        self.value.get_mut()
     }
 }

@@ -1,6 +1,7 @@
 // What the passes know, for the proofs alone, and the steps of the turn.
 use crate::first::{First, Journaled};
 use atomic_table::{Join, Play, Split, TableRule};
+use ks_base::Boxed;
 use ks_machine::Entry;
 use std::collections::LinkedList;
 use std::marker::PhantomData;
@@ -27,7 +28,7 @@ pub struct Law<N> {
     of: PhantomData<N>,
 }
 
-impl<S: Journaled, N: First> TableRule<Option<S>, View, ()> for Law<N> {
+impl<S: Journaled, N: First> TableRule<Option<Boxed<S>>, View, ()> for Law<N> {
     ghost use Rattle.ks_turn.specs.Views.{first_view};
     ghost use Rattle.ks_turn.specs.Rule.{Turned};
 
@@ -41,7 +42,7 @@ pub struct Take<N> {
     of: PhantomData<N>,
 }
 
-impl<S: Journaled, N: First> Play<Option<S>, View> for Take<N> {
+impl<S: Journaled, N: First> Play<Option<Boxed<S>>, View> for Take<N> {
     ghost use Rattle.ks_turn.specs.Rule.{tried};
 
     ghost then = { tried N.front S.stands };
@@ -52,7 +53,7 @@ pub struct Give<N> {
     of: PhantomData<N>,
 }
 
-impl<S: Journaled, N: First> Play<Option<S>, View> for Give<N> {
+impl<S: Journaled, N: First> Play<Option<Boxed<S>>, View> for Give<N> {
     ghost use Rattle.ks_turn.specs.Rule.{gave};
 
     ghost then = { gave N.front S.stands };

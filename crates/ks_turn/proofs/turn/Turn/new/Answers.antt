@@ -1,11 +1,9 @@
-use Rattle.std.proofs.Common.{◌++◌, [], ◌∷◌, Some, ap, ◌∙◌}
 use Rattle.ks_turn.proofs.CallLemmas.{begins_with, first_rests}
 use Rattle.ks_turn.proofs.turn.Turn.new.Goals as goal
 
 pub new-requires : goal.new-requires
 new-requires g c =
-    let items = c.push_reserved.ensures.items ∙ ap (λ xs. xs ++ Some c.args.state ∷ []) (c.reserve.ensures.items ∙ c.new-slots.ensures.items) in
-    begins_with _ _ _ c.args.state items c.requires (c.front-changes.ensures g.N.First.front c.requires).2
+    begins_with _ _ _ c.args.state c.in_ok-slots.ensures.ok c.requires (c.front-changes.ensures g.N.First.front c.requires).2
 
 pub invariant_of-pass : goal.invariant_of-pass
 invariant_of-pass g c =
