@@ -2,7 +2,7 @@
 use Rattle.std.proofs.Common.{◌≡◌, ℕ, ◌+◌, ◌<◌, ◌==◌, Bool, true, false, not, ◌&&◌, List, [], ◌∷◌, ◌++◌, length, None, refl, arith, length-append}
 use Rattle.std.specs.List.{onto_first}
 use Rattle.std.proofs.lemmas.Bool.Decides.{nat_tests}
-use Rattle.ks_commands.specs.declared.checker.Place.{Place}
+use Rattle.ks_commands.specs.declared.checker.CheckPlace.{CheckPlace}
 use Rattle.ks_commands.specs.Lines.{IsInLine, lines_of}
 use Rattle.ks_commands.specs.Check.{step_of, steps_of, go_on, check_from, bad_line}
 
@@ -44,24 +44,24 @@ lines_of-last b (c ∷ line) h =
     lines_of-more b (c ∷ line) (c ∷ line) [] parts.0 (lines_of-last c line parts.1)
 
 -- behind a whole line
-pub check_line : (place : Place) (line rest : List ℕ) → IsInLine line →
+pub check_line : (place : CheckPlace) (line rest : List ℕ) → IsInLine line →
     check_from place (line ++ 10 ∷ rest) ≡ go_on (step_of place line) place.lines (λ next. check_from next rest)
 unfolding steps_of
 check_line place line rest h = rw (lines_of-line line rest h) refl
 
 -- behind a last line that lacks its line feed
-pub check_last : (place : Place) (line : List ℕ) → IsInLine line → 0 < length line →
+pub check_last : (place : CheckPlace) (line : List ℕ) → IsInLine line → 0 < length line →
     check_from place line ≡ go_on (step_of place line) place.lines (λ next. check_from next [])
 unfolding steps_of lines_of
 check_last place [] h long = absurd (omega arith)
 check_last place (b ∷ line) h long = rw (lines_of-last b line h) refl
 
-pub step_of-long : (place : Place) (line : List ℕ) → 1100 < length line → step_of place line ≡ None
+pub step_of-long : (place : CheckPlace) (line : List ℕ) → 1100 < length line → step_of place line ≡ None
 unfolding step_of
 step_of-long place line long = grind (arith, nat_tests)
 
 -- a line that has begun and is too long is bad, whatever follows
-pub check_long : (place : Place) (line more : List ℕ) → IsInLine line → 1100 < length line →
+pub check_long : (place : CheckPlace) (line more : List ℕ) → IsInLine line → 1100 < length line →
     check_from place (line ++ more) ≡ bad_line (place.lines + 1)
 unfolding steps_of
 check_long place [] more h long = absurd (omega arith)

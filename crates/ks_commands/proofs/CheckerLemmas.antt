@@ -5,7 +5,7 @@ use Rattle.std.proofs.lemmas.List.{length-take, take-append-drop}
 use Rattle.std.proofs.lemmas.List.Elements.{filter-append}
 use Rattle.ks_commands.specs.declared.fault.Fault.{Fault}
 use Rattle.ks_commands.specs.declared.fault.Fault.TheVariants as fault
-use Rattle.ks_commands.specs.declared.checker.Place.{Place}
+use Rattle.ks_commands.specs.declared.checker.CheckPlace.{CheckPlace}
 use Rattle.ks_commands.specs.declared.checker.Checker.{Checker}
 use Rattle.ks_commands.specs.Lines.{IsInLine, line_feeds, lines_of}
 use Rattle.ks_commands.specs.Check.{End, Checked, check_of, Whole, BadLine, steps_of, check_from, bad_line, onto, go_on}
@@ -144,11 +144,11 @@ stands_written (Err failed) whole rest old new written written' before h wrote =
       (wrote.1.0 ++ X.output, front_more h.so_far wrote.0 wrote.1.0 old.answers.items X.output wrote.1.1 ∙ sym (ap (λ (c : Checked). c.output) (h.same more)));
 }
 
-ends_early : (place : Place) → place.lines ≡ 0 → check_from place [] ≡ bad_line 1
+ends_early : (place : CheckPlace) → place.lines ≡ 0 → check_from place [] ≡ bad_line 1
 unfolding lines_of steps_of
 ends_early place none = rw none refl
 
-ends_whole : (place : Place) → (lines : ℕ) → place.lines ≡ lines + 1 → check_from place [] ≡ record { output = []; end = Whole }
+ends_whole : (place : CheckPlace) → (lines : ℕ) → place.lines ≡ lines + 1 → check_from place [] ≡ record { output = []; end = Whole }
 unfolding lines_of steps_of
 ends_whole place lines some = grind (arith, nat_tests)
 
@@ -290,7 +290,7 @@ lines_kept old new read place line h = record {
   lines = h.lines;
   read_is = h.read_is ∙ ap (λ l. h.lines ++ l) (sym line);
   whole = h.whole;
-  counted = h.counted ∙ ap (λ (p : Place). p.lines) (sym place);
+  counted = h.counted ∙ ap (λ (p : CheckPlace). p.lines) (sym place);
 }
 
 pub lines_ended : (old new : Checker) (read last : List ℕ) → IsInLine (old.line.items ++ last) → new.place.lines ≡ old.place.lines + 1 → new.line.items ≡ []
@@ -313,7 +313,7 @@ lines_held old new read bytes held h = record {
   lines = h.lines;
   read_is = ap (λ r. r ++ bytes) h.read_is ∙ (append_assoc h.lines old.line.items bytes ∙ ap (λ l. h.lines ++ l) (sym held.0));
   whole = h.whole;
-  counted = h.counted ∙ ap (λ (p : Place). p.lines) (sym held.1);
+  counted = h.counted ∙ ap (λ (p : CheckPlace). p.lines) (sym held.1);
 }
 
 -- a bad line is none of those that were answered
@@ -352,7 +352,7 @@ starts checker text before left written fresh left_is written_is = record {
         ∙ ap (λ l. onto [] (check_from checker.place (l ++ more))) (sym fresh.1)
         ∙ ap (λ a. onto a (check_from checker.place (checker.line.items ++ more))) (sym fresh.2);
   };
-  lines = record { lines = []; read_is = sym fresh.1; whole = inl refl; counted = ap (λ (p : Place). p.lines) (sym fresh.0) };
+  lines = record { lines = []; read_is = sym fresh.1; whole = inl refl; counted = ap (λ (p : CheckPlace). p.lines) (sym fresh.0) };
 }
 
 -- behind the next piece

@@ -10,7 +10,7 @@ use Rattle.ks_machine.specs.declared.why.Why.{Why}
 use Rattle.ks_machine.specs.Moment.{moment_of}
 use Rattle.ks_machine.specs.Names.{name_of}
 use Rattle.ks_machine.specs.TokenLines.{first_opened, token_lines}
-use Rattle.ks_commands.specs.declared.checker.Place.{Place}
+use Rattle.ks_commands.specs.declared.checker.CheckPlace.{CheckPlace}
 use Rattle.ks_commands.specs.Lines.{lines_of, TokenLine, token_line_of}
 
 -- at the end of the input, or at a line that is not in the grammar, counted from 1
@@ -25,7 +25,7 @@ pub record Checked : Type 0 where
 -- what a line writes, and where the check stands behind it
 pub record Step : Type 0 where
   pub output : List ℕ
-  pub place : Place
+  pub place : CheckPlace
 
 -- a check's tokens may live for an hour
 abbrev pub life : ℕ
@@ -40,21 +40,21 @@ answer_line (Err why) = codes "refused " ++ (name_of why ++ codes "\n")
 abbrev pub answer_of : Key → ℕ → List ℕ → List ℕ
 answer_of key moment token = answer_line (token_lines life moment false (first_opened (key ∷ []) token))
 
-abbrev pub behind : Place → Key → ℕ → List ℕ → Step
+abbrev pub behind : CheckPlace → Key → ℕ → List ℕ → Step
 behind place key moment output = record { output = output; place = record { lines = place.lines + 1; key = Some key; moment = moment } }
 
 -- a token is judged at the highest reading so far
-abbrev pub token_step : Place → Key → TokenLine → Step
+abbrev pub token_step : CheckPlace → Key → TokenLine → Step
 token_step place key line =
     let moment = moment_of place.moment line.reading in behind place key moment (answer_of key moment line.token)
 
 -- line 1 is a key, and each later line a reading, one space and a token
-abbrev pub keyed_step : Place → Option Key → List ℕ → Option Step
+abbrev pub keyed_step : CheckPlace → Option Key → List ℕ → Option Step
 keyed_step place None line = option_map (λ key. behind place key place.moment []) (key_of line)
 keyed_step place (Some key) line = option_map (token_step place key) (token_line_of line)
 
 -- a line has at most 1,100 bytes, and there are at most 1,048,576 lines
-unfoldable pub step_of : Place → List ℕ → Option Step
+unfoldable pub step_of : CheckPlace → List ℕ → Option Step
 step_of place line = if nat_lt CHECK_LINE_BYTES (length line) || nat_le CHECK_LINES place.lines then None else keyed_step place place.key line
 
 abbrev pub onto : List ℕ → Checked → Checked
@@ -63,16 +63,16 @@ onto output checked = record { output = output ++ checked.output; end = checked.
 abbrev pub bad_line : ℕ → Checked
 bad_line n = record { output = []; end = BadLine n }
 
-abbrev pub go_on : Option Step → ℕ → (Place → Checked) → Checked
+abbrev pub go_on : Option Step → ℕ → (CheckPlace → Checked) → Checked
 go_on None lines rest = bad_line (lines + 1)
 go_on (Some step) lines rest = onto step.output (rest step.place)
 
 -- an input with no line at all lacks its first
-unfoldable pub steps_of : Place → List (List ℕ) → Checked
+unfoldable pub steps_of : CheckPlace → List (List ℕ) → Checked
 steps_of place [] = if place.lines == 0 then bad_line 1 else record { output = []; end = Whole }
 steps_of place (line ∷ lines) = go_on (step_of place line) place.lines (λ next. steps_of next lines)
 
-abbrev pub check_from : Place → List ℕ → Checked
+abbrev pub check_from : CheckPlace → List ℕ → Checked
 check_from place text = steps_of place (lines_of text)
 
 abbrev pub check_of : List ℕ → Checked

@@ -6,6 +6,7 @@ ghost use Rattle.ks_commands.specs.Lines.{IsInLine};
 use crate::answer::answer;
 use crate::fault::Fault;
 use crate::lines::{first_line, token_line};
+use ks_base::Boxed;
 use ks_base::limits::{CHECK_LINE_BYTES, CHECK_LINES};
 use ks_fernet::{KeyText, OpeningKey, read_key};
 use ks_machine::moment;
@@ -17,11 +18,11 @@ pub const PIECE: usize = 65_536;
 
 /// Where a check stands: before the line behind those that it has read.
 #[derive(Drop)]
-pub struct Place {
+pub struct CheckPlace {
     /// How many lines were read.
     pub lines: u64,
-    /// The key of line 1, behind it, taken in for all lines.
-    pub key: Option<OpeningKey>,
+    /// The key of line 1, behind it, taken in for all lines. It stands behind a pointer, since each line hands it on.
+    pub key: Option<Boxed<OpeningKey>>,
     /// The highest reading of the clock so far.
     pub moment: u64,
 }
@@ -29,7 +30,7 @@ pub struct Place {
 /// A check of the tokens of an input that comes in pieces.
 #[derive(Drop)]
 pub struct Checker {
-    place: Place,
+    place: CheckPlace,
     /// The line that has begun in earlier pieces.
     line: Vec<u8>,
     /// The answers that are still to be written.
@@ -39,12 +40,12 @@ pub struct Checker {
     ghost short: { length line.items ≤ CHECK_LINE_BYTES },
 }
 
-impl Place {
+impl CheckPlace {
     ghost use Rattle.ks_commands.specs.Check.{step_of, keyed_step};
     ghost use Rattle.ks_commands.specs.steps.Progress.{Takes};
 
     /// Before the first line.
-    const START: Place = Place {
+    const START: CheckPlace = CheckPlace {
         lines: 0,
         key: None,
         moment: 0,
@@ -71,12 +72,12 @@ impl Place {
             return Err(self.bad_line());
         }
         match self.key.take() {
-            None => self.take_key(line),
+            None => self.take_key(alloc, line),
             Some(key) => self.take_token(alloc, key, line, answers),
         }
     }
 
-    fn take_key(&mut self, line: &[u8]) -> Result<(), Fault>
+    fn take_key(&mut self, alloc: Global, line: &[u8]) -> Result<(), Fault>
         requires { self.old.lines < CHECK_LINES }
         ensures takes { Takes (keyed_step self.old None line.now) self.old.lines [] self.new [] result }
         ensures counted { self.new.lines ≤ CHECK_LINES }
@@ -85,15 +86,18 @@ impl Place {
         let KeyText::Key(key) = read_key(line) else {
             return Err(self.bad_line());
         };
+        let Ok(key) = Boxed::new(alloc, OpeningKey::of(&key)) else {
+            return Err(Fault::Memory);
+        };
         self.lines += 1;
-        self.key = Some(OpeningKey::of(&key));
+        self.key = Some(key);
         Ok(())
     }
 
     fn take_token(
         &mut self,
         alloc: Global,
-        key: OpeningKey,
+        key: Boxed<OpeningKey>,
         line: &[u8],
         answers: &mut Vec<u8>,
     ) -> Result<(), Fault>
@@ -106,7 +110,7 @@ impl Place {
             return Err(self.bad_line());
         };
         let now = moment(self.moment, parts.reading);
-        if answer(alloc, &key, now, parts.token, answers).is_err() {
+        if answer(alloc, key.get(), now, parts.token, answers).is_err() {
             return Err(Fault::Memory);
         }
         self.lines += 1;
@@ -129,7 +133,7 @@ impl Checker {
         ensures { IfOk result IsAtStart }
     {
         Ok(Checker {
-            place: Place::START,
+            place: CheckPlace::START,
             line: Vec::with_capacity(alloc, CHECK_LINE_BYTES)?,
             answers: Vec::with_capacity(alloc, 2 * PIECE)?,
         })

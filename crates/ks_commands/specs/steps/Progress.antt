@@ -5,14 +5,14 @@ use Rattle.ks_outside.specs.Streams.{Begins}
 use Rattle.ks_outside.specs.declared.failed.Failed.{Failed}
 use Rattle.ks_commands.specs.declared.fault.Fault.{Fault}
 use Rattle.ks_commands.specs.declared.fault.Fault.TheVariants as fault
-use Rattle.ks_commands.specs.declared.checker.Place.{Place}
+use Rattle.ks_commands.specs.declared.checker.CheckPlace.{CheckPlace}
 use Rattle.ks_commands.specs.declared.checker.Checker.{Checker}
 pub use Rattle.ks_commands.specs.Ending.{IsCutShort, ReadsToLine}
 use Rattle.ks_commands.specs.Lines.{AreWhole, line_feeds}
 use Rattle.ks_commands.specs.Check.{Step, End, Checked, onto, bad_line, step_of, check_from, check_of, Whole, BadLine}
 
 -- What a line was to write and to leave behind it, and what came of it. A fault leaves the answers as they were.
-abbrev pub Takes : Option Step → ℕ → List ℕ → Place → List ℕ → Result (Unit {0}) Fault → Type 0
+abbrev pub Takes : Option Step → ℕ → List ℕ → CheckPlace → List ℕ → Result (Unit {0}) Fault → Type 0
 Takes expected lines before new after (Ok done) = (output : List ℕ) × (expected ≡ Some (record { output = output; place = new })) × (after ≡ before ++ output)
 Takes expected lines before new after (Err (fault.BadLine n)) = (expected ≡ None) × (n ≡ lines + 1) × (after ≡ before)
 Takes expected lines before new after (Err fault.Memory) = after ≡ before

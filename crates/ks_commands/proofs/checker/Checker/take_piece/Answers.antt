@@ -1,7 +1,7 @@
 use Rattle.std.proofs.Common.{◌∷◌, [], ◌++◌, ◌∙◌, Ok, Err, length, ap, append-nil, append_assoc, length-append, refl, subst, sym, arith, rules}
 use Rattle.std.proofs.lemmas.Result.{err_from_is_err_and}
 use Rattle.ks_commands.proofs.CheckerLemmas.{bad_behind, bad_held, lines_ended, lines_held, lines_kept, stands_line, stands_hold, stands_written, moves_err}
-use Rattle.ks_commands.specs.declared.checker.Place.{Place}
+use Rattle.ks_commands.specs.declared.checker.CheckPlace.{CheckPlace}
 use Rattle.ks_commands.specs.steps.Progress.{HasLines}
 use Rattle.ks_commands.proofs.checker.Checker.take_piece.Goals as goal
 
@@ -41,7 +41,7 @@ lines-preserved g c = record {
             (lines_kept c.end_line.new.self c.write_many.new.self ((read ++ l.0) ++ (c.in-Some.line.now ++ 10 ∷ [])) c.write_many.ensures.place c.write_many.ensures.line
             (lines_ended c.lines.self c.end_line.new.self (read ++ l.0) c.in-Some.line.now c.end_line.ensures.inside c.in_ok-end_line.ensures.forward c.in_ok-end_line.ensures.ends.1 l.2)),
       );
-  forward = omega (arith, c.lines.invariant.forward, c.in_ok-end_line.ensures.forward, ap (λ (p : Place). p.lines) c.write_many.ensures.place);
+  forward = omega (arith, c.lines.invariant.forward, c.in_ok-end_line.ensures.forward, ap (λ (p : CheckPlace). p.lines) c.write_many.ensures.place);
   bytes = omega (arith, c.lines.invariant.bytes, c.in_ok-end_line.ensures.bytes, c.write_many.ensures.bytes, ap length c.in-Some.ensures.1, length-append c.in-Some.line.now (10 ∷ c.in-Some.behind.now));
   writes = search rules;
 }
