@@ -112,7 +112,7 @@ impl Grants {
         self.rows.has(row)
     }
 
-    /// Takes all grants to the user or group back. Others are not gone through, and it takes no memory.
+    /// Takes all grants to the user or group back: where they are few, no other is looked at. It takes no memory.
     pub fn drop_actor(&mut self, actor: &Actor)
         ensures { self.new ≡ filter (λ row. not (is_of_actor actor.now row)) self.old }
     {

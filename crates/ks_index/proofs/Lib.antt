@@ -3,3 +3,4 @@ pub mod KeepLemmas
 pub mod NameLemmas
 pub mod OrderedLemmas
 pub mod RunLemmas
+pub mod SideLemmas

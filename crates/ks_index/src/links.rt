@@ -8,6 +8,10 @@ use ks_base::{Boxed, Far, Memory, Near, Ordered, RowSet, Side, Test};
 use std::alloc::{AllocError, Global};
 use std::marker::{Model, PhantomData};
 
+// How many rows of a run go one by one at most, each by a search and a move of those behind it. Where more go, a pass over all
+// rows takes less.
+const FEW: usize = 128;
+
 /// Rows in their order, each once, and beside them their sides in the second order.
 #[derive(Drop)]
 pub struct Links<A: Ordered, B: Side<A>> {
@@ -41,6 +45,35 @@ impl<A: Ordered, B: Side<A>, T: Test<A>> Test<B> for RowTest<'_, A, T> {
     }
 }
 
+/// The rows that are none of a run.
+#[derive(Drop)]
+struct Outside<'a, W> {
+    near: &'a W,
+}
+
+impl<A: Ordered, W: Near<A>> Test<A> for Outside<'_, W> {
+    ghost test = { λ wanted row. not (is_eq (W.side wanted.near.now row)) };
+
+    fn test(&self, row: &A) -> bool {
+        self.near.side(row).is_ne()
+    }
+}
+
+/// The rows whose sides pass.
+#[derive(Drop)]
+struct SideTest<'a, B, T> {
+    test: &'a T,
+    sides: PhantomData<B>,
+}
+
+impl<A: Ordered, B: Side<A>, T: Test<B>> Test<A> for SideTest<'_, B, T> {
+    ghost test = { λ wanted row. T.test wanted.test.now (B.seen row) };
+
+    fn test(&self, row: &A) -> bool {
+        self.test.test(&B::of(row))
+    }
+}
+
 /// The sides of the rows.
 fn seen<A: Ordered, B: Side<A>>(alloc: Global, rows: &[Boxed<A>]) -> Result<Vec<B>, AllocError>
     ensures { IfOk result (λ sides. sides.items ≡ map B.seen rows.now) }
@@ -67,6 +100,15 @@ fn drop_sides<A: Ordered, B: Side<A>>(sides: &mut RowSet<B>, rows: &[Boxed<A>])
 {
     for row in rows {
         sides.remove(&B::of(row.get()));
+    }
+}
+
+/// Takes the rows of these sides out.
+fn drop_rows<A: Ordered, B: Side<A>>(rows: &mut RowSet<A>, sides: &[Boxed<B>])
+    ensures { rows.new ≡ fold (λ left side. drop_row A.cmp (λ next. next) (B.row_of side) left) rows.old sides.now }
+{
+    for side in sides {
+        rows.remove(side.get().row());
     }
 }
 
@@ -138,13 +180,47 @@ impl<A: Ordered, B: Side<A>> Links<A, B> {
         });
     }
 
-    /// Takes the rows of a run out, which are found by where it begins and ends, and their sides one by one. It takes no
-    /// memory.
+    /// Takes the rows of a run out, which are found by where it begins and ends. It takes no memory. Where they are few, no
+    /// other row is looked at.
     pub fn drop_of<W: Near<A>>(&mut self, near: &W)
+        ensures { self.new ≡ filter (λ row. not (is_eq (W.side near.now row))) self.old }
+    {
+        if self.rows.of(near).len() > FEW {
+            self.keep(&Outside { near });
+        } else {
+            self.drop_few_of(near);
+        }
+    }
+
+    /// Takes the rows of a run of the second order out. It takes no memory. Where they are few, no other row is looked at.
+    pub fn drop_at<W: Near<B>>(&mut self, near: &W)
+        ensures { self.new ≡ filter (λ row. not (is_eq (W.side near.now (B.seen row)))) self.old }
+    {
+        if self.sides.of(near).len() > FEW {
+            self.keep(&SideTest {
+                test: &Outside { near },
+                sides: PhantomData,
+            });
+        } else {
+            self.drop_few_at(near);
+        }
+    }
+
+    /// Takes the rows of a run out as one, and their sides one by one.
+    fn drop_few_of<W: Near<A>>(&mut self, near: &W)
         ensures { self.new ≡ filter (λ row. not (is_eq (W.side near.now row))) self.old }
     {
         drop_sides(&mut self.sides, self.rows.of(near));
         self.rows.drop_of(near);
+    }
+
+    /// Takes the rows of a run of the second order out, from the first order one by one.
+    fn drop_few_at<W: Near<B>>(&mut self, near: &W)
+        ensures { self.new ≡ filter (λ row. not (is_eq (W.side near.now (B.seen row)))) self.old }
+    {
+        let _ascending = self.rows.rows();
+        drop_rows(&mut self.rows, self.sides.of(near));
+        self.sides.drop_of(near);
     }
 
     /// The rows of a run, which are found by where it begins and ends.

@@ -34,3 +34,8 @@ users_found group members rows is =
 pub not_in_group : (group : List ℕ) (members : List MemberRow) →
     filter (λ row. not (is_eq (id_cmp row.group group))) members ≡ filter (λ row. not (is_of_group group row)) members
 not_in_group group members = filter_alike (λ row. not (is_eq (id_cmp row.group group))) (λ row. not (is_of_group group row)) members (λ row among. ap not (id_same row.group group))
+
+-- and those of other users
+pub not_of_user : (user : List ℕ) (members : List MemberRow) →
+    filter (λ row. not (is_eq (id_cmp row.user user))) members ≡ filter (λ row. not (is_of_user user row)) members
+not_of_user user members = filter_alike (λ row. not (is_eq (id_cmp row.user user))) (λ row. not (is_of_user user row)) members (λ row among. ap not (id_same row.user user))

@@ -50,8 +50,8 @@ impl People {
         Ok(())
     }
 
-    /// Takes a group out, with all its memberships; others are not gone through. Refused is an id that no group has
-    /// (`Absent`).
+    /// Takes a group out, with all its memberships: where they are few, no other is looked at. Refused is an id that no
+    /// group has (`Absent`).
     #[tactic(auto, unfolding(ks_base::specs::PeopleFaults::drop_group_fault))]
     pub fn drop_group(&mut self, id: &Id) -> Result<(), RowFault>
         ensures decides { Decides (drop_group_fault self.old id.now) self.old (without_group id.now self.old) result self.new }

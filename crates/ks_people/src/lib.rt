@@ -6,7 +6,6 @@ mod groups;
 mod lists;
 mod members;
 mod people;
-mod select;
 mod users;
 
 pub use people::People;

@@ -8,9 +8,8 @@ ghost use Rattle.ks_base.specs.People.{is_user_named, with_user, without_user};
 ghost use Rattle.ks_base.specs.PeopleFaults.{user_absent, user_name_taken, other_user_named, add_user_fault, set_user_fault, drop_user_fault};
 
 use crate::People;
-use crate::select::OfOtherUsers;
 use ks_base::limits::USERS;
-use ks_base::{Id, Kind, RowFault, Text, UserRow, refuse_if};
+use ks_base::{Id, Kind, OfUser, RowFault, Text, UserRow, refuse_if};
 
 impl People {
     /// The user with this id.
@@ -51,7 +50,8 @@ impl People {
         Ok(())
     }
 
-    /// Takes a user out, with all its memberships. Refused is an id that no user has (`Absent`).
+    /// Takes a user out, with all its memberships: where they are few, no other is looked at. Refused is an id that no
+    /// user has (`Absent`).
     #[tactic(auto, unfolding(ks_base::specs::PeopleFaults::drop_user_fault))]
     pub fn drop_user(&mut self, id: &Id) -> Result<(), RowFault>
         ensures decides { Decides (drop_user_fault self.old id.now) self.old (without_user id.now self.old) result self.new }
@@ -59,7 +59,7 @@ impl People {
     {
         self.may_drop_user(id)?;
         self.users.remove(id);
-        self.members.keep(&OfOtherUsers { user: id });
+        self.members.drop_at(&OfUser { user: *id });
         Ok(())
     }
 

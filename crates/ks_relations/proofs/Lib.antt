@@ -1,3 +1,4 @@
+pub mod FoundRows
 pub mod GivenLemmas
 pub mod MemberLists
 pub mod NoIds

@@ -3,8 +3,6 @@ use Rattle.std.proofs.Common.{◌≡◌, Bool, true, false, ◌&&◌, ◌||◌, 
 use Rattle.std.specs.List.{list_any}
 use Rattle.ks_base.specs.declared.memory.Memory.{Memory}
 use Rattle.ks_base.specs.declared.users.MemberRow.{MemberRow}
-use Rattle.ks_base.specs.declared.rows.GroupRow.{GroupRow}
-use Rattle.ks_base.specs.declared.users.UserRow.{UserRow}
 use Rattle.ks_base.specs.People.{PeopleState, groups_of, is_of_group, is_of_user, members_of}
 use Rattle.ks_base.specs.Rows.{Id, same, has_id}
 use Rattle.ks_base.proofs.ListLemmas.{filter_alike}
@@ -45,22 +43,20 @@ pub any_user : (members : List MemberRow) (group user : Id) →
 any_user [] group user = refl
 any_user (member ∷ members) group user = user_by (same member.group group) member members group user (any_user members group user)
 
-pub found_groups : (state : PeopleState) (user : Id) (ids : List Id) (groups : List GroupRow) (found : Result (List Row) Memory) →
-    ids ≡ groups_of user state → groups ≡ state.groups →
-    IfOk found (λ rows. rows ≡ map (λ group. row.Group group) (filter (λ group. has_id ids group.id) groups)) →
+pub found_groups : (state : PeopleState) (user : Id) (ids : List Id) (found : Result (List Row) Memory) → ids ≡ groups_of user state →
+    IfOk found (λ rows. rows ≡ map (λ group. row.Group group) (filter (λ group. has_id ids group.id) state.groups)) →
     IfOk found (λ rows. rows ≡ map (λ group. row.Group group) (filter (λ group. is_member state.members group.id user) state.groups))
-found_groups state user ids groups (Ok rows) of all is =
-    let by_ids : rows ≡ map (λ group. row.Group group) (filter (λ group. has_id (groups_of user state) group.id) state.groups) = rw (of, all) at is in
+found_groups state user ids (Ok rows) of is =
+    let by_ids : rows ≡ map (λ group. row.Group group) (filter (λ group. has_id (groups_of user state) group.id) state.groups) = rw of at is in
     by_ids ∙ ap (map (λ group. row.Group group))
     (filter_alike (λ group. has_id (groups_of user state) group.id) (λ group. is_member state.members group.id user) state.groups (λ group _. any_group state.members user group.id))
-found_groups state user ids groups (Err memory) of all is = tt
+found_groups state user ids (Err memory) of is = tt
 
-pub found_users : (state : PeopleState) (group : Id) (ids : List Id) (users : List UserRow) (found : Result (List Row) Memory) →
-    ids ≡ members_of group state → users ≡ state.users →
-    IfOk found (λ rows. rows ≡ map (λ user. row.User user) (filter (λ user. has_id ids user.id) users)) →
+pub found_users : (state : PeopleState) (group : Id) (ids : List Id) (found : Result (List Row) Memory) → ids ≡ members_of group state →
+    IfOk found (λ rows. rows ≡ map (λ user. row.User user) (filter (λ user. has_id ids user.id) state.users)) →
     IfOk found (λ rows. rows ≡ map (λ user. row.User user) (filter (λ user. is_member state.members group user.id) state.users))
-found_users state group ids users (Ok rows) of all is =
-    let by_ids : rows ≡ map (λ user. row.User user) (filter (λ user. has_id (members_of group state) user.id) state.users) = rw (of, all) at is in
+found_users state group ids (Ok rows) of is =
+    let by_ids : rows ≡ map (λ user. row.User user) (filter (λ user. has_id (members_of group state) user.id) state.users) = rw of at is in
     by_ids ∙ ap (map (λ user. row.User user))
     (filter_alike (λ user. has_id (members_of group state) user.id) (λ user. is_member state.members group user.id) state.users (λ user _. any_user state.members group user.id))
-found_users state group ids users (Err memory) of all is = tt
+found_users state group ids (Err memory) of is = tt

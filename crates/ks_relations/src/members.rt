@@ -8,13 +8,13 @@ ghost use Rattle.ks_machine.specs.Effective.{is_member};
 ghost use Rattle.ks_checks.specs.Plans.{Passes, Plans, outcome_of};
 
 use ks_auth::Tables;
-use ks_base::{Boxed, GroupRow, Id, ImplyRow, Kind, MemberRow, Memory, UserRow, has_id};
+use ks_base::{Boxed, Id, ImplyRow, MemberRow, Memory};
 use ks_checks::checks::{row, standing_group, standing_role, standing_user};
 use ks_checks::names::{titled_role, titled_roles};
 use ks_checks::paths::joined;
 use ks_checks::standing::{is_implication, is_joined};
 use ks_checks::{Halt, Plan};
-use ks_machine::{BodyOut, Change, Row, RowList};
+use ks_machine::{BodyOut, Change, Row, RowKind, RowList};
 use std::alloc::Global;
 
 /// A row that stands is no change.
@@ -28,32 +28,32 @@ pub fn unless_standing(stands: bool, new: Change, told: BodyOut) -> Plan
     }
 }
 
-/// The groups whose ids are among these.
-fn groups_among(alloc: Global, groups: &[Boxed<GroupRow>], ids: &[Id]) -> Result<RowList, Memory>
+/// The rows of the groups with these ids, each found by its id.
+fn groups_among(alloc: Global, tables: &Tables, ids: &[Id]) -> Result<RowList, Memory>
     requires { IsAscending id_cmp (λ next. next) ids.now }
-    ensures { IfOk result (λ rows. rows ≡ map (λ found. Row.Group found) (filter (λ group. has_id ids.now group.id) groups.now)) }
+    ensures { IfOk result (λ rows. rows ≡ map (λ found. Row.Group found) (filter (λ group. has_id ids.now group.id) tables.now.people.now.groups)) }
 {
     let mut rows = RowList::new(alloc);
-    for group in groups {
-        let group = group.get();
-        if has_id(ids, &group.id) {
-            rows.push(Row::Group(group.copy()?))?;
-        }
+    for id in ids {
+        let Some(group) = tables.people.group(id) else {
+            continue;
+        };
+        rows.push(Row::Group(group.copy()?))?;
     }
     Ok(rows)
 }
 
-/// The users whose ids are among these.
-fn users_among(alloc: Global, users: &[Boxed<UserRow>], ids: &[Id]) -> Result<RowList, Memory>
+/// The rows of the users with these ids, each found by its id.
+fn users_among(alloc: Global, tables: &Tables, ids: &[Id]) -> Result<RowList, Memory>
     requires { IsAscending id_cmp (λ next. next) ids.now }
-    ensures { IfOk result (λ rows. rows ≡ map (λ found. Row.User found) (filter (λ user. has_id ids.now user.id) users.now)) }
+    ensures { IfOk result (λ rows. rows ≡ map (λ found. Row.User found) (filter (λ user. has_id ids.now user.id) tables.now.people.now.users)) }
 {
     let mut rows = RowList::new(alloc);
-    for user in users {
-        let user = user.get();
-        if has_id(ids, &user.id) {
-            rows.push(Row::User(user.copy()?))?;
-        }
+    for id in ids {
+        let Some(user) = tables.people.user(id) else {
+            continue;
+        };
+        rows.push(Row::User(user.copy()?))?;
     }
     Ok(rows)
 }
@@ -63,7 +63,7 @@ fn groups_found(alloc: Global, tables: &Tables, user: &Id) -> Result<RowList, Me
     ensures { IfOk result (λ rows. rows ≡ map (λ found. Row.Group found) (filter (λ group. is_member tables.now.people.now.members group.id user.now) tables.now.people.now.groups)) }
 {
     let ids = tables.people.groups_of(user)?;
-    groups_among(alloc, tables.people.groups(), ids.as_slice())
+    groups_among(alloc, tables, ids.as_slice())
 }
 
 /// The rows of the users in the group.
@@ -71,7 +71,7 @@ fn users_found(alloc: Global, tables: &Tables, group: &Id) -> Result<RowList, Me
     ensures { IfOk result (λ rows. rows ≡ map (λ found. Row.User found) (filter (λ user. is_member tables.now.people.now.members group.now user.id) tables.now.people.now.users)) }
 {
     let ids = tables.people.members_of(group)?;
-    users_among(alloc, tables.people.users(), ids.as_slice())
+    users_among(alloc, tables, ids.as_slice())
 }
 
 /// The groups that the user is in.
@@ -82,7 +82,7 @@ pub fn groups_of(alloc: Global, tables: &Tables, user: &Id) -> Result<Plan, Halt
     let _user = standing_user(tables, user)?;
     let rows = groups_found(alloc, tables, user)?;
     let path = joined(alloc, "/v3/users/", user.as_str(), "/groups")?;
-    Ok(Plan::tells(BodyOut::Many(Kind::Group, rows, path)))
+    Ok(Plan::tells(BodyOut::Many(RowKind::Group, rows, path)))
 }
 
 /// The users in the group.
@@ -93,7 +93,7 @@ pub fn members_of(alloc: Global, tables: &Tables, group: &Id) -> Result<Plan, Ha
     let _group = standing_group(tables, group)?;
     let rows = users_found(alloc, tables, group)?;
     let path = joined(alloc, "/v3/groups/", group.as_str(), "/users")?;
-    Ok(Plan::tells(BodyOut::Many(Kind::User, rows, path)))
+    Ok(Plan::tells(BodyOut::Many(RowKind::User, rows, path)))
 }
 
 #[tactic(auto, unfolding(ks_machine::specs::Members::join))]

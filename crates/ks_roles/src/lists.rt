@@ -3,20 +3,16 @@ ghost use Rattle.ks_base.specs.Tables.{id_cmp, IsAscending};
 ghost use Rattle.ks_base.specs.RoleLists.{implied_ids, is_named};
 
 use crate::Roles;
+use crate::named::OfPrior;
 use ks_base::{Boxed, Id, IdList, ImplyRow, Memory, Text};
 use std::alloc::{AllocError, Global};
 
-/// The roles that these implications let follow from this one.
-fn implied_of(
-    alloc: Global,
-    implications: &[Boxed<ImplyRow>],
-    prior: &Id,
-) -> Result<Vec<Id>, AllocError>
-    ensures { IfOk result (λ ids. ids.items ≡ implied_ids prior.now implications.now) }
+/// The roles that these implications let follow.
+fn implied_in(alloc: Global, implications: &[Boxed<ImplyRow>]) -> Result<Vec<Id>, AllocError>
+    ensures { IfOk result (λ ids. ids.items ≡ map (λ row. row.implied) implications.now) }
 {
     implications
         .iter()
-        .filter(|row| row.get().prior == *prior)
         .map(|row| row.get().implied)
         .collect(alloc)
 }
@@ -36,13 +32,13 @@ impl Roles {
         self.roles.ids_named(name)
     }
 
-    /// The ids of the roles that this one implies directly, in their order.
-    #[tactic(auto, using(crate::proofs::ImplyLemmas::implied_ascend))]
+    /// The ids of the roles that this one implies directly, in their order. No other implications are gone through.
     pub fn implied_by(&self, prior: &Id) -> Result<IdList, Memory>
         ensures ids { IfOk result (λ ids. ids ≡ implied_ids prior.now self.now.implications) }
         ensures ascending { IfOk result (λ ids. IsAscending id_cmp (λ id. id) ids) }
     {
-        let implied = implied_of(self.alloc, self.implications.rows(), prior)?;
+        let _ascending = self.implications.rows();
+        let implied = implied_in(self.alloc, self.implications.of(&OfPrior { prior: *prior }))?;
         Ok(IdList::from_vec(implied))
     }
 }

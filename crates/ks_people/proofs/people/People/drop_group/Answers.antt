@@ -1,5 +1,4 @@
-use Rattle.std.proofs.Common.{◌≡◌, List, None, filter, not, rules, ◌∙◌}
-use Rattle.ks_base.specs.declared.users.MemberRow.{MemberRow}
+use Rattle.std.proofs.Common.{◌≡◌, filter, not, rules, ◌∙◌}
 use Rattle.ks_base.specs.People.{is_of_group}
 use Rattle.ks_base.specs.PeopleFaults.{drop_group_fault}
 use Rattle.ks_people.proofs.MemberLemmas.{not_in_group}

@@ -2,7 +2,7 @@ use Rattle.std.proofs.Common.{ap, not, ◌∙◌}
 use Rattle.std.specs.List.{filter}
 use Rattle.std.specs.Ordering.{is_eq}
 use Rattle.ks_base.proofs.LinkLemmas.{linked_is, linked_without, without_sides}
-use Rattle.ks_index.proofs.links.Links.drop_of.Goals as goal
+use Rattle.ks_index.proofs.links.Links.drop_few_of.Goals as goal
 
 pub invariant_of-self : goal.invariant_of-self
 invariant_of-self g c =
