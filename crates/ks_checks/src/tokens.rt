@@ -4,7 +4,7 @@ ghost use Rattle.ks_auth.specs.Answers.{Tells};
 ghost use Rattle.ks_auth.specs.Facts.{told};
 ghost use Rattle.ks_machine.specs.Attempts.{blame};
 ghost use Rattle.ks_machine.specs.States.{State};
-ghost use Rattle.ks_machine.specs.Steps.{caller_of, missing, subject_of};
+ghost use Rattle.ks_machine.specs.Admission.{caller_of, missing, subject_of};
 ghost use Rattle.ks_machine.specs.Validity.{lacking, validity};
 ghost use Rattle.ks_checks.specs.Plans.{Gives, valid_of};
 ghost use Rattle.ks_checks.specs.Tokens.{IsUsable, blamed};
@@ -101,7 +101,7 @@ pub fn missing(alloc: Global, name: &str) -> Result<Cause, Memory>
 }
 
 /// The caller, by the text of a token.
-#[tactic(auto, unfolding(ks_machine::specs::Steps::caller_of))]
+#[tactic(auto, unfolding(ks_machine::specs::Admission::caller_of))]
 pub fn caller_of(
     alloc: Global,
     tables: &Tables,
@@ -121,7 +121,7 @@ pub fn caller_of(
 }
 
 /// The token that a call is about.
-#[tactic(auto, unfolding(ks_machine::specs::Steps::subject_of))]
+#[tactic(auto, unfolding(ks_machine::specs::Admission::subject_of))]
 pub fn subject_of(
     alloc: Global,
     tables: &Tables,

@@ -47,7 +47,7 @@ use Rattle.ks_laws.proofs.CatalogLemmas.{anchored_endpoint_dropped, anchored_end
 use Rattle.ks_laws.proofs.ListLemmas.{after_drop, each_drop, each_of_all, each_put, found_is_among, is_same, is_there, none_apply, other_stands, same_is, stands_put}
 use Rattle.ks_machine.specs.declared.change.Change.{Change}
 use Rattle.ks_machine.specs.declared.change.Change.TheVariants as change
-use Rattle.ks_machine.specs.Changes.{domain_dropped, group_dropped, is_actor_gone, is_cred_left, is_domain_group, is_domain_project, is_domain_user, is_grant_left, is_id_of, is_left, is_of_domain, is_target_gone, project_dropped, role_dropped, rows_after, touches, user_dropped}
+use Rattle.ks_machine.specs.Changes.{domain_dropped, effect, group_dropped, is_actor_gone, is_cred_left, is_domain_group, is_domain_project, is_domain_user, is_grant_left, is_id_of, is_left, is_of_domain, is_target_gone, project_dropped, role_dropped, user_dropped}
 use Rattle.ks_machine.specs.Lawful.{ActorStands, Fits, IsAppCredMade, IsStanding, IsTrustMade, TargetStands}
 use Rattle.ks_machine.specs.States.{State}
 use Rattle.ks_machine.specs.Tables.{catalogs, factors, people, put_factors, put_people, roles}
@@ -310,7 +310,7 @@ user_spares rows id = record {
 }
 
 user_anchored : (rows : Rows) (id : Id) → AreAnchored rows → AreAnchored (user_dropped rows id)
-unfolding user_gone nowhere user_dropped touches
+unfolding user_gone nowhere user_dropped
 user_anchored rows id old =
     anchored_on rows (user_dropped rows id) (user_gone id) (user_spares rows id)
     (λ row among.
@@ -415,7 +415,7 @@ project_spares rows id = record {
 }
 
 project_anchored : (rows : Rows) (id : Id) → AreAnchored rows → AreAnchored (project_dropped rows id)
-unfolding project_gone nowhere project_dropped touches
+unfolding project_gone nowhere project_dropped
 project_anchored rows id old =
     anchored_on rows (project_dropped rows id) (project_gone id) (project_spares rows id)
     (λ row among. record { stood = old.members row among; group = refl; user = refl })
@@ -468,7 +468,7 @@ role_spares rows id = record {
 }
 
 role_anchored : (rows : Rows) (id : Id) → AreAnchored rows → AreAnchored (role_dropped rows id)
-unfolding role_gone nowhere role_dropped touches
+unfolding role_gone nowhere role_dropped
 role_anchored rows id old =
     anchored_on rows (role_dropped rows id) (role_gone id) (role_spares rows id)
     (λ row among. record { stood = old.members row among; group = refl; user = refl })
@@ -544,7 +544,7 @@ domain_spares rows id = record {
 }
 
 domain_anchored : (rows : Rows) (id : Id) → AreAnchored rows → AreAnchored (domain_dropped rows id)
-unfolding domain_gone nowhere domain_dropped touches
+unfolding domain_gone nowhere domain_dropped
 domain_anchored rows id old =
     anchored_on rows (domain_dropped rows id) (domain_gone rows id) (domain_spares rows id)
     (λ row among.
@@ -674,10 +674,10 @@ new_cred_stands rows row made = record {
   roles = each_of_all (λ role. IsStanding (role_of role rows.roles)) row.roles made.roles;
 }
 
-pub anchored_kept : (S : State) (moment : ℕ) (what : Change) → Fits S moment what → AreAnchored S.rows → AreAnchored (rows_after S.rows what)
-unfolding Fits rows_after
+pub anchored_kept : (S : State) (moment : ℕ) (what : Change) → Fits S moment what → AreAnchored S.rows → AreAnchored (effect S what).rows
+unfolding Fits effect
 anchored_kept S moment (change.PutDomain row) fits old =
-    anchored_with S.rows (rows_after S.rows (change.PutDomain row)) (record {
+    anchored_with S.rows (effect S (change.PutDomain row)).rows (record {
       domains = λ id. stands_put (λ (r : DomainRow). r.id) row S.rows.domains id;
       projects = λ id stands. stands;
       users = λ id stands. stands;
@@ -685,7 +685,7 @@ anchored_kept S moment (change.PutDomain row) fits old =
       roles = λ id stands. stands;
     }) old.members old.implications old.grants old.trusts old.catalog old.credentials
 anchored_kept S moment (change.PutProject row) fits old =
-    anchored_with S.rows (rows_after S.rows (change.PutProject row)) (record {
+    anchored_with S.rows (effect S (change.PutProject row)).rows (record {
       domains = λ id stands. stands;
       projects = λ id. stands_put (λ (r : ProjectRow). r.id) row S.rows.projects id;
       users = λ id stands. stands;
@@ -694,7 +694,7 @@ anchored_kept S moment (change.PutProject row) fits old =
     }) old.members old.implications old.grants old.trusts old.catalog old.credentials
 anchored_kept S moment (change.PutUser row) fits old = anchored_user_put S.rows row old
 anchored_kept S moment (change.PutGroup row) fits old =
-    anchored_with S.rows (rows_after S.rows (change.PutGroup row)) (record {
+    anchored_with S.rows (effect S (change.PutGroup row)).rows (record {
       domains = λ id stands. stands;
       projects = λ id stands. stands;
       users = λ id stands. stands;
@@ -702,7 +702,7 @@ anchored_kept S moment (change.PutGroup row) fits old =
       roles = λ id stands. stands;
     }) old.members old.implications old.grants old.trusts old.catalog old.credentials
 anchored_kept S moment (change.PutRole row) fits old =
-    anchored_with S.rows (rows_after S.rows (change.PutRole row)) (record {
+    anchored_with S.rows (effect S (change.PutRole row)).rows (record {
       domains = λ id stands. stands;
       projects = λ id stands. stands;
       users = λ id stands. stands;
@@ -710,7 +710,7 @@ anchored_kept S moment (change.PutRole row) fits old =
       roles = λ id. stands_put (λ (r : RoleRow). r.id) row S.rows.roles id;
     }) old.members old.implications old.grants old.trusts old.catalog old.credentials
 anchored_kept S moment (change.PutTrust row) fits old =
-    anchored_with S.rows (rows_after S.rows (change.PutTrust row)) (same_rows S.rows (rows_after S.rows (change.PutTrust row)) refl refl refl refl refl)
+    anchored_with S.rows (effect S (change.PutTrust row)).rows (same_rows S.rows (effect S (change.PutTrust row)).rows refl refl refl refl refl)
     old.members old.implications old.grants (put_trust_stand S.rows moment row fits old.trusts) old.catalog old.credentials
 anchored_kept S moment (change.DropDomain id) fits old = domain_anchored S.rows id old
 anchored_kept S moment (change.DropProject id) fits old = project_anchored S.rows id old
@@ -718,75 +718,75 @@ anchored_kept S moment (change.DropUser id) fits old = user_anchored S.rows id o
 anchored_kept S moment (change.DropGroup id) fits old = group_anchored S.rows id old
 anchored_kept S moment (change.DropRole id) fits old = role_anchored S.rows id old
 anchored_kept S moment (change.DropTrust id) fits old =
-    anchored_with S.rows (rows_after S.rows (change.DropTrust id)) (same_rows S.rows (rows_after S.rows (change.DropTrust id)) refl refl refl refl refl)
+    anchored_with S.rows (effect S (change.DropTrust id)).rows (same_rows S.rows (effect S (change.DropTrust id)).rows refl refl refl refl refl)
     old.members old.implications old.grants
-    (λ trust among. old.trusts trust (among_filter (λ trust. not (goes S.rows.trusts (touches S.rows (change.DropTrust id)) trust)) S.rows.trusts trust among).0)
+    (λ trust among. old.trusts trust (among_filter (λ trust. not (goes S.rows.trusts (names_trust (revoke.Trust id)) trust)) S.rows.trusts trust among).0)
     old.catalog old.credentials
 anchored_kept S moment (change.Join row) fits old =
-    anchored_with S.rows (rows_after S.rows (change.Join row)) (same_rows S.rows (rows_after S.rows (change.Join row)) refl refl refl refl refl)
+    anchored_with S.rows (effect S (change.Join row)).rows (same_rows S.rows (effect S (change.Join row)).rows refl refl refl refl refl)
     (each_put_by member_cmp (IsMemberAnchored S.rows) row S.rows.members (member_stands S.rows row fits) old.members) old.implications old.grants old.trusts old.catalog old.credentials
 anchored_kept S moment (change.Leave row) fits old =
-    anchored_with S.rows (rows_after S.rows (change.Leave row)) (same_rows S.rows (rows_after S.rows (change.Leave row)) refl refl refl refl refl)
+    anchored_with S.rows (effect S (change.Leave row)).rows (same_rows S.rows (effect S (change.Leave row)).rows refl refl refl refl refl)
     (each_drop_by member_cmp (IsMemberAnchored S.rows) row S.rows.members old.members) old.implications old.grants old.trusts old.catalog old.credentials
 anchored_kept S moment (change.Imply row) fits old =
-    anchored_with S.rows (rows_after S.rows (change.Imply row)) (same_rows S.rows (rows_after S.rows (change.Imply row)) refl refl refl refl refl)
+    anchored_with S.rows (effect S (change.Imply row)).rows (same_rows S.rows (effect S (change.Imply row)).rows refl refl refl refl refl)
     old.members (each_put_by imply_cmp (IsImplicationAnchored S.rows) row S.rows.implications (implication_stands S.rows row fits) old.implications) old.grants old.trusts old.catalog old.credentials
 anchored_kept S moment (change.Unimply row) fits old =
-    anchored_with S.rows (rows_after S.rows (change.Unimply row)) (same_rows S.rows (rows_after S.rows (change.Unimply row)) refl refl refl refl refl)
+    anchored_with S.rows (effect S (change.Unimply row)).rows (same_rows S.rows (effect S (change.Unimply row)).rows refl refl refl refl refl)
     old.members (each_drop_by imply_cmp (IsImplicationAnchored S.rows) row S.rows.implications old.implications) old.grants old.trusts old.catalog old.credentials
 anchored_kept S moment (change.Grant row) fits old =
-    anchored_with S.rows (rows_after S.rows (change.Grant row)) (same_rows S.rows (rows_after S.rows (change.Grant row)) refl refl refl refl refl)
+    anchored_with S.rows (effect S (change.Grant row)).rows (same_rows S.rows (effect S (change.Grant row)).rows refl refl refl refl refl)
     old.members old.implications (each_put_by grant_cmp (IsGrantAnchored S.rows) row S.rows.grants (record { target = fits.0.1; actor = fits.0.2; role = fits.0.3 }) old.grants) old.trusts old.catalog old.credentials
 anchored_kept S moment (change.Ungrant row) fits old =
-    anchored_with S.rows (rows_after S.rows (change.Ungrant row)) (same_rows S.rows (rows_after S.rows (change.Ungrant row)) refl refl refl refl refl)
+    anchored_with S.rows (effect S (change.Ungrant row)).rows (same_rows S.rows (effect S (change.Ungrant row)).rows refl refl refl refl refl)
     old.members old.implications (each_drop_by grant_cmp (IsGrantAnchored S.rows) row S.rows.grants old.grants) old.trusts old.catalog old.credentials
 anchored_kept S moment (change.UseTrust id) fits old =
-    anchored_with S.rows (rows_after S.rows (change.UseTrust id)) (same_rows S.rows (rows_after S.rows (change.UseTrust id)) refl refl refl refl refl)
+    anchored_with S.rows (effect S (change.UseTrust id)).rows (same_rows S.rows (effect S (change.UseTrust id)).rows refl refl refl refl refl)
     old.members old.implications old.grants (used_stand S.rows id old.trusts) old.catalog old.credentials
 anchored_kept S moment (change.RevokeToken audit) fits old = old
 anchored_kept S moment (change.Rotate key) fits old = old
 anchored_kept S moment (change.Load keys) fits old = old
 anchored_kept S moment (change.PutRegion row) fits old =
-    anchored_with S.rows (rows_after S.rows (change.PutRegion row)) (same_rows S.rows (rows_after S.rows (change.PutRegion row)) refl refl refl refl refl)
+    anchored_with S.rows (effect S (change.PutRegion row)).rows (same_rows S.rows (effect S (change.PutRegion row)).rows refl refl refl refl refl)
     old.members old.implications old.grants old.trusts (anchored_region_put row (catalogs S.rows) fits.1 old.catalog) old.credentials
 anchored_kept S moment (change.PutService row) fits old =
-    anchored_with S.rows (rows_after S.rows (change.PutService row)) (same_rows S.rows (rows_after S.rows (change.PutService row)) refl refl refl refl refl)
+    anchored_with S.rows (effect S (change.PutService row)).rows (same_rows S.rows (effect S (change.PutService row)).rows refl refl refl refl refl)
     old.members old.implications old.grants old.trusts (anchored_service_put row (catalogs S.rows) old.catalog) old.credentials
 anchored_kept S moment (change.PutEndpoint row) fits old =
-    anchored_with S.rows (rows_after S.rows (change.PutEndpoint row)) (same_rows S.rows (rows_after S.rows (change.PutEndpoint row)) refl refl refl refl refl)
+    anchored_with S.rows (effect S (change.PutEndpoint row)).rows (same_rows S.rows (effect S (change.PutEndpoint row)).rows refl refl refl refl refl)
     old.members old.implications old.grants old.trusts (anchored_endpoint_put row (catalogs S.rows) fits.1 old.catalog) old.credentials
 anchored_kept S moment (change.DropRegion id) fits old =
-    anchored_with S.rows (rows_after S.rows (change.DropRegion id)) (same_rows S.rows (rows_after S.rows (change.DropRegion id)) refl refl refl refl refl)
+    anchored_with S.rows (effect S (change.DropRegion id)).rows (same_rows S.rows (effect S (change.DropRegion id)).rows refl refl refl refl refl)
     old.members old.implications old.grants old.trusts (anchored_region_dropped id (catalogs S.rows) fits old.catalog) old.credentials
 anchored_kept S moment (change.DropService id) fits old =
-    anchored_with S.rows (rows_after S.rows (change.DropService id)) (same_rows S.rows (rows_after S.rows (change.DropService id)) refl refl refl refl refl)
+    anchored_with S.rows (effect S (change.DropService id)).rows (same_rows S.rows (effect S (change.DropService id)).rows refl refl refl refl refl)
     old.members old.implications old.grants old.trusts (anchored_service_dropped id (catalogs S.rows) old.catalog) old.credentials
 anchored_kept S moment (change.DropEndpoint id) fits old =
-    anchored_with S.rows (rows_after S.rows (change.DropEndpoint id)) (same_rows S.rows (rows_after S.rows (change.DropEndpoint id)) refl refl refl refl refl)
+    anchored_with S.rows (effect S (change.DropEndpoint id)).rows (same_rows S.rows (effect S (change.DropEndpoint id)).rows refl refl refl refl refl)
     old.members old.implications old.grants old.trusts (anchored_endpoint_dropped id (catalogs S.rows) old.catalog) old.credentials
 anchored_kept S moment (change.PutAppCred row) fits old =
-    anchored_with S.rows (rows_after S.rows (change.PutAppCred row)) (same_rows S.rows (rows_after S.rows (change.PutAppCred row)) refl refl refl refl refl)
+    anchored_with S.rows (effect S (change.PutAppCred row)).rows (same_rows S.rows (effect S (change.PutAppCred row)).rows refl refl refl refl refl)
     old.members old.implications old.grants old.trusts old.catalog (record {
       app_creds = each_put (λ (r : AppCredRow). r.id) (IsCredAnchored S.rows) row S.rows.app_creds (new_cred_stands S.rows row fits) old.credentials.app_creds;
       secrets_users = old.credentials.secrets_users;
       rules_users = old.credentials.rules_users;
     })
 anchored_kept S moment (change.DropAppCred id) fits old =
-    anchored_with S.rows (rows_after S.rows (change.DropAppCred id)) (same_rows S.rows (rows_after S.rows (change.DropAppCred id)) refl refl refl refl refl)
+    anchored_with S.rows (effect S (change.DropAppCred id)).rows (same_rows S.rows (effect S (change.DropAppCred id)).rows refl refl refl refl refl)
     old.members old.implications old.grants old.trusts old.catalog (record {
       app_creds = each_drop (λ (r : AppCredRow). r.id) (IsCredAnchored S.rows) id S.rows.app_creds old.credentials.app_creds;
       secrets_users = old.credentials.secrets_users;
       rules_users = old.credentials.rules_users;
     })
 anchored_kept S moment (change.PutSecret row) fits old =
-    anchored_with S.rows (rows_after S.rows (change.PutSecret row)) (same_rows S.rows (rows_after S.rows (change.PutSecret row)) refl refl refl refl refl)
+    anchored_with S.rows (effect S (change.PutSecret row)).rows (same_rows S.rows (effect S (change.PutSecret row)).rows refl refl refl refl refl)
     old.members old.implications old.grants old.trusts old.catalog (record {
       app_creds = old.credentials.app_creds;
       secrets_users = each_put (λ (r : SecretRow). r.id) (λ (r : SecretRow). UserStands S.rows r.user) row S.rows.secrets fits.1 old.credentials.secrets_users;
       rules_users = old.credentials.rules_users;
     })
 anchored_kept S moment (change.DropSecret id) fits old =
-    anchored_with S.rows (rows_after S.rows (change.DropSecret id)) (same_rows S.rows (rows_after S.rows (change.DropSecret id)) refl refl refl refl refl)
+    anchored_with S.rows (effect S (change.DropSecret id)).rows (same_rows S.rows (effect S (change.DropSecret id)).rows refl refl refl refl refl)
     old.members old.implications old.grants old.trusts old.catalog (record {
       app_creds = old.credentials.app_creds;
       secrets_users = each_drop (λ (r : SecretRow). r.id) (λ (r : SecretRow). UserStands S.rows r.user) id S.rows.secrets old.credentials.secrets_users;

@@ -24,6 +24,7 @@ use Rattle.ks_machine.specs.declared.body_out.BodyOut.TheVariants as body
 use Rattle.ks_machine.specs.declared.body_out.Row.TheVariants as row
 use Rattle.ks_machine.specs.declared.cause.Cause.TheVariants as cause
 use Rattle.ks_machine.specs.declared.change.Change.TheVariants as change
+use Rattle.ks_machine.specs.declared.row_kind.RowKind.TheVariants as row_kind
 use Rattle.ks_machine.specs.Attempts.{Go, ◌>>=◌, found}
 use Rattle.ks_machine.specs.CatalogCommands.{create_catalog, create_endpoint, create_region, create_service, given_id_free, unchanged_if_any, update_catalog, update_endpoint, update_region, update_service}
 use Rattle.ks_machine.specs.Creations.{text_or_empty}
@@ -197,21 +198,21 @@ good_update_catalog S moment id of.Endpoint asked old is = good_update_endpoint 
 
 -- deletions
 
-pub good_delete_region : (S : State) (moment : ℕ) (id : Id) → Gives (IsGood S moment) (delete S.rows kind.Region id)
+pub good_delete_region : (S : State) (moment : ℕ) (id : Id) → Gives (IsGood S moment) (delete S.rows row_kind.Region id)
 unfolding delete Fits
 good_delete_region S moment id =
     gives_bind (λ _. drop_region_fault (catalogs S.rows) id ≡ None) (IsGood S moment) (unless_catalog (drop_region_fault (catalogs S.rows) id)) _
     (gives_fault catalog_cause (drop_region_fault (catalogs S.rows) id)) (λ _ free.
     good_changes S moment (change.DropRegion id) body.Nothing (λ room. free) tt)
 
-pub good_delete_service : (S : State) (moment : ℕ) (id : Id) → Gives (IsGood S moment) (delete S.rows kind.Service id)
+pub good_delete_service : (S : State) (moment : ℕ) (id : Id) → Gives (IsGood S moment) (delete S.rows row_kind.Service id)
 unfolding delete Fits
 good_delete_service S moment id =
     gives_bind (λ old. service_of id S.rows.services ≡ Some old) (IsGood S moment) (standing_service S.rows id) _
     (gives_found (service_of id S.rows.services) (cause.Absent kind.Service id)) (λ old is.
     good_changes S moment (change.DropService id) body.Nothing (λ room. ap (λ o. fault_if (not (is_some o)) (fault.Absent kind.Service id)) is) tt)
 
-pub good_delete_endpoint : (S : State) (moment : ℕ) (id : Id) → Gives (IsGood S moment) (delete S.rows kind.Endpoint id)
+pub good_delete_endpoint : (S : State) (moment : ℕ) (id : Id) → Gives (IsGood S moment) (delete S.rows row_kind.Endpoint id)
 unfolding delete Fits
 good_delete_endpoint S moment id =
     gives_bind (λ old. endpoint_of id S.rows.endpoints ≡ Some old) (IsGood S moment) (standing_endpoint S.rows id) _

@@ -13,7 +13,7 @@ use Rattle.ks_laws.proofs.StateLemmas.{orderly_kept, orderly_later}
 use Rattle.ks_laws.proofs.TreeLemmas.{above_is_ancestry}
 use Rattle.ks_machine.specs.declared.change.Change.{Change}
 use Rattle.ks_machine.specs.declared.change.Entry.{Entry}
-use Rattle.ks_machine.specs.Changes.{apply, ring_after}
+use Rattle.ks_machine.specs.Changes.{apply, effect}
 use Rattle.ks_machine.specs.Fronts.{replay, replayed}
 use Rattle.ks_machine.specs.Lawful.{AreLawful, Fits}
 use Rattle.ks_machine.specs.Opened.{opened_state}
@@ -52,7 +52,7 @@ fits_at S high moment what fits = fits
 
 orderly_after : (S : State) (last : ℕ) (entries : List Entry) (high : ℕ) → AreLawful S last entries high → IsOrderly (record S { high = high }) →
     IsOrderly (record (replayed S entries) { high = high })
-unfolding AreLawful replayed apply ring_after
+unfolding AreLawful replayed apply effect
 orderly_after S last [] high lawful old = old
 orderly_after S last (entry ∷ entries) high lawful old =
     orderly_after (apply S entry.moment entry.change) entry.moment entries high lawful.4

@@ -1,6 +1,7 @@
 -- What holds of all that a check gives where it goes on, and which outcomes of commands are good ones: the change fits, and what is told
 -- can be.
 use Rattle.std.proofs.Common.{◌≡◌, ℕ, ◌<◌, ◌^◌, Bool, true, false, Option, Some, None, refl, subst}
+use Rattle.std.specs.Prelude.{IfSome}
 use Rattle.ks_laws.specs.Laws.{FitsIf}
 use Rattle.ks_machine.specs.declared.body_out.BodyOut.{BodyOut}
 use Rattle.ks_machine.specs.declared.cause.Cause.{Cause}
@@ -61,6 +62,11 @@ pub gives_found : {E A : Type 0} (o : Option A) (e : E) → Gives (λ a. o ≡ S
 unfolding Gives
 gives_found (Some a) e = refl
 gives_found None e = tt
+
+pub gives_some : {E A : Type 0} (P : A → Type 0) (o : Option A) (e : E) → IfSome o P → Gives P (found o e)
+unfolding Gives
+gives_some P (Some a) e is = is
+gives_some P None e is = tt
 
 pub gives_blame : {E F A : Type 0} (P : A → Type 0) (f : E → F) (a : Attempt E A) → Gives P a → Gives P (blame f a)
 unfolding Gives

@@ -3,12 +3,14 @@
 use Rattle.std.proofs.Common.{◌≡◌, ℕ, ◌+◌, Bool, true, false, Option, Some, None, inl, inr, codes, option_map, refl, ap, ◌∙◌}
 use Rattle.std.specs.Prelude.{not, is_some, ◌&&◌, ◌||◌}
 use Rattle.ks_base.specs.declared.app_creds.AppCredRow.{AppCredRow}
+use Rattle.ks_base.specs.declared.receipt.Drawn.{Drawn}
+use Rattle.ks_base.specs.declared.receipt.Drawn.TheVariants.{Unused, Bytes, Failed}
 use Rattle.ks_base.specs.declared.users.PasswordRow.{PasswordRow}
 use Rattle.ks_base.specs.declared.users.UserRow.{UserRow}
 use Rattle.ks_base.specs.Rows.{Id, Text, user_of}
 use Rattle.ks_laws.specs.Lacking.{IsNewOf, IsTestedOf, IsTestedRow, IsTokenOf, kept_of, password_in, secret_in}
 use Rattle.ks_laws.proofs.AsksLemmas.{Asks, asks_behind_found, asks_behind_need, asks_bind, asks_blame, asks_decided, asks_fault, asks_found, asks_go, asks_map, asks_need, asks_unless}
-use Rattle.ks_laws.proofs.QuietLemmas.{asks_allows, asks_by_code, asks_create_catalog, asks_create_domain, asks_create_group, asks_create_project, asks_create_role, asks_create_secret, asks_create_trust, asks_delete, asks_delete_app_cred, asks_delete_secret, asks_get, asks_get_app_cred, asks_get_secret, asks_grant, asks_grants_of, asks_is_granted, asks_is_in, asks_lines, asks_list_app_creds, asks_load, asks_roles_given, asks_roles_held, asks_room, asks_rotate, asks_scoped_by, asks_shown_by, asks_update_catalog, asks_update_domain, asks_update_group, asks_update_project, asks_update_role}
+use Rattle.ks_laws.proofs.QuietLemmas.{asks_by_code, asks_create_catalog, asks_create_domain, asks_create_group, asks_create_project, asks_create_role, asks_create_secret, asks_create_trust, asks_delete, asks_delete_app_cred, asks_delete_secret, asks_get, asks_get_app_cred, asks_get_secret, asks_grant, asks_grants_of, asks_is_granted, asks_is_in, asks_lines, asks_list_app_creds, asks_load, asks_roles_given, asks_roles_held, asks_room, asks_rotate, asks_scoped_by, asks_shown_by, asks_update_catalog, asks_update_domain, asks_update_group, asks_update_project, asks_update_role}
 use Rattle.ks_machine.specs.declared.bodies.AppCredBody.{AppCredBody}
 use Rattle.ks_machine.specs.declared.bodies.LoginBody.{LoginBody}
 use Rattle.ks_machine.specs.declared.bodies.Made.{Made}
@@ -23,8 +25,9 @@ use Rattle.ks_machine.specs.declared.command.Command.{Command}
 use Rattle.ks_machine.specs.declared.command.Command.TheVariants as command
 use Rattle.ks_machine.specs.declared.why.Why.{Why}
 use Rattle.ks_machine.specs.Actions.{draws_for, requirements}
+use Rattle.ks_machine.specs.Admission.{Parties, admitted, caller_of, missing, nobody, subject_asked, subject_of}
 use Rattle.ks_machine.specs.AppCredCommands.{create_app_cred, secret_of_draw}
-use Rattle.ks_machine.specs.Attempts.{Attempt, Lack, Known, need}
+use Rattle.ks_machine.specs.Attempts.{Attempt, Lack, ◌>>=◌, Known, need}
 use Rattle.ks_machine.specs.Creations.{create, create_user}
 use Rattle.ks_machine.specs.Keys.{is_failed}
 use Rattle.ks_machine.specs.Login.{by_password, by_secret, is_password, login, password_method, shown, totp_method}
@@ -34,7 +37,7 @@ use Rattle.ks_machine.specs.Passwords.{change_password, derived, derived_or}
 use Rattle.ks_machine.specs.Scopes.{cred_in, user_in}
 use Rattle.ks_machine.specs.Room.{event_limit}
 use Rattle.ks_machine.specs.States.{State}
-use Rattle.ks_machine.specs.Steps.{answered, as_caller, as_caller_about, caller_of, checked, has_drawn, lacking_of, missing, subject_of}
+use Rattle.ks_machine.specs.Steps.{bytes_drawn, checked, has_drawn, lacking_of, on_subject, own_checks, planned, planned_by}
 use Rattle.ks_machine.specs.TrustCommands.{delete_trust, get_trust, roles_of_trust}
 use Rattle.ks_machine.specs.Updates.{update, update_user}
 use Rattle.ks_machine.specs.Validity.{Valid, opens, validity}
@@ -64,14 +67,27 @@ module _ (P : Lack → Type 0) (known : Known) (S : State) (call : Call) (checks
   asks_subject moment late =
       asks_behind_found P call.subject (missing (codes "X-Subject-Token")) _ (λ text is. asks_blame P _ _ (asks_validity moment late text (inr (inl is))))
 
-  asks_as_caller : (moment : ℕ) (own : Valid → Attempt Cause Outcome) → ((caller : Valid) → Asks P (own caller)) → Asks P (as_caller known S moment call own)
-  unfolding as_caller
-  asks_as_caller moment own is =
-      asks_bind P _ _ (asks_caller moment) (λ caller. asks_bind P _ _ (asks_allows P S caller None call.command _) (λ allowed. is caller))
+  asks_asked : (moment : ℕ) (late about : Bool) → Asks P (subject_asked known S moment late call.subject about)
+  asks_asked moment late false = asks_go Cause P _
+  asks_asked moment late true = asks_map P _ _ (asks_subject moment late)
 
-  asks_about : (moment : ℕ) (late : Bool) (own : Text → Valid → Outcome) → Asks P (as_caller_about known S moment call late own)
-  unfolding as_caller_about
-  asks_about moment late own = search (asks_bind, asks_go, asks_found, asks_caller, asks_subject, asks_allows) depth 16
+  asks_admitted : (moment : ℕ) (action : Option Text) (about late : Bool) → Asks P (admitted known S S.rules S.rows moment call action about late)
+  unfolding admitted
+  asks_admitted moment None about late = asks_go Cause P nobody
+  asks_admitted moment (Some action) about late =
+      asks_bind P _ _ (asks_caller moment) (λ caller. asks_bind P _ _ (asks_asked moment late about) (λ subject. asks_map P _ _ (asks_need P _ _)))
+
+  asks_on_subject : (given : Option Text) (subject : Option Valid) (own : Text → Valid → Outcome) → Asks P (on_subject given subject own)
+  unfolding Asks
+  asks_on_subject given None own = tt
+  asks_on_subject None (Some token) own = tt
+  asks_on_subject (Some text) (Some token) own = tt
+
+  asks_drawn : (draw : Drawn) (own : Drawn → Attempt Cause Outcome) → Asks P (own draw) → Asks P (bytes_drawn draw >>= own)
+  unfolding Asks
+  asks_drawn (Bytes bytes) own is = is
+  asks_drawn Unused own is = tt
+  asks_drawn Failed own is = tt
 
   -- passwords and secrets
 
@@ -199,62 +215,71 @@ module _ (P : Lack → Type 0) (known : Known) (S : State) (call : Call) (checks
 
   -- all commands
 
-  asks_answered : (moment : ℕ) (asked : Command) → call.command ≡ asked → (not (requirements asked).draws || has_drawn call.draw) ≡ true →
-      Asks P (answered known S moment call asked)
-  unfolding answered requirements list_groups_of list_members_of join leave implied imply implication is_implied unimply ungrant get_trust delete_trust roles_of_trust
-  asks_answered moment command.Version is drawn = asks_go Cause P _
-  asks_answered moment (command.Login body) is drawn = asks_login moment body is
-  asks_answered moment (command.ChangePassword id original new) is drawn = asks_change_password id original new is drawn
-  asks_answered moment (command.Validate late) is drawn = asks_about moment late _
-  asks_answered moment (command.Check late) is drawn = asks_about moment late _
-  asks_answered moment command.RevokeToken is drawn = asks_about moment _ _
-  asks_answered moment (command.Create body) is drawn = asks_as_caller moment _ (λ caller. asks_create caller body is drawn)
-  asks_answered moment (command.List of filters) is drawn = asks_as_caller moment _ (λ caller. asks_go Cause P _)
-  asks_answered moment (command.Get of id) is drawn = asks_as_caller moment _ (λ caller. asks_get P S.rows of id)
-  asks_answered moment (command.Update id body) is drawn = asks_as_caller moment _ (λ caller. asks_update id body is drawn)
-  asks_answered moment (command.Delete of id) is drawn = asks_as_caller moment _ (λ caller. asks_delete P S.rows of id)
-  asks_answered moment (command.GroupsOf id) is drawn = asks_as_caller moment _ (λ caller. asks_map P _ _ (asks_found P _ _))
-  asks_answered moment (command.MembersOf id) is drawn = asks_as_caller moment _ (λ caller. asks_map P _ _ (asks_found P _ _))
-  asks_answered moment (command.Join row) is drawn = asks_as_caller moment _ (λ caller. asks_map P _ _ (asks_fault P _ _))
-  asks_answered moment (command.IsIn row) is drawn = asks_as_caller moment _ (λ caller. asks_is_in P S.rows row)
-  asks_answered moment (command.Leave row) is drawn = asks_as_caller moment _ (λ caller. asks_map P _ _ (asks_is_in P S.rows row))
-  asks_answered moment (command.Implied id) is drawn = asks_as_caller moment _ (λ caller. asks_map P _ _ (asks_found P _ _))
-  asks_answered moment (command.Imply row) is drawn = asks_as_caller moment _ (λ caller. asks_map P _ _ (asks_fault P _ _))
-  asks_answered moment (command.Implication row) is drawn = asks_as_caller moment _ (λ caller. asks_map P _ _ (asks_fault P _ _))
-  asks_answered moment (command.IsImplied row) is drawn = asks_as_caller moment _ (λ caller. asks_map P _ _ (asks_fault P _ _))
-  asks_answered moment (command.Unimply row) is drawn = asks_as_caller moment _ (λ caller. asks_map P _ _ (asks_fault P _ _))
-  asks_answered moment (command.GrantsOf who at inherited) is drawn = asks_as_caller moment _ (λ caller. asks_grants_of P S.rows who at inherited)
-  asks_answered moment (command.Grant row) is drawn = asks_as_caller moment _ (λ caller. asks_grant P S.rows row)
-  asks_answered moment (command.IsGranted row) is drawn = asks_as_caller moment _ (λ caller. asks_is_granted P S.rows row)
-  asks_answered moment (command.Ungrant row) is drawn = asks_as_caller moment _ (λ caller. asks_map P _ _ (asks_is_granted P S.rows row))
-  asks_answered moment (command.Assignments filters) is drawn = asks_as_caller moment _ (λ caller. asks_go Cause P _)
-  asks_answered moment (command.CreateTrust body) is drawn = asks_as_caller moment _ (λ caller. asks_create_trust P S.rows moment call.draw caller body)
-  asks_answered moment (command.Trusts filters) is drawn = asks_as_caller moment _ (λ caller. asks_go Cause P _)
-  asks_answered moment (command.Trust id) is drawn = asks_as_caller moment _ (λ caller. asks_map P _ _ (asks_found P _ _))
-  asks_answered moment (command.DeleteTrust id) is drawn = asks_as_caller moment _ (λ caller. asks_map P _ _ (asks_found P _ _))
-  asks_answered moment (command.TrustRoles id) is drawn = asks_as_caller moment _ (λ caller. asks_map P _ _ (asks_found P _ _))
-  asks_answered moment command.Events is drawn = asks_as_caller moment _ (λ caller. asks_go Cause P _)
-  asks_answered moment command.RotateKeys is drawn = asks_as_caller moment _ (λ caller. asks_rotate P S call.draw)
-  asks_answered moment command.LoadKeys is drawn = asks_as_caller moment _ (λ caller. asks_load P S call.folder)
-  asks_answered moment (command.CreateCatalog body) is drawn = asks_as_caller moment _ (λ caller. asks_create_catalog P S.rows _ body.of body)
-  asks_answered moment (command.ListCatalog of filters) is drawn = asks_as_caller moment _ (λ caller. asks_go Cause P _)
-  asks_answered moment (command.GetCatalog of id) is drawn = asks_as_caller moment _ (λ caller. asks_get P S.rows _ id)
-  asks_answered moment (command.UpdateCatalog id body) is drawn = asks_as_caller moment _ (λ caller. asks_update_catalog P S.rows id body.of body)
-  asks_answered moment (command.DeleteCatalog of id) is drawn = asks_as_caller moment _ (λ caller. asks_delete P S.rows _ id)
-  asks_answered moment command.ShowCatalog is drawn = asks_as_caller moment _ (λ caller. asks_go Cause P _)
-  asks_answered moment (command.CreateAppCred user body) is drawn = asks_as_caller moment _ (λ caller. asks_create_app_cred moment caller user body is drawn)
-  asks_answered moment (command.ListAppCreds user) is drawn = asks_as_caller moment _ (λ caller. asks_list_app_creds P S.rows user)
-  asks_answered moment (command.GetAppCred user id) is drawn = asks_as_caller moment _ (λ caller. asks_get_app_cred P S.rows user id)
-  asks_answered moment (command.DeleteAppCred user id) is drawn = asks_as_caller moment _ (λ caller. asks_delete_app_cred P S.rows caller user id)
-  asks_answered moment (command.CreateSecret body) is drawn = asks_as_caller moment _ (λ caller. asks_create_secret P S.rows call.draw body)
-  asks_answered moment command.ListSecrets is drawn = asks_as_caller moment _ (λ caller. asks_go Cause P _)
-  asks_answered moment (command.GetSecret id) is drawn = asks_as_caller moment _ (λ caller. asks_get_secret P S.rows id)
-  asks_answered moment (command.DeleteSecret id) is drawn = asks_as_caller moment _ (λ caller. asks_delete_secret P S.rows id)
+  asks_own_checks : (moment : ℕ) (who : Parties) (asked : Command) → call.command ≡ asked → (not (requirements asked).draws || has_drawn call.draw) ≡ true →
+      Asks P (own_checks known S S.rows moment call who asked)
+  unfolding own_checks requirements list_groups_of list_members_of join leave implied imply implication is_implied unimply ungrant get_trust delete_trust roles_of_trust
+  asks_own_checks moment who command.Version is drawn = asks_go Cause P _
+  asks_own_checks moment who (command.Login body) is drawn = asks_drawn call.draw _ (asks_login moment body is)
+  asks_own_checks moment who (command.ChangePassword id original new) is drawn = asks_drawn call.draw _ (asks_change_password id original new is drawn)
+  asks_own_checks moment who (command.Validate late) is drawn = asks_on_subject call.subject who.subject _
+  asks_own_checks moment who (command.Check late) is drawn = asks_on_subject call.subject who.subject _
+  asks_own_checks moment who command.RevokeToken is drawn = asks_on_subject call.subject who.subject _
+  asks_own_checks moment who (command.Create body) is drawn =
+      asks_bind P _ _ (asks_found P who.caller cause.NoToken) (λ caller. asks_drawn call.draw _ (asks_create caller body is drawn))
+  asks_own_checks moment who (command.List of filters) is drawn = asks_go Cause P _
+  asks_own_checks moment who (command.Get of id) is drawn = asks_get P S.rows of id
+  asks_own_checks moment who (command.Update id body) is drawn = asks_update id body is drawn
+  asks_own_checks moment who (command.Delete of id) is drawn = asks_delete P S.rows of id
+  asks_own_checks moment who (command.GroupsOf id) is drawn = asks_map P _ _ (asks_found P _ _)
+  asks_own_checks moment who (command.MembersOf id) is drawn = asks_map P _ _ (asks_found P _ _)
+  asks_own_checks moment who (command.Join row) is drawn = asks_map P _ _ (asks_fault P _ _)
+  asks_own_checks moment who (command.IsIn row) is drawn = asks_is_in P S.rows row
+  asks_own_checks moment who (command.Leave row) is drawn = asks_map P _ _ (asks_is_in P S.rows row)
+  asks_own_checks moment who (command.Implied id) is drawn = asks_map P _ _ (asks_found P _ _)
+  asks_own_checks moment who (command.Imply row) is drawn = asks_map P _ _ (asks_fault P _ _)
+  asks_own_checks moment who (command.Implication row) is drawn = asks_map P _ _ (asks_fault P _ _)
+  asks_own_checks moment who (command.IsImplied row) is drawn = asks_map P _ _ (asks_fault P _ _)
+  asks_own_checks moment who (command.Unimply row) is drawn = asks_map P _ _ (asks_fault P _ _)
+  asks_own_checks moment who (command.GrantsOf whose at inherited) is drawn = asks_grants_of P S.rows whose at inherited
+  asks_own_checks moment who (command.Grant row) is drawn = asks_grant P S.rows row
+  asks_own_checks moment who (command.IsGranted row) is drawn = asks_is_granted P S.rows row
+  asks_own_checks moment who (command.Ungrant row) is drawn = asks_map P _ _ (asks_is_granted P S.rows row)
+  asks_own_checks moment who (command.Assignments filters) is drawn = asks_go Cause P _
+  asks_own_checks moment who (command.CreateTrust body) is drawn =
+      asks_bind P _ _ (asks_found P who.caller cause.NoToken) (λ caller. asks_drawn call.draw _ (asks_create_trust P S.rows moment call.draw caller body))
+  asks_own_checks moment who (command.Trusts filters) is drawn = asks_go Cause P _
+  asks_own_checks moment who (command.Trust id) is drawn = asks_map P _ _ (asks_found P _ _)
+  asks_own_checks moment who (command.DeleteTrust id) is drawn = asks_map P _ _ (asks_found P _ _)
+  asks_own_checks moment who (command.TrustRoles id) is drawn = asks_map P _ _ (asks_found P _ _)
+  asks_own_checks moment who command.Events is drawn = asks_go Cause P _
+  asks_own_checks moment who command.RotateKeys is drawn = asks_drawn call.draw _ (asks_rotate P S call.draw)
+  asks_own_checks moment who command.LoadKeys is drawn = asks_load P S call.folder
+  asks_own_checks moment who (command.CreateCatalog body) is drawn = asks_drawn call.draw _ (asks_create_catalog P S.rows _ body.of body)
+  asks_own_checks moment who (command.ListCatalog of filters) is drawn = asks_go Cause P _
+  asks_own_checks moment who (command.GetCatalog of id) is drawn = asks_get P S.rows _ id
+  asks_own_checks moment who (command.UpdateCatalog id body) is drawn = asks_update_catalog P S.rows id body.of body
+  asks_own_checks moment who (command.DeleteCatalog of id) is drawn = asks_delete P S.rows _ id
+  asks_own_checks moment who command.ShowCatalog is drawn = asks_map P _ _ (asks_caller moment)
+  asks_own_checks moment who (command.CreateAppCred user body) is drawn =
+      asks_bind P _ _ (asks_found P who.caller cause.NoToken) (λ caller. asks_drawn call.draw _ (asks_create_app_cred moment caller user body is drawn))
+  asks_own_checks moment who (command.ListAppCreds user) is drawn = asks_list_app_creds P S.rows user
+  asks_own_checks moment who (command.GetAppCred user id) is drawn = asks_get_app_cred P S.rows user id
+  asks_own_checks moment who (command.DeleteAppCred user id) is drawn =
+      asks_bind P _ _ (asks_found P who.caller cause.NoToken) (λ caller. asks_delete_app_cred P S.rows caller user id)
+  asks_own_checks moment who (command.CreateSecret body) is drawn = asks_drawn call.draw _ (asks_create_secret P S.rows call.draw body)
+  asks_own_checks moment who command.ListSecrets is drawn = asks_go Cause P _
+  asks_own_checks moment who (command.GetSecret id) is drawn = asks_get_secret P S.rows id
+  asks_own_checks moment who (command.DeleteSecret id) is drawn = asks_delete_secret P S.rows id
+
+  asks_planned : (moment : ℕ) → Asks P (planned known S moment call)
+  unfolding planned planned_by
+  asks_planned moment =
+      let asked = requirements call.command in
+      asks_bind P _ _ (asks_unless P (lacking_of asked call.subject)) (λ whole.
+      asks_behind_need P (not asked.draws || has_drawn call.draw) cause.Random _ (λ drawn.
+      asks_bind P _ _ (asks_need P (not (asked.loads && is_failed call.folder)) cause.KeyDir) (λ read.
+      asks_bind P _ _ (asks_admitted moment asked.action asked.subject asked.late) (λ who. asks_own_checks moment who call.command refl drawn))))
 
   pub asks_checked : (moment : ℕ) → Asks P (checked known S moment call)
   unfolding checked
-  asks_checked moment =
-      asks_bind P _ _ (asks_unless P (lacking_of (requirements call.command) call.subject)) (λ whole.
-      asks_behind_need P (not (requirements call.command).draws || has_drawn call.draw) cause.Random _ (λ drawn.
-      asks_bind P _ _ (asks_need P (not ((requirements call.command).loads && is_failed call.folder)) cause.KeyDir) (λ read.
-      asks_bind P _ _ (asks_answered moment call.command refl drawn) (λ outcome. asks_map P _ _ (asks_room P S moment (event_limit call.command) outcome.change)))))
+  asks_checked moment = asks_bind P _ _ (asks_planned moment) (λ outcome. asks_map P _ _ (asks_room P S moment (event_limit call.command) outcome.change))

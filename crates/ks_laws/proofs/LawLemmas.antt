@@ -1,7 +1,6 @@
 -- The front after a call is lawful, and its reply can be told.
 use Rattle.std.proofs.Common.{◌≡◌, ℕ, ◌+◌, ◌≤◌, ◌<◌, ◌^◌, Bool, true, false, cond, lit≤, List, [], ◌∷◌, ◌++◌, length, Option, Some, None, refl, sym, ap, subst, ◌∙◌, length-append, arith}
 use Rattle.std.specs.List.{AllByRecursion}
-use Rattle.std.specs.Prelude.{not, ◌||◌, ◌&&◌}
 use Rattle.std.proofs.lemmas.Bool.{le-leb, leb-true}
 use Rattle.ks_base.specs.declared.events.Revoke.{Revoke}
 use Rattle.ks_base.specs.declared.kinds.Kind.TheVariants as kind
@@ -10,9 +9,9 @@ use Rattle.ks_base.specs.Limits.{limit}
 use Rattle.ks_base.specs.Revocation.{live}
 use Rattle.ks_laws.specs.Orderly.{IsOrderly}
 use Rattle.ks_laws.specs.Laws.{FitsIf, EarlierIsLawful, LawfulGoesOn, MomentsKeepLawful, RepliesAreTellable, StepsFit}
-use Rattle.ks_laws.proofs.CommandLemmas.{good_answered}
+use Rattle.ks_laws.proofs.CommandLemmas.{good_planned}
 use Rattle.ks_laws.proofs.FrontLemmas.{changes_are_counted, lawful_is_orderly}
-use Rattle.ks_laws.proofs.GivesLemmas.{Gives, IsGood, gives_bind, gives_go, gives_past, gives_self}
+use Rattle.ks_laws.proofs.GivesLemmas.{Gives, IsGood, gives_bind, gives_go, gives_self}
 use Rattle.ks_laws.proofs.StateLemmas.{orderly_later}
 use Rattle.ks_machine.specs.declared.call.Call.{Call}
 use Rattle.ks_machine.specs.declared.cause.Cause.{Cause}
@@ -20,12 +19,10 @@ use Rattle.ks_machine.specs.declared.cause.Cause.TheVariants as cause
 use Rattle.ks_machine.specs.declared.change.Change.{Change}
 use Rattle.ks_machine.specs.declared.change.Entry.{Entry}
 use Rattle.ks_machine.specs.declared.command.Command.{Command}
-use Rattle.ks_machine.specs.Actions.{requirements}
-use Rattle.ks_machine.specs.Attempts.{Attempt, Go, Stop, Lacks, Known, everything, need, unless}
-use Rattle.ks_machine.specs.Changes.{apply, ended_by}
+use Rattle.ks_machine.specs.Attempts.{Attempt, Go, Stop, Lacks, Known, everything, need}
+use Rattle.ks_machine.specs.Changes.{apply, effect}
 use Rattle.ks_machine.specs.Fit.{Fit}
 use Rattle.ks_machine.specs.Fronts.{Front, after, answer, change_of, replay, replayed, reply_of, then}
-use Rattle.ks_machine.specs.Keys.{is_failed}
 use Rattle.ks_machine.specs.Lawful.{AreLawful, Fits, IsLawful, IsOpeningInRange}
 use Rattle.ks_machine.specs.Moment.{last_moment, moment_of}
 use Rattle.ks_machine.specs.Opened.{open_fault, opened_state}
@@ -33,7 +30,7 @@ use Rattle.ks_machine.specs.Openings.{PlainOpening}
 use Rattle.ks_machine.specs.Outcomes.{Outcome}
 use Rattle.ks_machine.specs.Room.{event_limit, has_event_room, is_for_oneself, room_for}
 use Rattle.ks_machine.specs.States.{State, raised}
-use Rattle.ks_machine.specs.Steps.{answered, checked, has_drawn, lacking_of, step_at, stepped}
+use Rattle.ks_machine.specs.Steps.{checked, planned, step_at, stepped}
 use Rattle.ks_machine.specs.Told.{IsTellable}
 use Rattle.ks_machine.proofs.FrontLemmas.{not_below}
 
@@ -48,12 +45,9 @@ call_done : (known : Known) (S : State) (moment : ℕ) (call : Call) → IsOrder
 unfolding checked
 call_done known S moment call old high le fit =
     let most : ℕ = event_limit call.command in
-    gives_past (IsDone S moment most) (unless (lacking_of (requirements call.command) call.subject)) _ (λ _.
-    gives_past (IsDone S moment most) (need (not (requirements call.command).draws || has_drawn call.draw) cause.Random) _ (λ _.
-    gives_past (IsDone S moment most) (need (not ((requirements call.command).loads && is_failed call.folder)) cause.KeyDir) _ (λ _.
-    gives_bind (IsGood S moment) (IsDone S moment most) (answered known S moment call call.command) _ (good_answered known S moment call call.command old high le fit.fields fit.folder) (λ outcome good.
+    gives_bind (IsGood S moment) (IsDone S moment most) (planned known S moment call) _ (good_planned known S moment call old high le fit.fields fit.folder) (λ outcome good.
     gives_bind (λ u. room_for S moment most outcome.change ≡ Go u) (IsDone S moment most) (room_for S moment most outcome.change) _ (gives_self (room_for S moment most outcome.change)) (λ _ room.
-    gives_go Cause (IsDone S moment most) outcome (record { good = good; room = room }))))))
+    gives_go Cause (IsDone S moment most) outcome (record { good = good; room = room })))
 
 -- what a step says is good, whether it is granted or refused
 
@@ -85,7 +79,7 @@ fits_if_before S high moment None fits = fits
 fits_if_before S high moment (Some what) fits = fits_before S high moment what fits
 
 room_before : (S : State) (high moment most : ℕ) (what : Option Change) → room_for (raised S high) moment most what ≡ Go tt → room_for S moment most what ≡ Go tt
-unfolding room_for
+unfolding room_for effect
 room_before S high moment most None room = refl
 room_before S high moment most (Some what) room = room
 
@@ -113,7 +107,7 @@ room_within : (S : State) (moment : ℕ) (asked : Command) (what : Option Change
 unfolding room_for
 room_within S moment asked None room = refl
 room_within S moment asked (Some what) room =
-    let things : List Revoke = ended_by S.rows what in
+    let things : List Revoke = (effect S what).ended in
     let is = more_room S moment (event_limit asked) (limit kind.Event) things (lower_limit asked)
     (has_passed (has_event_room S moment (event_limit asked) things) (cause.Full kind.Event) room) in
     rw is refl

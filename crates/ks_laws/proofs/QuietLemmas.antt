@@ -10,8 +10,6 @@ use Rattle.ks_base.specs.declared.grants.Actor.TheVariants as actor
 use Rattle.ks_base.specs.declared.grants.GrantRow.{GrantRow}
 use Rattle.ks_base.specs.declared.grants.Target.{Target}
 use Rattle.ks_base.specs.declared.grants.Target.TheVariants as target
-use Rattle.ks_base.specs.declared.kinds.Kind.{Kind}
-use Rattle.ks_base.specs.declared.kinds.Kind.TheVariants as kind
 use Rattle.ks_base.specs.declared.receipt.Drawn.{Drawn}
 use Rattle.ks_base.specs.declared.rows.GroupRow.{GroupRow}
 use Rattle.ks_base.specs.declared.rows.ProjectRow.{ProjectRow}
@@ -30,8 +28,9 @@ use Rattle.ks_machine.specs.declared.call.FolderRead.{FolderRead}
 use Rattle.ks_machine.specs.declared.call.FolderRead.TheVariants as folder
 use Rattle.ks_machine.specs.declared.cause.Cause.{Cause}
 use Rattle.ks_machine.specs.declared.change.Change.{Change}
-use Rattle.ks_machine.specs.declared.command.Command.{Command}
 use Rattle.ks_machine.specs.declared.lines.ReadToken.{ReadToken}
+use Rattle.ks_machine.specs.declared.row_kind.RowKind.{RowKind}
+use Rattle.ks_machine.specs.declared.row_kind.RowKind.TheVariants as kind
 use Rattle.ks_machine.specs.AppCredCommands.{delete_app_cred, get_app_cred, list_app_creds, role_held, roles_given}
 use Rattle.ks_machine.specs.Attempts.{Lack, each}
 use Rattle.ks_machine.specs.CatalogCommands.{create_catalog, create_endpoint, create_region, create_service, given_id_free, update_catalog, update_endpoint, update_region, update_service}
@@ -43,7 +42,6 @@ use Rattle.ks_machine.specs.Login.{by_code, project_on, scoped, scoped_by, shown
 use Rattle.ks_machine.specs.Members.{actor_stands, all_stand, grant, grants_of, is_granted, is_in, target_stands}
 use Rattle.ks_machine.specs.Room.{room_for}
 use Rattle.ks_machine.specs.States.{State}
-use Rattle.ks_machine.specs.Steps.{allows}
 use Rattle.ks_machine.specs.TrustCommands.{create_trust, parent_by, role_asked, roles_asked}
 use Rattle.ks_machine.specs.Updates.{update_domain, update_group, update_project, update_role}
 use Rattle.ks_machine.specs.Validity.{Valid, held_lines}
@@ -54,10 +52,6 @@ module _ (P : Lack → Type 0) where
   pub asks_lines : (S : State) (moment : ℕ) (held : ReadToken) → Asks P (held_lines S moment held)
   unfolding held_lines
   asks_lines S moment held = search (asks_bind, asks_go, asks_need) depth 14
-
-  pub asks_allows : (S : State) (caller : Valid) (subject : Option Valid) (asked : Command) (action : Option Text) → Asks P (allows S caller subject asked action)
-  asks_allows S caller subject asked None = asks_go Cause P _
-  asks_allows S caller subject asked (Some action) = asks_need P _ _
 
   pub asks_room : (S : State) (moment most : ℕ) (what : Option Change) → Asks P (room_for S moment most what)
   unfolding room_for
@@ -120,45 +114,31 @@ module _ (P : Lack → Type 0) where
 
   -- rows
 
-  pub asks_row : (rows : Rows) (of : Kind) (id : Id) → Asks P (row_at rows of id)
+  pub asks_row : (rows : Rows) (of : RowKind) (id : Id) → Asks P (row_at rows of id)
   unfolding row_at
   asks_row rows kind.Domain id = asks_map P _ _ (asks_found P _ _)
   asks_row rows kind.Project id = asks_map P _ _ (asks_found P _ _)
   asks_row rows kind.User id = asks_map P _ _ (asks_found P _ _)
   asks_row rows kind.Group id = asks_map P _ _ (asks_found P _ _)
   asks_row rows kind.Role id = asks_map P _ _ (asks_found P _ _)
-  asks_row rows kind.Implication id = asks_stop _ P _
-  asks_row rows kind.Grant id = asks_stop _ P _
-  asks_row rows kind.Member id = asks_stop _ P _
-  asks_row rows kind.Trust id = asks_stop _ P _
-  asks_row rows kind.Event id = asks_stop _ P _
   asks_row rows kind.Region id = asks_map P _ _ (asks_found P _ _)
   asks_row rows kind.Service id = asks_map P _ _ (asks_found P _ _)
   asks_row rows kind.Endpoint id = asks_map P _ _ (asks_found P _ _)
-  asks_row rows kind.AppCred id = asks_stop _ P _
-  asks_row rows kind.Secret id = asks_map P _ _ (asks_found P _ _)
 
-  pub asks_get : (rows : Rows) (of : Kind) (id : Id) → Asks P (get rows of id)
+  pub asks_get : (rows : Rows) (of : RowKind) (id : Id) → Asks P (get rows of id)
   unfolding get
   asks_get rows of id = asks_map P _ _ (asks_row rows of id)
 
-  pub asks_delete : (rows : Rows) (of : Kind) (id : Id) → Asks P (delete rows of id)
+  pub asks_delete : (rows : Rows) (of : RowKind) (id : Id) → Asks P (delete rows of id)
   unfolding delete
   asks_delete rows kind.Domain id = asks_map P _ _ (asks_fault P _ _)
   asks_delete rows kind.Project id = asks_map P _ _ (asks_fault P _ _)
   asks_delete rows kind.User id = asks_map P _ _ (asks_found P _ _)
   asks_delete rows kind.Group id = asks_map P _ _ (asks_found P _ _)
   asks_delete rows kind.Role id = asks_map P _ _ (asks_found P _ _)
-  asks_delete rows kind.Implication id = asks_stop _ P _
-  asks_delete rows kind.Grant id = asks_stop _ P _
-  asks_delete rows kind.Member id = asks_stop _ P _
-  asks_delete rows kind.Trust id = asks_stop _ P _
-  asks_delete rows kind.Event id = asks_stop _ P _
   asks_delete rows kind.Region id = asks_map P _ _ (asks_fault P _ _)
   asks_delete rows kind.Service id = asks_map P _ _ (asks_found P _ _)
   asks_delete rows kind.Endpoint id = asks_map P _ _ (asks_found P _ _)
-  asks_delete rows kind.AppCred id = asks_stop _ P _
-  asks_delete rows kind.Secret id = asks_map P _ _ (asks_found P _ _)
 
   -- memberships, implications and grants
 

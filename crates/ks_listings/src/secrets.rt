@@ -28,7 +28,7 @@ fn secrets_of(alloc: Global, factors: &Factors, ids: &[Id]) -> Result<RowList, M
 }
 
 /// All secrets.
-pub fn all_secrets(alloc: Global, factors: &Factors) -> Result<RowList, Memory>
+fn all_secrets(alloc: Global, factors: &Factors) -> Result<RowList, Memory>
     ensures { IfOk result (λ rows. rows ≡ map (λ found. Row.Secret found) factors.now.state.secrets) }
 {
     let ids = factors.secret_ids()?;

@@ -1,4 +1,5 @@
 -- With all facts no check lacks one.
+use Rattle.std.specs.Prelude.{not, ◌&&◌, ◌||◌}
 use Rattle.std.proofs.Common.{◌≡◌, ℕ, Bool, true, false, List, [], ◌∷◌, Option, Some, None, Result, Ok, Err, sym, subst}
 use Rattle.ks_base.specs.declared.app_creds.AppCredRow.{AppCredRow}
 use Rattle.ks_base.specs.declared.catalog.CatalogIn.{CatalogIn}
@@ -10,9 +11,8 @@ use Rattle.ks_base.specs.declared.grants.Actor.TheVariants as actor
 use Rattle.ks_base.specs.declared.grants.GrantRow.{GrantRow}
 use Rattle.ks_base.specs.declared.grants.Target.{Target}
 use Rattle.ks_base.specs.declared.grants.Target.TheVariants as target
-use Rattle.ks_base.specs.declared.kinds.Kind.{Kind}
-use Rattle.ks_base.specs.declared.kinds.Kind.TheVariants as kind
 use Rattle.ks_base.specs.declared.receipt.Drawn.{Drawn}
+use Rattle.ks_base.specs.declared.receipt.Drawn.TheVariants.{Unused, Bytes, Failed}
 use Rattle.ks_base.specs.declared.rows.ProjectRow.{ProjectRow}
 use Rattle.ks_base.specs.declared.rows.RoleRow.{RoleRow}
 use Rattle.ks_base.specs.declared.users.MemberRow.{MemberRow}
@@ -36,25 +36,31 @@ use Rattle.ks_machine.specs.declared.call.Call.{Call}
 use Rattle.ks_machine.specs.declared.call.FolderRead.{FolderRead}
 use Rattle.ks_machine.specs.declared.call.FolderRead.TheVariants as folder
 use Rattle.ks_machine.specs.declared.cause.Cause.{Cause}
+use Rattle.ks_machine.specs.declared.cause.Cause.TheVariants as cause
 use Rattle.ks_machine.specs.declared.change.Change.{Change}
 use Rattle.ks_machine.specs.declared.command.Command.{Command}
 use Rattle.ks_machine.specs.declared.command.Command.TheVariants as command
 use Rattle.ks_machine.specs.declared.lines.ReadToken.{ReadToken}
+use Rattle.ks_machine.specs.declared.row_kind.RowKind.{RowKind}
+use Rattle.ks_machine.specs.declared.row_kind.RowKind.TheVariants as kind
 use Rattle.ks_machine.specs.declared.why.Why.{Why}
+use Rattle.ks_machine.specs.Actions.{requirements}
+use Rattle.ks_machine.specs.Admission.{Parties, admitted, caller_of, nobody, subject_asked, subject_of}
 use Rattle.ks_machine.specs.AppCredCommands.{create_app_cred, delete_app_cred, get_app_cred, list_app_creds, role_held, roles_given}
 use Rattle.ks_machine.specs.Attempts.{Attempt, Go, Stop, Lacks, Lack, ◌>>=◌, blame, decided, each, everything, found, need, unless}
 use Rattle.ks_machine.specs.CatalogCommands.{create_catalog, create_endpoint, create_region, create_service, given_id_free, update_catalog, update_endpoint, update_region, update_service}
 use Rattle.ks_machine.specs.Creations.{create, create_domain, create_group, create_project, create_role, create_user}
 use Rattle.ks_machine.specs.FactorCommands.{create_secret, delete_secret, get_secret}
-use Rattle.ks_machine.specs.Keys.{keys_read, load_keys, rotate_keys}
+use Rattle.ks_machine.specs.Keys.{is_failed, keys_read, load_keys, rotate_keys}
 use Rattle.ks_machine.specs.Listings.{delete, get, row_at}
 use Rattle.ks_machine.specs.Login.{by_code, by_password, by_secret, is_password, login, project_on, scoped, scoped_by, shown, shown_by, to_cred, to_domain, to_project, to_system, to_trust, with_roles}
 use Rattle.ks_machine.specs.Members.{actor_stands, all_stand, grant, grants_of, list_groups_of, implication, implied, imply, is_granted, is_implied, is_in, join, leave, list_members_of, target_stands, ungrant, unimply}
+use Rattle.ks_machine.specs.Openings.{NamedRule}
 use Rattle.ks_machine.specs.Outcomes.{Outcome}
 use Rattle.ks_machine.specs.Passwords.{change_password, derived, derived_or}
 use Rattle.ks_machine.specs.Room.{room_for}
 use Rattle.ks_machine.specs.States.{State}
-use Rattle.ks_machine.specs.Steps.{Needs, allows, answered, as_caller, as_caller_about, caller_of, checked, step_at, stepped, subject_of}
+use Rattle.ks_machine.specs.Steps.{Needs, bytes_drawn, checked, has_drawn, lacking_of, on_subject, own_checks, planned, planned_by, step_at, stepped}
 use Rattle.ks_machine.specs.TrustCommands.{create_trust, delete_trust, get_trust, parent_by, role_asked, roles_asked, roles_of_trust}
 use Rattle.ks_machine.specs.Updates.{update, update_domain, update_group, update_project, update_role, update_user}
 use Rattle.ks_machine.specs.Validity.{Valid, held_lines, opened, opens, unless_lacking, validity}
@@ -144,9 +150,17 @@ whole_subject : (S : State) (moment : ℕ) (late : Bool) (given : Option Text) �
 unfolding subject_of
 whole_subject S moment late given = whole_bind _ _ (whole_found _ _) (λ (text : Text). whole_blame _ _ (whole_validity S moment late text))
 
-whole_allows : (S : State) (caller : Valid) (subject : Option Valid) (asked : Command) (action : Option Text) → IsWhole (allows S caller subject asked action)
-whole_allows S caller subject asked None = whole_go Cause _
-whole_allows S caller subject asked (Some action) = whole_need _ _
+whole_asked : (S : State) (moment : ℕ) (late : Bool) (given : Option Text) (about : Bool) → IsWhole (subject_asked everything S moment late given about)
+whole_asked S moment late given false = whole_go Cause _
+whole_asked S moment late given true = whole_map _ _ (whole_subject S moment late given)
+
+whole_admitted : (S : State) (rules : List NamedRule) (rows : Rows) (moment : ℕ) (call : Call) (action : Option Text) (about late : Bool) →
+    IsWhole (admitted everything S rules rows moment call action about late)
+unfolding admitted
+whole_admitted S rules rows moment call None about late = whole_go Cause nobody
+whole_admitted S rules rows moment call (Some action) about late =
+    whole_bind _ _ (whole_caller S moment call.caller) (λ caller.
+    whole_bind _ _ (whole_asked S moment late call.subject about) (λ subject. whole_map _ _ (whole_need _ _)))
 
 -- logins
 
@@ -265,45 +279,31 @@ whole_update S drawn id (made.User given name domain password enabled factors) =
 whole_update S drawn id (made.Group given name domain description) = search (whole_bind, whole_go, whole_found, whole_need, whole_fault) depth 16
 whole_update S drawn id (made.Role given name description) = search (whole_bind, whole_go, whole_found, whole_need, whole_fault) depth 16
 
-whole_row : (rows : Rows) (what : Kind) (id : Id) → IsWhole (row_at rows what id)
+whole_row : (rows : Rows) (what : RowKind) (id : Id) → IsWhole (row_at rows what id)
 unfolding row_at
 whole_row rows kind.Domain id = whole_map _ _ (whole_found _ _)
 whole_row rows kind.Project id = whole_map _ _ (whole_found _ _)
 whole_row rows kind.User id = whole_map _ _ (whole_found _ _)
 whole_row rows kind.Group id = whole_map _ _ (whole_found _ _)
 whole_row rows kind.Role id = whole_map _ _ (whole_found _ _)
-whole_row rows kind.Implication id = whole_stop _ _
-whole_row rows kind.Grant id = whole_stop _ _
-whole_row rows kind.Member id = whole_stop _ _
-whole_row rows kind.Trust id = whole_stop _ _
-whole_row rows kind.Event id = whole_stop _ _
 whole_row rows kind.Region id = whole_map _ _ (whole_found _ _)
 whole_row rows kind.Service id = whole_map _ _ (whole_found _ _)
 whole_row rows kind.Endpoint id = whole_map _ _ (whole_found _ _)
-whole_row rows kind.AppCred id = whole_stop _ _
-whole_row rows kind.Secret id = whole_map _ _ (whole_found _ _)
 
-whole_get : (rows : Rows) (what : Kind) (id : Id) → IsWhole (get rows what id)
+whole_get : (rows : Rows) (what : RowKind) (id : Id) → IsWhole (get rows what id)
 unfolding get
 whole_get rows what id = whole_map _ _ (whole_row rows what id)
 
-whole_delete : (rows : Rows) (what : Kind) (id : Id) → IsWhole (delete rows what id)
+whole_delete : (rows : Rows) (what : RowKind) (id : Id) → IsWhole (delete rows what id)
 unfolding delete
 whole_delete rows kind.Domain id = whole_map _ _ (whole_fault _ _)
 whole_delete rows kind.Project id = whole_map _ _ (whole_fault _ _)
 whole_delete rows kind.User id = whole_map _ _ (whole_found _ _)
 whole_delete rows kind.Group id = whole_map _ _ (whole_found _ _)
 whole_delete rows kind.Role id = whole_map _ _ (whole_found _ _)
-whole_delete rows kind.Implication id = whole_stop _ _
-whole_delete rows kind.Grant id = whole_stop _ _
-whole_delete rows kind.Member id = whole_stop _ _
-whole_delete rows kind.Trust id = whole_stop _ _
-whole_delete rows kind.Event id = whole_stop _ _
 whole_delete rows kind.Region id = whole_map _ _ (whole_fault _ _)
 whole_delete rows kind.Service id = whole_map _ _ (whole_found _ _)
 whole_delete rows kind.Endpoint id = whole_map _ _ (whole_found _ _)
-whole_delete rows kind.AppCred id = whole_stop _ _
-whole_delete rows kind.Secret id = whole_map _ _ (whole_found _ _)
 
 -- the catalog
 
@@ -416,77 +416,92 @@ whole_load S read = search (whole_bind, whole_go, whole_need, whole_keys_read) d
 
 -- commands
 
-whole_as_caller : (S : State) (moment : ℕ) (call : Call) (own : Valid → Attempt Cause Outcome) → ((caller : Valid) → IsWhole (own caller)) →
-    IsWhole (as_caller everything S moment call own)
-unfolding as_caller
-whole_as_caller S moment call own is =
-    whole_bind _ _ (whole_caller S moment call.caller) (λ caller. whole_bind _ _ (whole_allows S caller None call.command _) (λ allowed. is caller))
+whole_drawn : (draw : Drawn) → IsWhole (bytes_drawn draw)
+unfolding IsWhole
+whole_drawn (Bytes bytes) = tt
+whole_drawn Unused = tt
+whole_drawn Failed = tt
 
-whole_about : (S : State) (moment : ℕ) (call : Call) (late : Bool) (own : Text → Valid → Outcome) → IsWhole (as_caller_about everything S moment call late own)
-unfolding as_caller_about
-whole_about S moment call late own = search (whole_bind, whole_go, whole_found, whole_caller, whole_subject, whole_allows) depth 16
+whole_on_subject : (given : Option Text) (subject : Option Valid) (own : Text → Valid → Outcome) → IsWhole (on_subject given subject own)
+unfolding IsWhole
+whole_on_subject given None own = tt
+whole_on_subject None (Some token) own = tt
+whole_on_subject (Some text) (Some token) own = tt
 
-whole_answered : (S : State) (moment : ℕ) (call : Call) (asked : Command) → IsWhole (answered everything S moment call asked)
-unfolding answered list_groups_of list_members_of join leave implied imply implication is_implied unimply grant ungrant get_trust delete_trust roles_of_trust list_app_creds get_secret delete_secret
-whole_answered S moment call command.Version = whole_go Cause _
-whole_answered S moment call (command.Login body) = whole_login S moment call.draw body
-whole_answered S moment call (command.ChangePassword id original password) = whole_change_password S call.draw id original password
-whole_answered S moment call (command.Validate late) = whole_about S moment call late _
-whole_answered S moment call (command.Check late) = whole_about S moment call late _
-whole_answered S moment call command.RevokeToken = whole_about S moment call _ _
-whole_answered S moment call (command.Create body) = whole_as_caller S moment call _ (λ caller. whole_create S call.draw caller body)
-whole_answered S moment call (command.List what filters) = whole_as_caller S moment call _ (λ caller. whole_go Cause _)
-whole_answered S moment call (command.Get what id) = whole_as_caller S moment call _ (λ caller. whole_get S.rows what id)
-whole_answered S moment call (command.Update id body) = whole_as_caller S moment call _ (λ caller. whole_update S call.draw id body)
-whole_answered S moment call (command.Delete what id) = whole_as_caller S moment call _ (λ caller. whole_delete S.rows what id)
-whole_answered S moment call (command.GroupsOf id) = whole_as_caller S moment call _ (λ caller. whole_map _ _ (whole_found _ _))
-whole_answered S moment call (command.MembersOf id) = whole_as_caller S moment call _ (λ caller. whole_map _ _ (whole_found _ _))
-whole_answered S moment call (command.Join row) = whole_as_caller S moment call _ (λ caller. whole_map _ _ (whole_fault _ _))
-whole_answered S moment call (command.IsIn row) = whole_as_caller S moment call _ (λ caller. whole_is_in S.rows row)
-whole_answered S moment call (command.Leave row) = whole_as_caller S moment call _ (λ caller. whole_map _ _ (whole_is_in S.rows row))
-whole_answered S moment call (command.Implied id) = whole_as_caller S moment call _ (λ caller. whole_map _ _ (whole_found _ _))
-whole_answered S moment call (command.Imply row) = whole_as_caller S moment call _ (λ caller. whole_map _ _ (whole_fault _ _))
-whole_answered S moment call (command.Implication row) = whole_as_caller S moment call _ (λ caller. whole_map _ _ (whole_fault _ _))
-whole_answered S moment call (command.IsImplied row) = whole_as_caller S moment call _ (λ caller. whole_map _ _ (whole_fault _ _))
-whole_answered S moment call (command.Unimply row) = whole_as_caller S moment call _ (λ caller. whole_map _ _ (whole_fault _ _))
-whole_answered S moment call (command.GrantsOf who at inherited) = whole_as_caller S moment call _ (λ caller. whole_grants_of S.rows who at inherited)
-whole_answered S moment call (command.Grant row) =
-    whole_as_caller S moment call _ (λ caller. whole_bind _ _ (whole_all_stand S.rows row) (λ stand. whole_map _ _ (whole_fault _ _)))
-whole_answered S moment call (command.IsGranted row) = whole_as_caller S moment call _ (λ caller. whole_is_granted S.rows row)
-whole_answered S moment call (command.Ungrant row) = whole_as_caller S moment call _ (λ caller. whole_map _ _ (whole_is_granted S.rows row))
-whole_answered S moment call (command.Assignments filters) = whole_as_caller S moment call _ (λ caller. whole_go Cause _)
-whole_answered S moment call (command.CreateTrust body) = whole_as_caller S moment call _ (λ caller. whole_create_trust S.rows moment call.draw caller body)
-whole_answered S moment call (command.Trusts filters) = whole_as_caller S moment call _ (λ caller. whole_go Cause _)
-whole_answered S moment call (command.Trust id) = whole_as_caller S moment call _ (λ caller. whole_map _ _ (whole_found _ _))
-whole_answered S moment call (command.DeleteTrust id) = whole_as_caller S moment call _ (λ caller. whole_map _ _ (whole_found _ _))
-whole_answered S moment call (command.TrustRoles id) = whole_as_caller S moment call _ (λ caller. whole_map _ _ (whole_found _ _))
-whole_answered S moment call command.Events = whole_as_caller S moment call _ (λ caller. whole_go Cause _)
-whole_answered S moment call command.RotateKeys = whole_as_caller S moment call _ (λ caller. whole_rotate S call.draw)
-whole_answered S moment call command.LoadKeys = whole_as_caller S moment call _ (λ caller. whole_load S call.folder)
-whole_answered S moment call (command.CreateCatalog body) = whole_as_caller S moment call _ (λ caller. whole_create_catalog S.rows _ body.of body)
-whole_answered S moment call (command.ListCatalog what filters) = whole_as_caller S moment call _ (λ caller. whole_go Cause _)
-whole_answered S moment call (command.GetCatalog what id) = whole_as_caller S moment call _ (λ caller. whole_get S.rows _ id)
-whole_answered S moment call (command.UpdateCatalog id body) = whole_as_caller S moment call _ (λ caller. whole_update_catalog S.rows id body.of body)
-whole_answered S moment call (command.DeleteCatalog what id) = whole_as_caller S moment call _ (λ caller. whole_delete S.rows _ id)
-whole_answered S moment call command.ShowCatalog = whole_as_caller S moment call _ (λ caller. whole_go Cause _)
-whole_answered S moment call (command.CreateAppCred user body) =
-    whole_as_caller S moment call _ (λ caller. whole_create_app_cred S moment call.draw caller user body)
-whole_answered S moment call (command.ListAppCreds user) = whole_as_caller S moment call _ (λ caller. whole_map _ _ (whole_found _ _))
-whole_answered S moment call (command.GetAppCred user id) = whole_as_caller S moment call _ (λ caller. whole_get_app_cred S.rows user id)
-whole_answered S moment call (command.DeleteAppCred user id) = whole_as_caller S moment call _ (λ caller. whole_delete_app_cred S.rows caller user id)
-whole_answered S moment call (command.CreateSecret body) = whole_as_caller S moment call _ (λ caller. whole_create_secret S.rows call.draw body)
-whole_answered S moment call command.ListSecrets = whole_as_caller S moment call _ (λ caller. whole_go Cause _)
-whole_answered S moment call (command.GetSecret id) = whole_as_caller S moment call _ (λ caller. whole_map _ _ (whole_found _ _))
-whole_answered S moment call (command.DeleteSecret id) = whole_as_caller S moment call _ (λ caller. whole_map _ _ (whole_found _ _))
+whole_own_checks : (S : State) (moment : ℕ) (call : Call) (who : Parties) (asked : Command) → IsWhole (own_checks everything S S.rows moment call who asked)
+unfolding own_checks list_groups_of list_members_of join leave implied imply implication is_implied unimply grant ungrant get_trust delete_trust roles_of_trust list_app_creds get_secret delete_secret
+whole_own_checks S moment call who command.Version = whole_go Cause _
+whole_own_checks S moment call who (command.Login body) = whole_bind _ _ (whole_drawn call.draw) (λ draw. whole_login S moment draw body)
+whole_own_checks S moment call who (command.ChangePassword id original password) =
+    whole_bind _ _ (whole_drawn call.draw) (λ draw. whole_change_password S draw id original password)
+whole_own_checks S moment call who (command.Validate late) = whole_on_subject call.subject who.subject _
+whole_own_checks S moment call who (command.Check late) = whole_on_subject call.subject who.subject _
+whole_own_checks S moment call who command.RevokeToken = whole_on_subject call.subject who.subject _
+whole_own_checks S moment call who (command.Create body) =
+    whole_bind _ _ (whole_found who.caller _) (λ caller. whole_bind _ _ (whole_drawn call.draw) (λ draw. whole_create S draw caller body))
+whole_own_checks S moment call who (command.List what filters) = whole_go Cause _
+whole_own_checks S moment call who (command.Get what id) = whole_get S.rows what id
+whole_own_checks S moment call who (command.Update id body) = whole_update S call.draw id body
+whole_own_checks S moment call who (command.Delete what id) = whole_delete S.rows what id
+whole_own_checks S moment call who (command.GroupsOf id) = whole_map _ _ (whole_found _ _)
+whole_own_checks S moment call who (command.MembersOf id) = whole_map _ _ (whole_found _ _)
+whole_own_checks S moment call who (command.Join row) = whole_map _ _ (whole_fault _ _)
+whole_own_checks S moment call who (command.IsIn row) = whole_is_in S.rows row
+whole_own_checks S moment call who (command.Leave row) = whole_map _ _ (whole_is_in S.rows row)
+whole_own_checks S moment call who (command.Implied id) = whole_map _ _ (whole_found _ _)
+whole_own_checks S moment call who (command.Imply row) = whole_map _ _ (whole_fault _ _)
+whole_own_checks S moment call who (command.Implication row) = whole_map _ _ (whole_fault _ _)
+whole_own_checks S moment call who (command.IsImplied row) = whole_map _ _ (whole_fault _ _)
+whole_own_checks S moment call who (command.Unimply row) = whole_map _ _ (whole_fault _ _)
+whole_own_checks S moment call who (command.GrantsOf whose at inherited) = whole_grants_of S.rows whose at inherited
+whole_own_checks S moment call who (command.Grant row) = whole_bind _ _ (whole_all_stand S.rows row) (λ stand. whole_map _ _ (whole_fault _ _))
+whole_own_checks S moment call who (command.IsGranted row) = whole_is_granted S.rows row
+whole_own_checks S moment call who (command.Ungrant row) = whole_map _ _ (whole_is_granted S.rows row)
+whole_own_checks S moment call who (command.Assignments filters) = whole_go Cause _
+whole_own_checks S moment call who (command.CreateTrust body) =
+    whole_bind _ _ (whole_found who.caller _) (λ caller. whole_bind _ _ (whole_drawn call.draw) (λ draw. whole_create_trust S.rows moment draw caller body))
+whole_own_checks S moment call who (command.Trusts filters) = whole_go Cause _
+whole_own_checks S moment call who (command.Trust id) = whole_map _ _ (whole_found _ _)
+whole_own_checks S moment call who (command.DeleteTrust id) = whole_map _ _ (whole_found _ _)
+whole_own_checks S moment call who (command.TrustRoles id) = whole_map _ _ (whole_found _ _)
+whole_own_checks S moment call who command.Events = whole_go Cause _
+whole_own_checks S moment call who command.RotateKeys = whole_bind _ _ (whole_drawn call.draw) (λ draw. whole_rotate S draw)
+whole_own_checks S moment call who command.LoadKeys = whole_load S call.folder
+whole_own_checks S moment call who (command.CreateCatalog body) =
+    whole_bind _ _ (whole_drawn call.draw) (λ draw. whole_create_catalog S.rows _ body.of body)
+whole_own_checks S moment call who (command.ListCatalog what filters) = whole_go Cause _
+whole_own_checks S moment call who (command.GetCatalog what id) = whole_get S.rows _ id
+whole_own_checks S moment call who (command.UpdateCatalog id body) = whole_update_catalog S.rows id body.of body
+whole_own_checks S moment call who (command.DeleteCatalog what id) = whole_delete S.rows _ id
+whole_own_checks S moment call who command.ShowCatalog = whole_map _ _ (whole_caller S moment call.caller)
+whole_own_checks S moment call who (command.CreateAppCred user body) =
+    whole_bind _ _ (whole_found who.caller _) (λ caller. whole_bind _ _ (whole_drawn call.draw) (λ draw. whole_create_app_cred S moment draw caller user body))
+whole_own_checks S moment call who (command.ListAppCreds user) = whole_map _ _ (whole_found _ _)
+whole_own_checks S moment call who (command.GetAppCred user id) = whole_get_app_cred S.rows user id
+whole_own_checks S moment call who (command.DeleteAppCred user id) =
+    whole_bind _ _ (whole_found who.caller _) (λ caller. whole_delete_app_cred S.rows caller user id)
+whole_own_checks S moment call who (command.CreateSecret body) = whole_bind _ _ (whole_drawn call.draw) (λ draw. whole_create_secret S.rows draw body)
+whole_own_checks S moment call who command.ListSecrets = whole_go Cause _
+whole_own_checks S moment call who (command.GetSecret id) = whole_map _ _ (whole_found _ _)
+whole_own_checks S moment call who (command.DeleteSecret id) = whole_map _ _ (whole_found _ _)
 
 whole_room : (S : State) (moment most : ℕ) (what : Option Change) → IsWhole (room_for S moment most what)
 unfolding room_for
 whole_room S moment most None = whole_go Cause _
 whole_room S moment most (Some what) = whole_need _ _
 
+whole_planned : (S : State) (moment : ℕ) (call : Call) → IsWhole (planned everything S moment call)
+unfolding planned planned_by
+whole_planned S moment call =
+    let asked = requirements call.command in
+    whole_bind _ _ (whole_unless (lacking_of asked call.subject)) (λ whole.
+    whole_bind _ _ (whole_need (not asked.draws || has_drawn call.draw) cause.Random) (λ drawn.
+    whole_bind _ _ (whole_need (not (asked.loads && is_failed call.folder)) cause.KeyDir) (λ read.
+    whole_bind _ _ (whole_admitted S S.rules S.rows moment call asked.action asked.subject asked.late) (λ who. whole_own_checks S moment call who call.command))))
+
 whole_checked : (S : State) (moment : ℕ) (call : Call) → IsWhole (checked everything S moment call)
 unfolding checked
-whole_checked S moment call = search (whole_bind, whole_go, whole_unless, whole_need, whole_answered, whole_room) depth 16
+whole_checked S moment call = whole_bind _ _ (whole_planned S moment call) (λ outcome. whole_map _ _ (whole_room S moment _ outcome.change))
 
 -- a step
 

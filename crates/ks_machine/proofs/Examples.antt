@@ -29,6 +29,7 @@ use Rattle.ks_machine.specs.declared.change.Change.{Change}
 use Rattle.ks_machine.specs.declared.command.Command.{Command}
 use Rattle.ks_machine.specs.declared.command.Command.TheVariants as command
 use Rattle.ks_machine.specs.declared.reply.Reply.TheVariants as reply
+use Rattle.ks_machine.specs.declared.row_kind.RowKind.TheVariants as row_kind
 use Rattle.ks_machine.specs.Openings.{PlainOpening}
 use Rattle.ks_payload.specs.declared.payload.Payload.{Payload}
 use Rattle.ks_payload.specs.Payloads.{spelling}
@@ -166,11 +167,11 @@ refusals :
     replies start (
     call (made_project (codes "demo") None) ann ∷
     call (command.Update (codes "demo-id") (made.Project None None (Some (codes "other")) None None None)) ann ∷
-    call (command.Delete kind.Domain (codes "default")) ann ∷
-    call (command.Get kind.User (codes "zed")) ann ∷
-    call (command.List kind.User (record { fields = [] })) bob ∷
-    call (command.List kind.User (record { fields = [] })) None ∷
-    call (command.List kind.User (record { fields = [] })) ann ∷ [])
+    call (command.Delete row_kind.Domain (codes "default")) ann ∷
+    call (command.Get row_kind.User (codes "zed")) ann ∷
+    call (command.List row_kind.User (record { fields = [] })) bob ∷
+    call (command.List row_kind.User (record { fields = [] })) None ∷
+    call (command.List row_kind.User (record { fields = [] })) ann ∷ [])
     ≡ Some (cause.NameTaken (codes "demo-id"))
     ∷ Some (cause.Immutable (codes "domain_id"))
     ∷ Some (cause.Tree tree.DomainEnabled)
@@ -204,7 +205,7 @@ unfolding the_machine
 lost_role = refl
 
 -- without facts the machine asks for what both held keys make of a token
-asks_for_keys : step nothing_known start (call (command.Get kind.User (codes "zed")) ann) ≡ Needs (Keys start.ring.held)
+asks_for_keys : step nothing_known start (call (command.Get row_kind.User (codes "zed")) ann) ≡ Needs (Keys start.ring.held)
 unfolding the_machine
 asks_for_keys = refl
 
@@ -307,7 +308,7 @@ bob_ends :
     call (update_bob (Some (codes "bob")) None) ann ∷
     call (update_bob None (Some false)) ann ∷
     call (update_bob None (Some true)) ann ∷
-    call (command.Delete kind.User (codes "bobby")) ann ∷ [])
+    call (command.Delete row_kind.User (codes "bobby")) ann ∷ [])
     ≡ revoke.User (codes "bobby") ∷ revoke.User (codes "bobby") ∷ []
 unfolding the_machine
 bob_ends = refl
@@ -340,7 +341,7 @@ tree_is_kept :
     call_drawing 7 (made_below id_of_8 (codes "4")) ∷
     call_drawing 6 (made_below id_of_7 (codes "5")) ∷
     call_drawing 5 (made_below id_of_6 (codes "6")) ∷
-    call (command.Delete kind.Project id_of_8) ann ∷ [])
+    call (command.Delete row_kind.Project id_of_8) ann ∷ [])
     ≡ None ∷ None ∷ Some (cause.IdTaken id_of_8) ∷ None ∷ None ∷ Some (cause.Tree tree.TooDeep)
     ∷ Some (cause.Tree (tree.HasChildren id_of_7)) ∷ []
 unfolding the_machine

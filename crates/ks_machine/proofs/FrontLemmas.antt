@@ -8,7 +8,7 @@ use Rattle.ks_machine.specs.declared.call.Call.{Call}
 use Rattle.ks_machine.specs.declared.change.Change.{Change}
 use Rattle.ks_machine.specs.declared.change.Entry.{Entry}
 use Rattle.ks_machine.specs.Attempts.{everything}
-use Rattle.ks_machine.specs.Changes.{apply, ring_after}
+use Rattle.ks_machine.specs.Changes.{apply, effect}
 use Rattle.ks_machine.specs.Fronts.{Front, IsSound, ◌⊑◌, after, answer, change_of, cut, replay, replayed, reply_of, then}
 use Rattle.ks_machine.specs.Moment.{moment_of}
 use Rattle.ks_machine.specs.Opened.{opened_state}
@@ -178,7 +178,7 @@ replayed_both S (x ∷ xs) ys = replayed_both (apply S x.moment x.change) xs ys
 -- a change does not look at the highest moment, and leaves it
 high_apart : (S : State) (moment high : ℕ) (change : Change)
     → record (apply S moment change) { high = high } ≡ apply (record S { high = high }) moment change
-unfolding apply ring_after
+unfolding apply effect
 high_apart S moment high change = refl
 
 pub changes_are_replayed : (f : Front) (moment : ℕ) (change : Change)

@@ -23,6 +23,7 @@ use Rattle.ks_machine.specs.declared.cause.Cause.TheVariants as cause
 use Rattle.ks_machine.specs.declared.command.Command.{Command}
 use Rattle.ks_machine.specs.declared.command.Command.TheVariants as command
 use Rattle.ks_machine.specs.declared.reply.Reply.TheVariants as reply
+use Rattle.ks_machine.specs.declared.row_kind.RowKind.TheVariants as row_kind
 use Rattle.ks_machine.specs.declared.settings.OpenFault.TheVariants as open_fault_is
 use Rattle.ks_machine.specs.Openings.{PlainOpening}
 use Rattle.ks_machine.specs.Opened.{open_fault, opened_state}
@@ -129,8 +130,8 @@ trusts_zoe = by_command trusts_ann
 domain_goes :
     ended (opened_state second) (
     call trusts_zoe bob ∷
-    call (command.Delete kind.Domain (codes "default")) ann ∷
-    call (command.Delete kind.Domain (codes "d2")) ann ∷ [])
+    call (command.Delete row_kind.Domain (codes "default")) ann ∷
+    call (command.Delete row_kind.Domain (codes "d2")) ann ∷ [])
     ≡ revoke.Domain (codes "d2") ∷ revoke.Project (codes "p2") ∷ revoke.User (codes "zoe") ∷ revoke.Trust id_of_9 ∷ []
 unfolding the_machine
 domain_goes = refl

@@ -2,7 +2,7 @@
 -- first, and no other command makes such a change.
 use Rattle.std.proofs.Common.{◌≡◌, ℕ, Bool, true, false, Option, Some, None, inl, inr, refl, sym, ap, subst, ◌∙◌}
 use Rattle.std.specs.Option.{option_map_or}
-use Rattle.std.specs.Prelude.{not, ◌&&◌, ◌||◌, codes}
+use Rattle.std.specs.Prelude.{not, ◌&&◌, ◌||◌}
 use Rattle.ks_base.specs.declared.catalog.CatalogIn.{CatalogIn}
 use Rattle.ks_base.specs.declared.grants.Actor.{Actor}
 use Rattle.ks_base.specs.declared.grants.GrantRow.{GrantRow}
@@ -18,8 +18,6 @@ use Rattle.ks_machine.specs.declared.call.FolderRead.{FolderRead}
 use Rattle.ks_machine.specs.Targets.{catalog_kind}
 use Rattle.ks_base.specs.declared.catalog.CatalogKind.{CatalogKind}
 use Rattle.ks_base.specs.declared.catalog.CatalogKind.TheVariants as of
-use Rattle.ks_base.specs.declared.kinds.Kind.{Kind}
-use Rattle.ks_base.specs.declared.kinds.Kind.TheVariants as kind
 use Rattle.ks_base.specs.declared.trusts.TrustRow.{TrustRow}
 use Rattle.ks_base.specs.declared.users.UserRow.{UserRow}
 use Rattle.ks_base.specs.Rows.{Id, Text, Rows}
@@ -36,7 +34,10 @@ use Rattle.ks_machine.specs.declared.change.Change.TheVariants as change
 use Rattle.ks_machine.specs.declared.command.Command.{Command}
 use Rattle.ks_machine.specs.declared.command.Command.TheVariants as command
 use Rattle.ks_machine.specs.declared.reply.Reply.{Reply}
+use Rattle.ks_machine.specs.declared.row_kind.RowKind.{RowKind}
+use Rattle.ks_machine.specs.declared.row_kind.RowKind.TheVariants as kind
 use Rattle.ks_machine.specs.Actions.{requirements}
+use Rattle.ks_machine.specs.Admission.{Parties, admitted, allows, caller_of, nobody, subject_asked}
 use Rattle.ks_machine.specs.AppCredCommands.{create_app_cred, delete_app_cred, get_app_cred, list_app_creds}
 use Rattle.ks_machine.specs.Assignments.{assignments}
 use Rattle.ks_machine.specs.Attempts.{Attempt, Go, Stop, Lacks, ◌>>=◌, Known, found, need, unless}
@@ -51,7 +52,7 @@ use Rattle.ks_machine.specs.Outcomes.{Outcome, changes, made_id, tells}
 use Rattle.ks_machine.specs.Passwords.{change_password}
 use Rattle.ks_machine.specs.Room.{event_limit, room_for}
 use Rattle.ks_machine.specs.States.{State, raised}
-use Rattle.ks_machine.specs.Steps.{Replies, answered, as_caller, as_caller_about, caller_of, checked, has_drawn, is_allowed, lacking_of, missing, step_at, stepped, subject_of}
+use Rattle.ks_machine.specs.Steps.{Replies, bytes_drawn, checked, has_drawn, lacking_of, on_subject, own_checks, planned, planned_by, step_at, stepped}
 use Rattle.ks_machine.specs.TokenLaws.{AreRestrictedHeldBack, IsForUnrestricted}
 use Rattle.ks_machine.specs.TrustCommands.{create_trust, delete_trust, get_trust, list_trusts, roles_of_trust}
 use Rattle.ks_machine.specs.Updates.{update, update_domain, update_group, update_project, update_role, update_user}
@@ -81,10 +82,6 @@ Spares (Lacks lack) = Unit {0}
 spares_go : (outcome : Outcome) → IsSparing outcome.change → Spares (Go outcome)
 unfolding Spares
 spares_go outcome is = is
-
-spares_stop : (why : Cause) → Spares (Stop why)
-unfolding Spares
-spares_stop why = tt
 
 spares_bind : {A : Type 0} (a : Attempt Cause A) (f : A → Attempt Cause Outcome) → ((x : A) → Spares (f x)) → Spares (a >>= f)
 unfolding Spares
@@ -119,48 +116,41 @@ use_spares (Some trust) = by trust.remaining
 
 -- commands
 
-login_spares : (known : Known) (S : State) (moment : ℕ) (call : Call) (asked : LoginBody) → Spares (login known S moment call.draw asked)
+login_spares : (known : Known) (S : State) (moment : ℕ) (drawn : Drawn) (asked : LoginBody) → Spares (login known S moment drawn asked)
 unfolding login token_given
-login_spares known S moment call asked =
+login_spares known S moment drawn asked =
     spares_bind (shown known S moment asked.proof) _ (λ who.
     spares_bind (scoped_by S.rows moment who.user who.credential asked.scope) _ (λ scope.
-    spares_go (token_given S moment call.draw who scope) (use_spares scope.trust)))
+    spares_go (token_given S moment drawn who scope) (use_spares scope.trust)))
 
-create_spares : (known : Known) (S : State) (call : Call) (caller : Valid) (asked : Made) → Spares (create known S call.draw caller asked)
+create_spares : (known : Known) (S : State) (drawn : Drawn) (caller : Valid) (asked : Made) → Spares (create known S drawn caller asked)
 unfolding create create_domain create_project create_user create_group create_role
-create_spares known S call caller (made.Domain given name description enabled) = search (spares_bind, spares_go, refl) depth 16
-create_spares known S call caller (made.Project given name domain parent description enabled) = search (spares_bind, spares_go, refl) depth 16
-create_spares known S call caller (made.User given name domain password enabled factors) = search (spares_bind, spares_user) depth 16
-create_spares known S call caller (made.Group given name domain description) = search (spares_bind, spares_go, refl) depth 16
-create_spares known S call caller (made.Role given name description) = search (spares_bind, spares_go, refl) depth 16
+create_spares known S drawn caller (made.Domain given name description enabled) = search (spares_bind, spares_go, refl) depth 16
+create_spares known S drawn caller (made.Project given name domain parent description enabled) = search (spares_bind, spares_go, refl) depth 16
+create_spares known S drawn caller (made.User given name domain password enabled factors) = search (spares_bind, spares_user) depth 16
+create_spares known S drawn caller (made.Group given name domain description) = search (spares_bind, spares_go, refl) depth 16
+create_spares known S drawn caller (made.Role given name description) = search (spares_bind, spares_go, refl) depth 16
 
-update_spares : (known : Known) (S : State) (call : Call) (id : Id) (asked : Made) → Spares (update known S call.draw id asked)
+update_spares : (known : Known) (S : State) (drawn : Drawn) (id : Id) (asked : Made) → Spares (update known S drawn id asked)
 unfolding update update_domain update_project update_user update_group update_role
-update_spares known S call id (made.Domain given name description enabled) = search (spares_bind, spares_go, refl) depth 16
-update_spares known S call id (made.Project given name domain parent description enabled) = search (spares_bind, spares_go, refl) depth 16
-update_spares known S call id (made.User given name domain password enabled factors) = search (spares_bind, spares_user) depth 20
-update_spares known S call id (made.Group given name domain description) = search (spares_bind, spares_go, refl) depth 16
-update_spares known S call id (made.Role given name description) = search (spares_bind, spares_go, refl) depth 16
+update_spares known S drawn id (made.Domain given name description enabled) = search (spares_bind, spares_go, refl) depth 16
+update_spares known S drawn id (made.Project given name domain parent description enabled) = search (spares_bind, spares_go, refl) depth 16
+update_spares known S drawn id (made.User given name domain password enabled factors) = search (spares_bind, spares_user) depth 20
+update_spares known S drawn id (made.Group given name domain description) = search (spares_bind, spares_go, refl) depth 16
+update_spares known S drawn id (made.Role given name description) = search (spares_bind, spares_go, refl) depth 16
 
-delete_spares : (rows : Rows) (of_kind : Kind) (id : Id) → Spares (delete rows of_kind id)
+delete_spares : (rows : Rows) (of_kind : RowKind) (id : Id) → Spares (delete rows of_kind id)
 unfolding delete
 delete_spares rows kind.Domain id = search (spares_bind, spares_go, refl)
 delete_spares rows kind.Project id = search (spares_bind, spares_go, refl)
 delete_spares rows kind.User id = search (spares_bind, spares_go, refl)
 delete_spares rows kind.Group id = search (spares_bind, spares_go, refl)
 delete_spares rows kind.Role id = search (spares_bind, spares_go, refl)
-delete_spares rows kind.Implication id = spares_stop _
-delete_spares rows kind.Grant id = spares_stop _
-delete_spares rows kind.Member id = spares_stop _
-delete_spares rows kind.Trust id = spares_stop _
-delete_spares rows kind.Event id = spares_stop _
 delete_spares rows kind.Region id = search (spares_bind, spares_go, refl)
 delete_spares rows kind.Service id = search (spares_bind, spares_go, refl)
 delete_spares rows kind.Endpoint id = search (spares_bind, spares_go, refl)
-delete_spares rows kind.AppCred id = spares_stop _
-delete_spares rows kind.Secret id = search (spares_bind, spares_go, refl)
 
-get_spares : (rows : Rows) (of_kind : Kind) (id : Id) → Spares (get rows of_kind id)
+get_spares : (rows : Rows) (of_kind : RowKind) (id : Id) → Spares (get rows of_kind id)
 unfolding get
 get_spares rows of_kind id = search (spares_bind, spares_go, refl)
 
@@ -176,11 +166,11 @@ update_catalog_spares rows id of.Region asked = search (spares_bind, spares_go, 
 update_catalog_spares rows id of.Service asked = search (spares_bind, spares_go, refl) depth 16
 update_catalog_spares rows id of.Endpoint asked = search (spares_bind, spares_go, refl) depth 16
 
-password_spares : (known : Known) (S : State) (call : Call) (id : Id) (original password : Text) → Spares (change_password known S call.draw id original password)
+password_spares : (known : Known) (S : State) (drawn : Drawn) (id : Id) (original password : Text) → Spares (change_password known S drawn id original password)
 unfolding change_password
-password_spares known S call id original password = search (spares_bind, spares_go, refl)
+password_spares known S drawn id original password = search (spares_bind, spares_go, refl)
 
-list_spares : (rows : Rows) (of_kind : Kind) (filters : Filter) → Spares (Go (list rows of_kind filters))
+list_spares : (rows : Rows) (of_kind : RowKind) (filters : Filter) → Spares (Go (list rows of_kind filters))
 unfolding list
 list_spares rows of_kind filters = spares_go _ refl
 
@@ -300,30 +290,14 @@ delete_secret_spares : (rows : Rows) (id : Id) → Spares (delete_secret rows id
 unfolding delete_secret
 delete_secret_spares rows id = search (spares_bind, spares_go, refl) depth 16
 
--- commands of a caller
+-- commands about a token
 
-caller_spares : (known : Known) (S : State) (moment : ℕ) (call : Call) (own : Valid → Attempt Cause Outcome) → ((caller : Valid) → Spares (own caller)) →
-    Spares (as_caller known S moment call own)
-unfolding as_caller
-caller_spares known S moment call own each =
-    spares_bind (caller_of known S moment call.caller) _ (λ caller. spares_bind (is_allowed S caller None call.command) _ (λ _. each caller))
-
-about_spares : (known : Known) (S : State) (moment : ℕ) (call : Call) (late : Bool) (own : Text → Valid → Outcome) →
-    ((text : Text) (subject : Valid) → IsSparing (own text subject).change) → Spares (as_caller_about known S moment call late own)
-unfolding as_caller_about
-about_spares known S moment call late own each =
-    spares_bind (caller_of known S moment call.caller) _ (λ caller.
-    spares_bind (subject_of known S moment late call.subject) _ (λ subject.
-    spares_bind (is_allowed S caller (Some subject) call.command) _ (λ _.
-    spares_bind (found call.subject (missing (codes "X-Subject-Token"))) _ (λ text. spares_go (own text subject) (each text subject)))))
-
--- a command of one caller
-known_caller_spares : (known : Known) (S : State) (moment : ℕ) (call : Call) (caller : Valid) (own : Valid → Attempt Cause Outcome) →
-    caller_of known S moment call.caller ≡ Go caller → Spares (own caller) → Spares (as_caller known S moment call own)
-unfolding as_caller
-known_caller_spares known S moment call caller own goes is =
-    subst (λ (a : Attempt Cause Valid). Spares (a >>= (λ caller. is_allowed S caller None call.command >>= (λ _. own caller)))) (sym goes)
-    (spares_bind (is_allowed S caller None call.command) (λ _. own caller) (λ _. is))
+subject_spares : (given : Option Text) (subject : Option Valid) (own : Text → Valid → Outcome) → ((text : Text) (token : Valid) → IsSparing (own text token).change) →
+    Spares (on_subject given subject own)
+unfolding Spares
+subject_spares given None own each = tt
+subject_spares None (Some token) own each = tt
+subject_spares (Some text) (Some token) own each = each text token
 
 -- what only an unrestricted token may do stops first
 stopped_spares : (holds : Bool) (why : Cause) (f : Unit {0} → Attempt Cause Outcome) → holds ≡ false → Spares (need holds why >>= f)
@@ -348,74 +322,127 @@ delete_app_cred_spares : (rows : Rows) (caller : Valid) (user id : Id) → is_un
 unfolding delete_app_cred
 delete_app_cred_spares rows caller user id bound = stopped_spares (is_unrestricted rows caller) cause.Prohibited _ bound
 
+-- commands of a caller, who is restricted
+
+abbrev IsRestricted : Rows → Option Valid → Type 0
+IsRestricted rows caller = option_map_or (is_unrestricted rows) caller false ≡ false
+
+caller_spares : (rows : Rows) (caller : Option Valid) (own : Valid → Attempt Cause Outcome) → IsRestricted rows caller →
+    ((caller : Valid) → is_unrestricted rows caller ≡ false → Spares (own caller)) → Spares (found caller cause.NoToken >>= own)
+unfolding Spares
+caller_spares rows (Some caller) own bound each = each caller bound
+caller_spares rows None own bound each = tt
+
+abbrev drawn_spares : (draw : Drawn) (own : Drawn → Attempt Cause Outcome) → ((draw : Drawn) → Spares (own draw)) → Spares (bytes_drawn draw >>= own)
+drawn_spares draw own each = spares_bind (bytes_drawn draw) own each
+
 -- all commands
 
-answered_spares : (known : Known) (S : State) (moment : ℕ) (call : Call) (asked : Command) (caller : Valid) →
-    caller_of known S moment call.caller ≡ Go caller → is_unrestricted S.rows caller ≡ false → Spares (answered known S moment call asked)
-unfolding answered
-answered_spares known S moment call command.Version caller goes bound = spares_go _ refl
-answered_spares known S moment call (command.Login asked) caller goes bound = login_spares known S moment call asked
-answered_spares known S moment call (command.ChangePassword id original password) caller goes bound = password_spares known S call id original password
-answered_spares known S moment call (command.Validate late) caller goes bound = about_spares known S moment call late _ (λ text subject. refl)
-answered_spares known S moment call (command.Check late) caller goes bound = about_spares known S moment call late _ (λ text subject. refl)
-answered_spares known S moment call command.RevokeToken caller goes bound = about_spares known S moment call false _ (λ text subject. refl)
-answered_spares known S moment call (command.Create made) caller goes bound = caller_spares known S moment call _ (λ caller. create_spares known S call caller made)
-answered_spares known S moment call (command.List of_kind filters) caller goes bound = caller_spares known S moment call _ (λ _. list_spares S.rows of_kind filters)
-answered_spares known S moment call (command.Get of_kind id) caller goes bound = caller_spares known S moment call _ (λ _. get_spares S.rows of_kind id)
-answered_spares known S moment call (command.Update id made) caller goes bound = caller_spares known S moment call _ (λ _. update_spares known S call id made)
-answered_spares known S moment call (command.Delete of_kind id) caller goes bound = caller_spares known S moment call _ (λ _. delete_spares S.rows of_kind id)
-answered_spares known S moment call (command.GroupsOf id) caller goes bound = caller_spares known S moment call _ (λ _. groups_of_spares S.rows id)
-answered_spares known S moment call (command.MembersOf id) caller goes bound = caller_spares known S moment call _ (λ _. members_of_spares S.rows id)
-answered_spares known S moment call (command.Join row) caller goes bound = caller_spares known S moment call _ (λ _. join_spares S.rows row)
-answered_spares known S moment call (command.IsIn row) caller goes bound = caller_spares known S moment call _ (λ _. is_in_spares S.rows row)
-answered_spares known S moment call (command.Leave row) caller goes bound = caller_spares known S moment call _ (λ _. leave_spares S.rows row)
-answered_spares known S moment call (command.Implied id) caller goes bound = caller_spares known S moment call _ (λ _. implied_spares S.rows id)
-answered_spares known S moment call (command.Imply row) caller goes bound = caller_spares known S moment call _ (λ _. imply_spares S.rows row)
-answered_spares known S moment call (command.Implication row) caller goes bound = caller_spares known S moment call _ (λ _. implication_spares S.rows row)
-answered_spares known S moment call (command.IsImplied row) caller goes bound = caller_spares known S moment call _ (λ _. is_implied_spares S.rows row)
-answered_spares known S moment call (command.Unimply row) caller goes bound = caller_spares known S moment call _ (λ _. unimply_spares S.rows row)
-answered_spares known S moment call (command.GrantsOf who at inherited) caller goes bound = caller_spares known S moment call _ (λ _. grants_of_spares S.rows who at inherited)
-answered_spares known S moment call (command.Grant row) caller goes bound = caller_spares known S moment call _ (λ _. grant_spares S.rows row)
-answered_spares known S moment call (command.IsGranted row) caller goes bound = caller_spares known S moment call _ (λ _. is_granted_spares S.rows row)
-answered_spares known S moment call (command.Ungrant row) caller goes bound = caller_spares known S moment call _ (λ _. ungrant_spares S.rows row)
-answered_spares known S moment call (command.Assignments filters) caller goes bound = caller_spares known S moment call _ (λ _. assignments_spares S.rows filters)
-answered_spares known S moment call (command.Trusts filters) caller goes bound = caller_spares known S moment call _ (λ _. list_trusts_spares S.rows filters)
-answered_spares known S moment call (command.Trust id) caller goes bound = caller_spares known S moment call _ (λ _. get_trust_spares S.rows id)
-answered_spares known S moment call (command.DeleteTrust id) caller goes bound = caller_spares known S moment call _ (λ _. delete_trust_spares S.rows id)
-answered_spares known S moment call (command.TrustRoles id) caller goes bound = caller_spares known S moment call _ (λ _. roles_of_trust_spares S.rows id)
-answered_spares known S moment call command.Events caller goes bound = caller_spares known S moment call _ (λ _. events_spares S moment)
-answered_spares known S moment call command.RotateKeys caller goes bound = caller_spares known S moment call _ (λ _. rotate_spares S call.draw)
-answered_spares known S moment call command.LoadKeys caller goes bound = caller_spares known S moment call _ (λ _. load_spares S call.folder)
-answered_spares known S moment call (command.CreateCatalog asked) caller goes bound = caller_spares known S moment call _ (λ _. create_catalog_spares S.rows (made_id call.draw) asked.of asked)
-answered_spares known S moment call (command.ListCatalog of_kind filters) caller goes bound = caller_spares known S moment call _ (λ _. list_spares S.rows (catalog_kind of_kind) filters)
-answered_spares known S moment call (command.GetCatalog of_kind id) caller goes bound = caller_spares known S moment call _ (λ _. get_spares S.rows (catalog_kind of_kind) id)
-answered_spares known S moment call (command.UpdateCatalog id asked) caller goes bound = caller_spares known S moment call _ (λ _. update_catalog_spares S.rows id asked.of asked)
-answered_spares known S moment call (command.DeleteCatalog of_kind id) caller goes bound = caller_spares known S moment call _ (λ _. delete_spares S.rows (catalog_kind of_kind) id)
-answered_spares known S moment call (command.ListAppCreds user) caller goes bound = caller_spares known S moment call _ (λ _. list_app_creds_spares S.rows user)
-answered_spares known S moment call (command.GetAppCred user id) caller goes bound = caller_spares known S moment call _ (λ _. get_app_cred_spares S.rows user id)
-answered_spares known S moment call (command.CreateSecret asked) caller goes bound = caller_spares known S moment call _ (λ _. create_secret_spares S.rows call.draw asked)
-answered_spares known S moment call command.ListSecrets caller goes bound = caller_spares known S moment call _ (λ _. list_secrets_spares S.rows)
-answered_spares known S moment call (command.GetSecret id) caller goes bound = caller_spares known S moment call _ (λ _. get_secret_spares S.rows id)
-answered_spares known S moment call (command.DeleteSecret id) caller goes bound = caller_spares known S moment call _ (λ _. delete_secret_spares S.rows id)
-answered_spares known S moment call command.ShowCatalog caller goes bound = caller_spares known S moment call _ (λ caller. show_catalog_spares S.rows caller)
-answered_spares known S moment call (command.CreateTrust asked) caller goes bound =
-    known_caller_spares known S moment call caller _ goes (create_trust_spares S.rows moment call.draw caller asked bound)
-answered_spares known S moment call (command.CreateAppCred user asked) caller goes bound =
-    known_caller_spares known S moment call caller _ goes (create_app_cred_spares known S moment call.draw caller user asked bound)
-answered_spares known S moment call (command.DeleteAppCred user id) caller goes bound =
-    known_caller_spares known S moment call caller _ goes (delete_app_cred_spares S.rows caller user id bound)
+own_checks_spare : (known : Known) (S : State) (moment : ℕ) (call : Call) (who : Parties) (asked : Command) → IsRestricted S.rows who.caller →
+    Spares (own_checks known S S.rows moment call who asked)
+unfolding own_checks
+own_checks_spare known S moment call who command.Version bound = spares_go _ refl
+own_checks_spare known S moment call who (command.Login asked) bound = drawn_spares call.draw _ (λ draw. login_spares known S moment draw asked)
+own_checks_spare known S moment call who (command.ChangePassword id original password) bound = drawn_spares call.draw _ (λ draw. password_spares known S draw id original password)
+own_checks_spare known S moment call who (command.Validate late) bound = subject_spares call.subject who.subject _ (λ text token. refl)
+own_checks_spare known S moment call who (command.Check late) bound = subject_spares call.subject who.subject _ (λ text token. refl)
+own_checks_spare known S moment call who command.RevokeToken bound = subject_spares call.subject who.subject _ (λ text token. refl)
+own_checks_spare known S moment call who (command.Create made) bound =
+    caller_spares S.rows who.caller _ bound (λ caller _. drawn_spares call.draw _ (λ draw. create_spares known S draw caller made))
+own_checks_spare known S moment call who (command.List of_kind filters) bound = list_spares S.rows of_kind filters
+own_checks_spare known S moment call who (command.Get of_kind id) bound = get_spares S.rows of_kind id
+own_checks_spare known S moment call who (command.Update id made) bound = update_spares known S call.draw id made
+own_checks_spare known S moment call who (command.Delete of_kind id) bound = delete_spares S.rows of_kind id
+own_checks_spare known S moment call who (command.GroupsOf id) bound = groups_of_spares S.rows id
+own_checks_spare known S moment call who (command.MembersOf id) bound = members_of_spares S.rows id
+own_checks_spare known S moment call who (command.Join row) bound = join_spares S.rows row
+own_checks_spare known S moment call who (command.IsIn row) bound = is_in_spares S.rows row
+own_checks_spare known S moment call who (command.Leave row) bound = leave_spares S.rows row
+own_checks_spare known S moment call who (command.Implied id) bound = implied_spares S.rows id
+own_checks_spare known S moment call who (command.Imply row) bound = imply_spares S.rows row
+own_checks_spare known S moment call who (command.Implication row) bound = implication_spares S.rows row
+own_checks_spare known S moment call who (command.IsImplied row) bound = is_implied_spares S.rows row
+own_checks_spare known S moment call who (command.Unimply row) bound = unimply_spares S.rows row
+own_checks_spare known S moment call who (command.GrantsOf whose at inherited) bound = grants_of_spares S.rows whose at inherited
+own_checks_spare known S moment call who (command.Grant row) bound = grant_spares S.rows row
+own_checks_spare known S moment call who (command.IsGranted row) bound = is_granted_spares S.rows row
+own_checks_spare known S moment call who (command.Ungrant row) bound = ungrant_spares S.rows row
+own_checks_spare known S moment call who (command.Assignments filters) bound = assignments_spares S.rows filters
+own_checks_spare known S moment call who (command.Trusts filters) bound = list_trusts_spares S.rows filters
+own_checks_spare known S moment call who (command.Trust id) bound = get_trust_spares S.rows id
+own_checks_spare known S moment call who (command.DeleteTrust id) bound = delete_trust_spares S.rows id
+own_checks_spare known S moment call who (command.TrustRoles id) bound = roles_of_trust_spares S.rows id
+own_checks_spare known S moment call who command.Events bound = events_spares S moment
+own_checks_spare known S moment call who command.RotateKeys bound = drawn_spares call.draw _ (λ draw. rotate_spares S draw)
+own_checks_spare known S moment call who command.LoadKeys bound = load_spares S call.folder
+own_checks_spare known S moment call who (command.CreateCatalog asked) bound =
+    drawn_spares call.draw _ (λ draw. create_catalog_spares S.rows (made_id draw) asked.of asked)
+own_checks_spare known S moment call who (command.ListCatalog of_kind filters) bound = list_spares S.rows (catalog_kind of_kind) filters
+own_checks_spare known S moment call who (command.GetCatalog of_kind id) bound = get_spares S.rows (catalog_kind of_kind) id
+own_checks_spare known S moment call who (command.UpdateCatalog id asked) bound = update_catalog_spares S.rows id asked.of asked
+own_checks_spare known S moment call who (command.DeleteCatalog of_kind id) bound = delete_spares S.rows (catalog_kind of_kind) id
+own_checks_spare known S moment call who (command.ListAppCreds user) bound = list_app_creds_spares S.rows user
+own_checks_spare known S moment call who (command.GetAppCred user id) bound = get_app_cred_spares S.rows user id
+own_checks_spare known S moment call who (command.CreateSecret asked) bound = drawn_spares call.draw _ (λ draw. create_secret_spares S.rows draw asked)
+own_checks_spare known S moment call who command.ListSecrets bound = list_secrets_spares S.rows
+own_checks_spare known S moment call who (command.GetSecret id) bound = get_secret_spares S.rows id
+own_checks_spare known S moment call who (command.DeleteSecret id) bound = delete_secret_spares S.rows id
+own_checks_spare known S moment call who command.ShowCatalog bound = spares_bind (caller_of known S moment call.caller) _ (λ caller. show_catalog_spares S.rows caller)
+own_checks_spare known S moment call who (command.CreateTrust asked) bound =
+    caller_spares S.rows who.caller _ bound (λ caller restricted.
+    drawn_spares call.draw _ (λ draw. create_trust_spares S.rows moment draw caller asked restricted))
+own_checks_spare known S moment call who (command.CreateAppCred user asked) bound =
+    caller_spares S.rows who.caller _ bound (λ caller restricted.
+    drawn_spares call.draw _ (λ draw. create_app_cred_spares known S moment draw caller user asked restricted))
+own_checks_spare known S moment call who (command.DeleteAppCred user id) bound =
+    caller_spares S.rows who.caller _ bound (λ caller restricted. delete_app_cred_spares S.rows caller user id restricted)
+
+-- who is admitted is that caller, or nobody
+
+allowed_spares : (a : Attempt Cause (Unit {0})) (who : Parties) (own : Parties → Attempt Cause Outcome) → Spares (own who) → Spares ((a >>= (λ _. Go who)) >>= own)
+unfolding Spares
+allowed_spares (Go u) who own is = is
+allowed_spares (Stop why) who own is = tt
+allowed_spares (Lacks lack) who own is = tt
+
+abbrev admits : Valid → Option Valid → Parties
+admits caller subject = record { caller = Some caller; subject = subject }
+
+parties_spare : (subject : Attempt Cause (Option Valid)) (caller : Valid) (allowed : Option Valid → Attempt Cause (Unit {0})) (own : Parties → Attempt Cause Outcome) →
+    ((subject : Option Valid) → Spares (own (admits caller subject))) → Spares ((subject >>= (λ subject. allowed subject >>= (λ _. Go (admits caller subject)))) >>= own)
+unfolding Spares
+parties_spare (Go subject) caller allowed own each = allowed_spares (allowed subject) (admits caller subject) own (each subject)
+parties_spare (Stop why) caller allowed own each = tt
+parties_spare (Lacks lack) caller allowed own each = tt
+
+admitted_spares : (known : Known) (S : State) (moment : ℕ) (call : Call) (action : Option Text) (about late : Bool) (caller : Valid) (own : Parties → Attempt Cause Outcome) →
+    caller_of known S moment call.caller ≡ Go caller → is_unrestricted S.rows caller ≡ false → ((who : Parties) → IsRestricted S.rows who.caller → Spares (own who)) →
+    Spares (admitted known S S.rules S.rows moment call action about late >>= own)
+unfolding admitted
+admitted_spares known S moment call None about late caller own goes bound each = each nobody refl
+admitted_spares known S moment call (Some action) about late caller own goes bound each =
+    let subject = subject_asked known S moment late call.subject about in
+    let allowed : Valid → Option Valid → Attempt Cause (Unit {0}) = λ caller subject. allows S.rules S.rows caller subject call.command action in
+    subst (λ (a : Attempt Cause Valid). Spares ((a >>= (λ caller. subject >>= (λ subject. allowed caller subject >>= (λ _. Go (admits caller subject))))) >>= own)) (sym goes)
+    (parties_spare subject caller (allowed caller) own (λ subject. each (admits caller subject) bound))
 
 -- a step
+
+planned_spares : (known : Known) (S : State) (moment : ℕ) (call : Call) (caller : Valid) → caller_of known S moment call.caller ≡ Go caller →
+    is_unrestricted S.rows caller ≡ false → Spares (planned known S moment call)
+unfolding planned planned_by
+planned_spares known S moment call caller goes bound =
+    let asked = requirements call.command in
+    spares_bind (unless (lacking_of asked call.subject)) _ (λ _.
+    spares_bind (need (not asked.draws || has_drawn call.draw) cause.Random) _ (λ _.
+    spares_bind (need (not (asked.loads && is_failed call.folder)) cause.KeyDir) _ (λ _.
+    admitted_spares known S moment call asked.action asked.subject asked.late caller _ goes bound (λ who. own_checks_spare known S moment call who call.command))))
 
 checked_spares : (known : Known) (S : State) (moment : ℕ) (call : Call) (caller : Valid) → caller_of known S moment call.caller ≡ Go caller →
     is_unrestricted S.rows caller ≡ false → Spares (checked known S moment call)
 unfolding checked
 checked_spares known S moment call caller goes bound =
-    spares_bind (unless (lacking_of (requirements call.command) call.subject)) _ (λ _.
-    spares_bind (need (not (requirements call.command).draws || has_drawn call.draw) cause.Random) _ (λ _.
-    spares_bind (need (not ((requirements call.command).loads && is_failed call.folder)) cause.KeyDir) _ (λ _.
-    spares_kept (answered known S moment call call.command) (λ outcome. room_for S moment (event_limit call.command) outcome.change)
-    (answered_spares known S moment call call.command caller goes bound))))
+    spares_kept (planned known S moment call) (λ outcome. room_for S moment (event_limit call.command) outcome.change) (planned_spares known S moment call caller goes bound)
 
 not_true : (b : Bool) → b ≡ false → b ≡ true → ⊥
 not_true true is not = cc

@@ -26,6 +26,7 @@ use Rattle.ks_machine.specs.declared.cause.Cause.TheVariants as cause
 use Rattle.ks_machine.specs.declared.change.Change.{Change}
 use Rattle.ks_machine.specs.declared.command.Command.{Command}
 use Rattle.ks_machine.specs.declared.command.Command.TheVariants as command
+use Rattle.ks_machine.specs.declared.row_kind.RowKind.TheVariants as row_kind
 use Rattle.ks_machine.specs.declared.why.Why.TheVariants as why
 use Rattle.ks_payload.specs.declared.payload.Payload.{Payload}
 use Rattle.ks_payload.specs.Payloads.{spelling}
@@ -235,7 +236,7 @@ unfolding the_machine
 comes_back = refl
 
 -- a user that goes takes the trusts of which it is a party, and those below: its end is told first, then theirs by id
-user_goes : ended (after start (chain ++ by (codes "ann") 1 (command.Delete kind.User (codes "dan")) ∷ []))
+user_goes : ended (after start (chain ++ by (codes "ann") 1 (command.Delete row_kind.User (codes "dan")) ∷ []))
     ≡ revoke.User (codes "dan") ∷ revoke.Trust id_of_6 ∷ revoke.Trust id_of_7 ∷ revoke.Trust id_of_8 ∷ []
 unfolding the_machine
 user_goes = refl

@@ -12,8 +12,11 @@ use Rattle.ks_machine.specs.declared.bodies.Made.{Made}
 use Rattle.ks_machine.specs.declared.bodies.Made.TheVariants as made
 use Rattle.ks_machine.specs.declared.command.Command.{Command}
 use Rattle.ks_machine.specs.declared.command.Command.TheVariants as command
+use Rattle.ks_machine.specs.declared.row_kind.MadeKind.{MadeKind}
+use Rattle.ks_machine.specs.declared.row_kind.RowKind.{RowKind}
+use Rattle.ks_machine.specs.declared.row_kind.RowKind.TheVariants as row_kind
 use Rattle.ks_machine.specs.Assignments.{user_lacking}
-use Rattle.ks_machine.specs.Targets.{catalog_kind, kind_of}
+use Rattle.ks_machine.specs.Targets.{catalog_kind, kind_of, made_kind}
 
 -- a kind's word, and its plural
 abbrev pub kind_word : Kind → Text
@@ -33,15 +36,34 @@ kind_word kind.Endpoint = codes "endpoint"
 kind_word kind.AppCred = codes "appcred"
 kind_word kind.Secret = codes "secret"
 
-abbrev pub kind_words : Kind → Text
-kind_words kind = kind_word kind ++ codes "s"
+-- a kind that has routes of its own, among all
+abbrev pub row_kind_of : RowKind → Kind
+row_kind_of row_kind.Domain = kind.Domain
+row_kind_of row_kind.Project = kind.Project
+row_kind_of row_kind.User = kind.User
+row_kind_of row_kind.Group = kind.Group
+row_kind_of row_kind.Role = kind.Role
+row_kind_of row_kind.Region = kind.Region
+row_kind_of row_kind.Service = kind.Service
+row_kind_of row_kind.Endpoint = kind.Endpoint
+
+-- its word, and its plural
+abbrev pub row_word : RowKind → Text
+row_word kind = kind_word (row_kind_of kind)
+
+abbrev pub row_words : RowKind → Text
+row_words kind = row_word kind ++ codes "s"
+
+-- the same of what a body makes, and of the catalog
+abbrev pub made_word : MadeKind → Text
+made_word kind = row_word (made_kind kind)
 
 -- the same of a kind of the catalog
 abbrev pub catalog_word : CatalogKind → Text
-catalog_word of = kind_word (catalog_kind of)
+catalog_word of = row_word (catalog_kind of)
 
 abbrev pub catalog_words : CatalogKind → Text
-catalog_words of = kind_words (catalog_kind of)
+catalog_words of = row_words (catalog_kind of)
 
 abbrev pub identity : Text → Text
 identity name = codes "identity:" ++ name
@@ -60,21 +82,22 @@ pub record Requirements : Type 0 where
   pub draws : Bool
   pub loads : Bool
   pub subject : Bool
+  pub late : Bool
   pub lacks : Option Text
 
 -- a rule alone
 abbrev pub asks : Text → Requirements
-asks name = record { action = Some (identity name); draws = false; loads = false; subject = false; lacks = None }
+asks name = record { action = Some (identity name); draws = false; loads = false; subject = false; late = false; lacks = None }
 
 abbrev pub asks_and_draws : Text → Requirements
 asks_and_draws name = record (asks name) { draws = true }
 
-abbrev pub asks_about : Text → Requirements
-asks_about name = record (asks name) { subject = true }
+abbrev pub asks_about : Text → Bool → Requirements
+asks_about name late = record (asks name) { subject = true; late = late }
 
 -- no rule is asked for version, login, password change and the catalog of the caller's own scope
 abbrev pub open_to_all : Bool → Requirements
-open_to_all draws = record { action = None; draws = draws; loads = false; subject = false; lacks = None }
+open_to_all draws = record { action = None; draws = draws; loads = false; subject = false; late = false; lacks = None }
 
 -- a change of a user draws a salt, also without a password
 abbrev pub draws_for : Made → Bool
@@ -87,14 +110,14 @@ draws_for (made.Role given name description) = false
 unfoldable pub requirements : Command → Requirements
 requirements command.Version = open_to_all false
 requirements (command.Login body) = open_to_all true
-requirements (command.Validate late) = asks_about (codes "validate_token")
-requirements (command.Check late) = asks_about (codes "check_token")
-requirements command.RevokeToken = asks_about (codes "revoke_token")
-requirements (command.Create made) = asks_and_draws (codes "create_" ++ kind_word (kind_of made))
-requirements (command.List kind filter) = asks (codes "list_" ++ kind_words kind)
-requirements (command.Get kind id) = asks (codes "get_" ++ kind_word kind)
-requirements (command.Update id made) = record (asks (codes "update_" ++ kind_word (kind_of made))) { draws = draws_for made }
-requirements (command.Delete kind id) = asks (codes "delete_" ++ kind_word kind)
+requirements (command.Validate late) = asks_about (codes "validate_token") late
+requirements (command.Check late) = asks_about (codes "check_token") late
+requirements command.RevokeToken = asks_about (codes "revoke_token") false
+requirements (command.Create made) = asks_and_draws (codes "create_" ++ made_word (kind_of made))
+requirements (command.List kind filter) = asks (codes "list_" ++ row_words kind)
+requirements (command.Get kind id) = asks (codes "get_" ++ row_word kind)
+requirements (command.Update id made) = record (asks (codes "update_" ++ made_word (kind_of made))) { draws = draws_for made }
+requirements (command.Delete kind id) = asks (codes "delete_" ++ row_word kind)
 requirements (command.ChangePassword user original password) = open_to_all true
 requirements (command.GroupsOf id) = asks (codes "list_groups_for_user")
 requirements (command.MembersOf id) = asks (codes "list_users_in_group")

@@ -1,5 +1,6 @@
--- Application credentials: making one, and what is told of them (Identity API v3, application credentials).
-use Rattle.std.specs.Prelude.{ℕ, false, not, ◌||◌, ◌==◌, if◌then◌else◌, nat_lt, List, [], ◌∷◌, ◌++◌, drop, length, Option, Some, None, codes, filter, map, unwrap_or}
+-- Application credentials: making one, and what is told of them.
+-- Source: Identity API v3, application credentials.
+use Rattle.std.specs.Prelude.{ℕ, false, not, ◌||◌, ◌==◌, if◌then◌else◌, nat_lt, List, [], ◌++◌, drop, length, Option, Some, None, codes, filter, map, unwrap_or}
 use Rattle.base64.specs.Engines.{url_safe_no_pad}
 use Rattle.base64.specs.GeneralPurpose.{encode_of}
 use Rattle.ks_base.specs.declared.app_creds.AppCredRow.{AppCredRow}
@@ -20,7 +21,7 @@ use Rattle.ks_machine.specs.declared.cause.Cause.TheVariants as cause
 use Rattle.ks_machine.specs.declared.cause.ScopeWhy.TheVariants as scope_why
 use Rattle.ks_machine.specs.declared.change.Change.TheVariants as change
 use Rattle.ks_payload.specs.declared.payload.Payload.{Payload}
-use Rattle.ks_machine.specs.Attempts.{Attempt, Go, ◌>>=◌, Known, each, found, need}
+use Rattle.ks_machine.specs.Attempts.{Attempt, Go, ◌>>=◌, Known, each, found}
 use Rattle.ks_machine.specs.Effective.{in_order, is_effective}
 use Rattle.ks_machine.specs.Outcomes.{Outcome, bytes_in, changes, made_id, tells}
 use Rattle.ks_machine.specs.Passwords.{derived}

@@ -55,49 +55,6 @@ abbrev pub is_of_domain : Rows → Id → TrustRow → Bool
 is_of_domain rows domain trust =
     is_domain_user rows domain trust.trustor || (is_domain_user rows domain trust.trustee || is_domain_project rows domain trust.project)
 
-abbrev pub no_trust : TrustRow → Bool
-no_trust trust = false
-
--- which trusts a change touches: with them those that redelegate them go
-unfoldable pub touches : Rows → Change → TrustRow → Bool
-touches rows (change.DropDomain id) = is_of_domain rows id
-touches rows (change.DropProject id) = names_trust (revoke.Project id)
-touches rows (change.DropUser id) = names_trust (revoke.User id)
-touches rows (change.DropRole id) = has_role id
-touches rows (change.DropTrust id) = names_trust (revoke.Trust id)
-touches rows (change.PutDomain row) = no_trust
-touches rows (change.PutProject row) = no_trust
-touches rows (change.PutUser row) = no_trust
-touches rows (change.PutGroup row) = no_trust
-touches rows (change.PutRole row) = no_trust
-touches rows (change.PutTrust row) = no_trust
-touches rows (change.DropGroup id) = no_trust
-touches rows (change.Join row) = no_trust
-touches rows (change.Leave row) = no_trust
-touches rows (change.Imply row) = no_trust
-touches rows (change.Unimply row) = no_trust
-touches rows (change.Grant row) = no_trust
-touches rows (change.Ungrant row) = no_trust
-touches rows (change.UseTrust id) = no_trust
-touches rows (change.RevokeToken audit) = no_trust
-touches rows (change.Rotate key) = no_trust
-touches rows (change.Load keys) = no_trust
-touches rows (change.PutRegion row) = no_trust
-touches rows (change.PutService row) = no_trust
-touches rows (change.PutEndpoint row) = no_trust
-touches rows (change.DropRegion id) = no_trust
-touches rows (change.DropService id) = no_trust
-touches rows (change.DropEndpoint id) = no_trust
-touches rows (change.PutAppCred row) = no_trust
-touches rows (change.DropAppCred id) = no_trust
-touches rows (change.PutSecret row) = no_trust
-touches rows (change.DropSecret id) = no_trust
-touches rows (change.PutUserWith row rules) = no_trust
-
--- the trusts that a change leaves
-abbrev pub trusts_after : Rows → Change → List TrustRow
-trusts_after rows what = trusts_left rows.trusts (touches rows what)
-
 -- rows: each table by its own change, and then what no call of that one table does
 
 abbrev pub is_left : (Id → Bool) → (Id → Bool) → MemberRow → Bool
@@ -129,7 +86,7 @@ domain_dropped rows id = record (put_trees (without_domain id (trees rows)) rows
   groups = filter (λ row. not (is_group_in id row)) rows.groups;
   members = filter (is_left (is_domain_user rows id) (is_domain_group rows id)) rows.members;
   grants = filter (is_grant_left rows id) rows.grants;
-  trusts = trusts_after rows (change.DropDomain id);
+  trusts = trusts_left rows.trusts (is_of_domain rows id);
   app_creds = filter (is_cred_left rows id) rows.app_creds;
   secrets = filter (λ row. not (is_domain_user rows id row.user)) rows.secrets;
   factor_rules = filter (λ row. not (is_domain_user rows id row.user)) rows.factor_rules;
@@ -138,14 +95,14 @@ domain_dropped rows id = record (put_trees (without_domain id (trees rows)) rows
 unfoldable pub project_dropped : Rows → Id → Rows
 project_dropped rows id = record (put_trees (without_project id (trees rows)) rows) {
   grants = filter (λ row. not (is_at_target (target.Project id) row)) rows.grants;
-  trusts = trusts_after rows (change.DropProject id);
+  trusts = trusts_left rows.trusts (names_trust (revoke.Project id));
   app_creds = creds_without_project id rows.app_creds;
 }
 
 unfoldable pub user_dropped : Rows → Id → Rows
 user_dropped rows id = record (put_factors (without_factors id (factors rows)) (put_people (without_user id (people rows)) rows)) {
   grants = filter (λ row. not (is_of_actor (actor.User id) row)) rows.grants;
-  trusts = trusts_after rows (change.DropUser id);
+  trusts = trusts_left rows.trusts (names_trust (revoke.User id));
   app_creds = creds_without_user id rows.app_creds;
 }
 
@@ -157,81 +114,9 @@ group_dropped rows id = record (put_people (without_group id (people rows)) rows
 unfoldable pub role_dropped : Rows → Id → Rows
 role_dropped rows id = record (put_roles (without_role id (roles rows)) rows) {
   grants = filter (λ row. not (is_of_role id row)) rows.grants;
-  trusts = trusts_after rows (change.DropRole id);
+  trusts = trusts_left rows.trusts (has_role id);
   app_creds = creds_without_role id rows.app_creds;
 }
-
-unfoldable pub rows_after : Rows → Change → Rows
-rows_after rows (change.PutDomain row) = put_trees (with_domain row (trees rows)) rows
-rows_after rows (change.PutProject row) = put_trees (with_project row (trees rows)) rows
-rows_after rows (change.PutUser row) = put_people (with_user row (people rows)) rows
-rows_after rows (change.PutGroup row) = put_people (with_group row (people rows)) rows
-rows_after rows (change.PutRole row) = put_roles (with_role row (roles rows)) rows
-rows_after rows (change.PutTrust row) = record rows { trusts = put_row id_cmp (λ r. r.id) row rows.trusts }
-rows_after rows (change.DropDomain id) = domain_dropped rows id
-rows_after rows (change.DropProject id) = project_dropped rows id
-rows_after rows (change.DropUser id) = user_dropped rows id
-rows_after rows (change.DropGroup id) = group_dropped rows id
-rows_after rows (change.DropRole id) = role_dropped rows id
-rows_after rows (change.DropTrust id) = record rows { trusts = trusts_after rows (change.DropTrust id) }
-rows_after rows (change.Join row) = put_people (with_member row (people rows)) rows
-rows_after rows (change.Leave row) = put_people (without_member row (people rows)) rows
-rows_after rows (change.Imply row) = put_roles (with_implication row (roles rows)) rows
-rows_after rows (change.Unimply row) = put_roles (without_implication row (roles rows)) rows
-rows_after rows (change.Grant row) = record rows { grants = with_grant row rows.grants }
-rows_after rows (change.Ungrant row) = record rows { grants = without_grant row rows.grants }
-rows_after rows (change.UseTrust id) = record rows { trusts = use_trust id rows.trusts }
-rows_after rows (change.RevokeToken audit) = rows
-rows_after rows (change.Rotate key) = rows
-rows_after rows (change.Load keys) = rows
-rows_after rows (change.PutRegion row) = put_catalogs (with_region row (catalogs rows)) rows
-rows_after rows (change.PutService row) = put_catalogs (with_service row (catalogs rows)) rows
-rows_after rows (change.PutEndpoint row) = put_catalogs (with_endpoint row (catalogs rows)) rows
-rows_after rows (change.DropRegion id) = put_catalogs (without_region id (catalogs rows)) rows
-rows_after rows (change.DropService id) = put_catalogs (without_service id (catalogs rows)) rows
-rows_after rows (change.DropEndpoint id) = put_catalogs (without_endpoint id (catalogs rows)) rows
-rows_after rows (change.PutAppCred row) = record rows { app_creds = with_cred row rows.app_creds }
-rows_after rows (change.DropAppCred id) = record rows { app_creds = without_cred id rows.app_creds }
-rows_after rows (change.PutSecret row) = put_factors (with_secret row (factors rows)) rows
-rows_after rows (change.DropSecret id) = put_factors (without_secret id (factors rows)) rows
-rows_after rows (change.PutUserWith row rules) = put_factors (with_rules rules (factors rows)) (put_people (with_user row (people rows)) rows)
-
--- the ring
-
-unfoldable pub ring_after : State → Change → RingState
-ring_after S (change.Rotate key) = rotate_of S.ring key S.settings.max_keys
-ring_after S (change.Load keys) = load_of S.ring keys
-ring_after S (change.PutDomain row) = S.ring
-ring_after S (change.PutProject row) = S.ring
-ring_after S (change.PutUser row) = S.ring
-ring_after S (change.PutGroup row) = S.ring
-ring_after S (change.PutRole row) = S.ring
-ring_after S (change.PutTrust row) = S.ring
-ring_after S (change.DropDomain id) = S.ring
-ring_after S (change.DropProject id) = S.ring
-ring_after S (change.DropUser id) = S.ring
-ring_after S (change.DropGroup id) = S.ring
-ring_after S (change.DropRole id) = S.ring
-ring_after S (change.DropTrust id) = S.ring
-ring_after S (change.Join row) = S.ring
-ring_after S (change.Leave row) = S.ring
-ring_after S (change.Imply row) = S.ring
-ring_after S (change.Unimply row) = S.ring
-ring_after S (change.Grant row) = S.ring
-ring_after S (change.Ungrant row) = S.ring
-ring_after S (change.UseTrust id) = S.ring
-ring_after S (change.RevokeToken audit) = S.ring
-ring_after S (change.PutRegion row) = S.ring
-ring_after S (change.PutService row) = S.ring
-ring_after S (change.PutEndpoint row) = S.ring
-ring_after S (change.DropRegion id) = S.ring
-ring_after S (change.DropService id) = S.ring
-ring_after S (change.DropEndpoint id) = S.ring
-ring_after S (change.PutAppCred row) = S.ring
-ring_after S (change.DropAppCred id) = S.ring
-ring_after S (change.PutSecret row) = S.ring
-ring_after S (change.DropSecret id) = S.ring
-ring_after S (change.PutUserWith row rules) = S.ring
 
 -- revocations
 
@@ -256,8 +141,8 @@ abbrev pub domain_ended : Option DomainRow → DomainRow → List Revoke
 domain_ended None new = []
 domain_ended (Some old) new = if old.enabled && not new.enabled then revoke.Domain new.id ∷ [] else []
 
-abbrev pub trusts_ended : Rows → Change → List Revoke
-trusts_ended rows what = map (λ trust. revoke.Trust trust.id) (trusts_gone rows.trusts (touches rows what))
+abbrev pub trusts_ended : List TrustRow → (TrustRow → Bool) → List Revoke
+trusts_ended trusts touched = map (λ trust. revoke.Trust trust.id) (trusts_gone trusts touched)
 
 -- a domain's end is told first, then that of its projects and users, by id, and then that of trusts
 abbrev pub domain_gone : Rows → Id → List Revoke
@@ -266,41 +151,60 @@ domain_gone rows id =
     ∷ (map (λ row. revoke.Project row.id) (filter (lies_in id) rows.projects)
     ++ map (λ row. revoke.User row.id) (filter (is_user_in id) rows.users))
 
--- what a change ends, in the order in which it is written
-unfoldable pub ended_by : Rows → Change → List Revoke
-ended_by rows (change.PutDomain row) = domain_ended (domain_of row.id rows.domains) row
-ended_by rows (change.PutProject row) = project_ended (project_of row.id rows.projects) row
-ended_by rows (change.PutUser row) = user_ended (user_of row.id rows.users) row
-ended_by rows (change.PutUserWith row rules) = user_ended (user_of row.id rows.users) row
-ended_by rows (change.DropDomain id) = domain_gone rows id ++ trusts_ended rows (change.DropDomain id)
-ended_by rows (change.DropProject id) = revoke.Project id ∷ trusts_ended rows (change.DropProject id)
-ended_by rows (change.DropUser id) = revoke.User id ∷ trusts_ended rows (change.DropUser id)
-ended_by rows (change.DropRole id) = trusts_ended rows (change.DropRole id)
-ended_by rows (change.DropTrust id) = trusts_ended rows (change.DropTrust id)
-ended_by rows (change.RevokeToken audit) = revoke.Audit audit ∷ []
-ended_by rows (change.PutGroup row) = []
-ended_by rows (change.PutRole row) = []
-ended_by rows (change.PutTrust row) = []
-ended_by rows (change.DropGroup id) = []
-ended_by rows (change.Join row) = []
-ended_by rows (change.Leave row) = []
-ended_by rows (change.Imply row) = []
-ended_by rows (change.Unimply row) = []
-ended_by rows (change.Grant row) = []
-ended_by rows (change.Ungrant row) = []
-ended_by rows (change.UseTrust id) = []
-ended_by rows (change.Rotate key) = []
-ended_by rows (change.Load keys) = []
-ended_by rows (change.PutRegion row) = []
-ended_by rows (change.PutService row) = []
-ended_by rows (change.PutEndpoint row) = []
-ended_by rows (change.DropRegion id) = []
-ended_by rows (change.DropService id) = []
-ended_by rows (change.DropEndpoint id) = []
-ended_by rows (change.PutAppCred row) = []
-ended_by rows (change.DropAppCred id) = []
-ended_by rows (change.PutSecret row) = []
-ended_by rows (change.DropSecret id) = []
+-- changes
+
+-- | what a change makes of a state: its rows and its ring afterwards, and what it ends, in the order in which it is written
+pub record Effect : Type 0 where
+  pub rows : Rows
+  pub ring : RingState
+  pub ended : List Revoke
+
+-- the rows afterwards, and what ends; the ring stays
+abbrev pub rows_ending : State → Rows → List Revoke → Effect
+rows_ending S rows ended = record { rows = rows; ring = S.ring; ended = ended }
+
+abbrev pub rows_alone : State → Rows → Effect
+rows_alone S rows = rows_ending S rows []
+
+abbrev pub ring_alone : State → RingState → Effect
+ring_alone S ring = record { rows = S.rows; ring = ring; ended = [] }
+
+unfoldable pub effect : State → Change → Effect
+effect S (change.PutDomain row) = rows_ending S (put_trees (with_domain row (trees S.rows)) S.rows) (domain_ended (domain_of row.id S.rows.domains) row)
+effect S (change.PutProject row) = rows_ending S (put_trees (with_project row (trees S.rows)) S.rows) (project_ended (project_of row.id S.rows.projects) row)
+effect S (change.PutUser row) = rows_ending S (put_people (with_user row (people S.rows)) S.rows) (user_ended (user_of row.id S.rows.users) row)
+effect S (change.PutUserWith row rules) =
+    rows_ending S (put_factors (with_rules rules (factors S.rows)) (put_people (with_user row (people S.rows)) S.rows)) (user_ended (user_of row.id S.rows.users) row)
+effect S (change.PutGroup row) = rows_alone S (put_people (with_group row (people S.rows)) S.rows)
+effect S (change.PutRole row) = rows_alone S (put_roles (with_role row (roles S.rows)) S.rows)
+effect S (change.PutTrust row) = rows_alone S (record S.rows { trusts = put_row id_cmp (λ r. r.id) row S.rows.trusts })
+effect S (change.DropDomain id) = rows_ending S (domain_dropped S.rows id) (domain_gone S.rows id ++ trusts_ended S.rows.trusts (is_of_domain S.rows id))
+effect S (change.DropProject id) = rows_ending S (project_dropped S.rows id) (revoke.Project id ∷ trusts_ended S.rows.trusts (names_trust (revoke.Project id)))
+effect S (change.DropUser id) = rows_ending S (user_dropped S.rows id) (revoke.User id ∷ trusts_ended S.rows.trusts (names_trust (revoke.User id)))
+effect S (change.DropGroup id) = rows_alone S (group_dropped S.rows id)
+effect S (change.DropRole id) = rows_ending S (role_dropped S.rows id) (trusts_ended S.rows.trusts (has_role id))
+effect S (change.DropTrust id) =
+    rows_ending S (record S.rows { trusts = trusts_left S.rows.trusts (names_trust (revoke.Trust id)) }) (trusts_ended S.rows.trusts (names_trust (revoke.Trust id)))
+effect S (change.Join row) = rows_alone S (put_people (with_member row (people S.rows)) S.rows)
+effect S (change.Leave row) = rows_alone S (put_people (without_member row (people S.rows)) S.rows)
+effect S (change.Imply row) = rows_alone S (put_roles (with_implication row (roles S.rows)) S.rows)
+effect S (change.Unimply row) = rows_alone S (put_roles (without_implication row (roles S.rows)) S.rows)
+effect S (change.Grant row) = rows_alone S (record S.rows { grants = with_grant row S.rows.grants })
+effect S (change.Ungrant row) = rows_alone S (record S.rows { grants = without_grant row S.rows.grants })
+effect S (change.UseTrust id) = rows_alone S (record S.rows { trusts = use_trust id S.rows.trusts })
+effect S (change.RevokeToken audit) = rows_ending S S.rows (revoke.Audit audit ∷ [])
+effect S (change.Rotate key) = ring_alone S (rotate_of S.ring key S.settings.max_keys)
+effect S (change.Load keys) = ring_alone S (load_of S.ring keys)
+effect S (change.PutRegion row) = rows_alone S (put_catalogs (with_region row (catalogs S.rows)) S.rows)
+effect S (change.PutService row) = rows_alone S (put_catalogs (with_service row (catalogs S.rows)) S.rows)
+effect S (change.PutEndpoint row) = rows_alone S (put_catalogs (with_endpoint row (catalogs S.rows)) S.rows)
+effect S (change.DropRegion id) = rows_alone S (put_catalogs (without_region id (catalogs S.rows)) S.rows)
+effect S (change.DropService id) = rows_alone S (put_catalogs (without_service id (catalogs S.rows)) S.rows)
+effect S (change.DropEndpoint id) = rows_alone S (put_catalogs (without_endpoint id (catalogs S.rows)) S.rows)
+effect S (change.PutAppCred row) = rows_alone S (record S.rows { app_creds = with_cred row S.rows.app_creds })
+effect S (change.DropAppCred id) = rows_alone S (record S.rows { app_creds = without_cred id S.rows.app_creds })
+effect S (change.PutSecret row) = rows_alone S (put_factors (with_secret row (factors S.rows)) S.rows)
+effect S (change.DropSecret id) = rows_alone S (put_factors (without_secret id (factors S.rows)) S.rows)
 
 abbrev pub events_at : ℕ → List Revoke → List EventRow
 events_at moment things = map (λ thing. record { what = thing; moment = moment }) things
@@ -309,8 +213,8 @@ events_at moment things = map (λ thing. record { what = thing; moment = moment 
 
 unfoldable pub apply : State → ℕ → Change → State
 apply S moment what = record S {
-  ring = ring_after S what;
-  rows = rows_after S.rows what;
-  events = S.events ++ events_at moment (ended_by S.rows what);
+  ring = (effect S what).ring;
+  rows = (effect S what).rows;
+  events = S.events ++ events_at moment (effect S what).ended;
   made = S.made + 1;
 }

@@ -8,8 +8,6 @@ use Rattle.ks_base.specs.declared.faults.KeysFault.TheVariants as keys
 use Rattle.ks_base.specs.declared.grants.GrantRow.{GrantRow}
 use Rattle.ks_base.specs.declared.grants.Target.{Target}
 use Rattle.ks_base.specs.declared.grants.Target.TheVariants as target
-use Rattle.ks_base.specs.declared.kinds.Kind.{Kind}
-use Rattle.ks_base.specs.declared.kinds.Kind.TheVariants as kind
 use Rattle.ks_base.specs.declared.limits.TheConstants.{TRUST_ROLES}
 use Rattle.ks_base.specs.declared.receipt.Drawn.{Drawn}
 use Rattle.ks_base.specs.declared.receipt.Drawn.TheVariants.{Unused, Bytes, Failed}
@@ -97,24 +95,6 @@ IsScope (scope_in.Project project) = IsProjectNamed project
 IsScope scope_in.System = Unit {0}
 IsScope (scope_in.Trust id) = Unit {0}
 
--- the kinds that have routes of their own and are not of the catalog
-abbrev pub IsOwnKind : Kind → Type 0
-IsOwnKind kind.Domain = Unit {0}
-IsOwnKind kind.Project = Unit {0}
-IsOwnKind kind.User = Unit {0}
-IsOwnKind kind.Group = Unit {0}
-IsOwnKind kind.Role = Unit {0}
-IsOwnKind kind.Implication = ⊥
-IsOwnKind kind.Grant = ⊥
-IsOwnKind kind.Member = ⊥
-IsOwnKind kind.Trust = ⊥
-IsOwnKind kind.Event = ⊥
-IsOwnKind kind.Region = ⊥
-IsOwnKind kind.Service = ⊥
-IsOwnKind kind.Endpoint = ⊥
-IsOwnKind kind.AppCred = ⊥
-IsOwnKind kind.Secret = ⊥
-
 -- no grant on the system is inherited
 abbrev pub IsPlace : Target → Bool → Type 0
 IsPlace (target.Project id) inherited = Unit {0}
@@ -176,9 +156,6 @@ AreFields (command.Create made) = IsMade true made
 AreFields (command.Update id made) = IsMade false made
 AreFields (command.ChangePassword user original password) = IsPassword original × IsPassword password
 AreFields (command.CreateTrust body) = IsTrustBody body
-AreFields (command.List kind filter) = IsOwnKind kind
-AreFields (command.Get kind id) = IsOwnKind kind
-AreFields (command.Delete kind id) = IsOwnKind kind
 AreFields (command.GrantsOf who at inherited) = IsPlace at inherited
 AreFields (command.Grant row) = IsGrant row
 AreFields (command.IsGranted row) = IsGrant row
@@ -187,6 +164,9 @@ AreFields command.Version = Unit {0}
 AreFields (command.Validate late) = Unit {0}
 AreFields (command.Check late) = Unit {0}
 AreFields command.RevokeToken = Unit {0}
+AreFields (command.List kind filter) = Unit {0}
+AreFields (command.Get kind id) = Unit {0}
+AreFields (command.Delete kind id) = Unit {0}
 AreFields (command.GroupsOf id) = Unit {0}
 AreFields (command.MembersOf id) = Unit {0}
 AreFields (command.Join row) = Unit {0}

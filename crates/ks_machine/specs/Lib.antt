@@ -1,4 +1,5 @@
 pub mod Actions
+pub mod Admission
 pub mod Allowed
 pub mod AppCredCommands
 pub mod Assignments

@@ -1,9 +1,8 @@
--- One row, listings and deletions of the five kinds, and of the catalog's three (Identity API v3).
-use Rattle.std.specs.Prelude.{ℕ, Bool, true, false, not, ◌&&◌, ◌||◌, List, [], ◌++◌, codes, filter, map}
+-- One row, listings and deletions of the kinds of rows that have routes of their own.
+-- Source: Identity API v3; OS-REVOKE.
+use Rattle.std.specs.Prelude.{ℕ, Bool, true, false, not, ◌&&◌, ◌||◌, List, ◌++◌, codes, filter, map}
 use Rattle.std.specs.Option.{option_map_or}
 use Rattle.std.specs.Str.{bytes_eq}
-use Rattle.ks_base.specs.declared.kinds.Kind.{Kind}
-use Rattle.ks_base.specs.declared.kinds.Kind.TheVariants as kind
 use Rattle.ks_base.specs.declared.rows.DomainRow.{DomainRow}
 use Rattle.ks_base.specs.declared.rows.GroupRow.{GroupRow}
 use Rattle.ks_base.specs.declared.rows.ProjectRow.{ProjectRow}
@@ -18,36 +17,30 @@ use Rattle.ks_machine.specs.declared.body_out.BodyOut.TheVariants as body
 use Rattle.ks_machine.specs.declared.body_out.Row.{Row}
 use Rattle.ks_machine.specs.declared.body_out.Row.TheVariants as row
 use Rattle.ks_machine.specs.declared.cause.Cause.{Cause}
-use Rattle.ks_machine.specs.declared.cause.Cause.TheVariants as cause
 use Rattle.ks_machine.specs.declared.change.Change.TheVariants as change
+use Rattle.ks_machine.specs.declared.row_kind.RowKind.{RowKind}
+use Rattle.ks_machine.specs.declared.row_kind.RowKind.TheVariants as kind
 use Rattle.ks_rule.specs.Kinds.{Fields, value_in}
 use Rattle.ks_base.specs.TreeFaults.{drop_domain_fault, drop_project_fault}
-use Rattle.ks_machine.specs.Actions.{kind_words}
-use Rattle.ks_machine.specs.Attempts.{Attempt, Go, Stop, ◌>>=◌}
+use Rattle.ks_machine.specs.Actions.{row_words}
+use Rattle.ks_machine.specs.Attempts.{Attempt, Go, ◌>>=◌}
 use Rattle.ks_machine.specs.Outcomes.{Outcome, changes, tells}
 use Rattle.ks_machine.specs.States.{State}
-use Rattle.ks_machine.specs.Tables.{catalogs, standing_domain, standing_endpoint, standing_secret, standing_group, standing_project, standing_region, standing_role, standing_service, standing_user, trees, unless_catalog, unless_tree}
+use Rattle.ks_machine.specs.Tables.{catalogs, standing_domain, standing_endpoint, standing_group, standing_project, standing_region, standing_role, standing_service, standing_user, trees, unless_catalog, unless_tree}
 
 -- a row of a kind
 
-unfoldable pub row_at : Rows → Kind → Id → Attempt Cause Row
+unfoldable pub row_at : Rows → RowKind → Id → Attempt Cause Row
 row_at rows kind.Domain id = standing_domain rows id >>= (λ found. Go (row.Domain found))
 row_at rows kind.Project id = standing_project rows id >>= (λ found. Go (row.Project found))
 row_at rows kind.User id = standing_user rows id >>= (λ found. Go (row.User found))
 row_at rows kind.Group id = standing_group rows id >>= (λ found. Go (row.Group found))
 row_at rows kind.Role id = standing_role rows id >>= (λ found. Go (row.Role found))
-row_at rows kind.Implication id = Stop (cause.Absent kind.Implication id)
-row_at rows kind.Grant id = Stop (cause.Absent kind.Grant id)
-row_at rows kind.Member id = Stop (cause.Absent kind.Member id)
-row_at rows kind.Trust id = Stop (cause.Absent kind.Trust id)
-row_at rows kind.Event id = Stop (cause.Absent kind.Event id)
 row_at rows kind.Region id = standing_region rows id >>= (λ found. Go (row.Region found))
 row_at rows kind.Service id = standing_service rows id >>= (λ found. Go (row.Service found))
 row_at rows kind.Endpoint id = standing_endpoint rows id >>= (λ found. Go (row.Endpoint found))
-row_at rows kind.AppCred id = Stop (cause.Absent kind.AppCred id)
-row_at rows kind.Secret id = standing_secret rows id >>= (λ found. Go (row.Secret found))
 
-unfoldable pub get : Rows → Kind → Id → Attempt Cause Outcome
+unfoldable pub get : Rows → RowKind → Id → Attempt Cause Outcome
 get rows kind id = row_at rows kind id >>= (λ found. Go (tells (body.One found false)))
 
 -- listings: a row is listed where all filters that are given agree
@@ -92,27 +85,21 @@ is_group_listed filters row = passes_name filters row.name && passes_domain filt
 abbrev pub is_role_listed : Fields → RoleRow → Bool
 is_role_listed filters row = passes_name filters row.name
 
-unfoldable pub rows_listed : Rows → Kind → Fields → List Row
+unfoldable pub rows_listed : Rows → RowKind → Fields → List Row
 rows_listed rows kind.Domain filters = map (λ found. row.Domain found) (filter (is_domain_listed filters) rows.domains)
 rows_listed rows kind.Project filters = map (λ found. row.Project found) (filter (is_project_listed filters) rows.projects)
 rows_listed rows kind.User filters = map (λ found. row.User found) (filter (is_user_listed filters) rows.users)
 rows_listed rows kind.Group filters = map (λ found. row.Group found) (filter (is_group_listed filters) rows.groups)
 rows_listed rows kind.Role filters = map (λ found. row.Role found) (filter (is_role_listed filters) rows.roles)
-rows_listed rows kind.Implication filters = []
-rows_listed rows kind.Grant filters = []
-rows_listed rows kind.Member filters = []
-rows_listed rows kind.Trust filters = []
-rows_listed rows kind.Event filters = []
 rows_listed rows kind.Region filters = map (λ found. row.Region found) (filter (is_region_listed filters) rows.regions)
 rows_listed rows kind.Service filters = map (λ found. row.Service found) (filter (is_service_listed filters) rows.services)
 rows_listed rows kind.Endpoint filters = map (λ found. row.Endpoint found) (filter (is_endpoint_listed filters) rows.endpoints)
-rows_listed rows kind.AppCred filters = []
-rows_listed rows kind.Secret filters = map (λ found. row.Secret found) rows.secrets
 
-abbrev pub path_of_kind : Kind → Text
-path_of_kind kind = codes "/v3/" ++ kind_words kind
+abbrev pub path_of_kind : RowKind → Text
+path_of_kind kind = codes "/v3/" ++ row_words kind
 
-unfoldable pub list : Rows → Kind → Filter → Outcome
+-- the rows that pass all given filters
+unfoldable pub list : Rows → RowKind → Filter → Outcome
 list rows kind filters = tells (body.Many kind (rows_listed rows kind filters.fields) (path_of_kind kind))
 
 -- the revocations that are live
@@ -121,7 +108,7 @@ events S moment = tells (body.Events (live S.settings.life moment S.events) (cod
 
 -- deletions
 
-unfoldable pub delete : Rows → Kind → Id → Attempt Cause Outcome
+unfoldable pub delete : Rows → RowKind → Id → Attempt Cause Outcome
 delete rows kind.Domain id =
     unless_tree (drop_domain_fault (trees rows) id) >>= (λ _. Go (changes (change.DropDomain id) body.Nothing))
 delete rows kind.Project id =
@@ -129,14 +116,7 @@ delete rows kind.Project id =
 delete rows kind.User id = standing_user rows id >>= (λ _. Go (changes (change.DropUser id) body.Nothing))
 delete rows kind.Group id = standing_group rows id >>= (λ _. Go (changes (change.DropGroup id) body.Nothing))
 delete rows kind.Role id = standing_role rows id >>= (λ _. Go (changes (change.DropRole id) body.Nothing))
-delete rows kind.Implication id = Stop (cause.Absent kind.Implication id)
-delete rows kind.Grant id = Stop (cause.Absent kind.Grant id)
-delete rows kind.Member id = Stop (cause.Absent kind.Member id)
-delete rows kind.Trust id = Stop (cause.Absent kind.Trust id)
-delete rows kind.Event id = Stop (cause.Absent kind.Event id)
 delete rows kind.Region id =
     unless_catalog (drop_region_fault (catalogs rows) id) >>= (λ _. Go (changes (change.DropRegion id) body.Nothing))
 delete rows kind.Service id = standing_service rows id >>= (λ _. Go (changes (change.DropService id) body.Nothing))
 delete rows kind.Endpoint id = standing_endpoint rows id >>= (λ _. Go (changes (change.DropEndpoint id) body.Nothing))
-delete rows kind.AppCred id = Stop (cause.Absent kind.AppCred id)
-delete rows kind.Secret id = standing_secret rows id >>= (λ _. Go (changes (change.DropSecret id) body.Nothing))

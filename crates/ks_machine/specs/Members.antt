@@ -7,7 +7,6 @@ use Rattle.ks_base.specs.declared.grants.GrantRow.{GrantRow}
 use Rattle.ks_base.specs.declared.grants.ImplyRow.{ImplyRow}
 use Rattle.ks_base.specs.declared.grants.Target.{Target}
 use Rattle.ks_base.specs.declared.grants.Target.TheVariants as target
-use Rattle.ks_base.specs.declared.kinds.Kind.TheVariants as kind
 use Rattle.ks_base.specs.declared.users.MemberRow.{MemberRow}
 use Rattle.ks_base.specs.Rows.{Id, Text, Rows}
 use Rattle.ks_machine.specs.declared.body_out.BodyOut.{BodyOut}
@@ -16,6 +15,7 @@ use Rattle.ks_machine.specs.declared.body_out.Row.TheVariants as row
 use Rattle.ks_machine.specs.declared.cause.Cause.{Cause}
 use Rattle.ks_machine.specs.declared.change.Change.{Change}
 use Rattle.ks_machine.specs.declared.change.Change.TheVariants as change
+use Rattle.ks_machine.specs.declared.row_kind.RowKind.TheVariants as kind
 use Rattle.ks_base.specs.PeopleFaults.{join_group_fault, leave_group_fault}
 use Rattle.ks_base.specs.People.{member_of}
 use Rattle.ks_base.specs.RoleFaults.{imply_fault, unimply_fault}

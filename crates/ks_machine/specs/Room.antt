@@ -12,7 +12,7 @@ use Rattle.ks_machine.specs.declared.change.Change.{Change}
 use Rattle.ks_machine.specs.declared.command.Command.{Command}
 use Rattle.ks_machine.specs.declared.command.Command.TheVariants as command
 use Rattle.ks_machine.specs.Attempts.{Attempt, Go, need}
-use Rattle.ks_machine.specs.Changes.{ended_by}
+use Rattle.ks_machine.specs.Changes.{effect}
 use Rattle.ks_machine.specs.States.{State}
 
 -- what users do for themselves: they end a token, change their own password, or delete a trust
@@ -79,4 +79,4 @@ has_event_room S moment most (thing ∷ things) =
 
 unfoldable pub room_for : State → ℕ → ℕ → Option Change → Attempt Cause (Unit {0})
 room_for S moment most None = Go tt
-room_for S moment most (Some what) = need (has_event_room S moment most (ended_by S.rows what)) (cause.Full kind.Event)
+room_for S moment most (Some what) = need (has_event_room S moment most (effect S what).ended) (cause.Full kind.Event)

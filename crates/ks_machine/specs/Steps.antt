@@ -1,10 +1,10 @@
--- The plain machine: one call after the other, each with its reply.
-use Rattle.std.specs.Prelude.{ℕ, Bool, true, false, not, ◌&&◌, ◌||◌, [], ◌∷◌, Option, Some, None, codes, is_none, option_map}
+-- The plain machine: one call after the other, each with its reply. The checks of a call stand in the order in which they are made.
+-- Source: Identity API v3; oslo.policy; own.
+use Rattle.std.specs.Prelude.{ℕ, Bool, true, false, not, ◌&&◌, ◌||◌, List, [], ◌∷◌, Option, None, codes, is_none, option_map}
 use Rattle.ks_base.specs.declared.receipt.Drawn.{Drawn}
 use Rattle.ks_base.specs.declared.receipt.Drawn.TheVariants.{Unused, Bytes, Failed}
-use Rattle.ks_base.specs.declared.shapes.ShapeFault.TheVariants as shape
 use Rattle.ks_base.specs.Refusals.{fault_if, first_of}
-use Rattle.ks_base.specs.Rows.{Text}
+use Rattle.ks_base.specs.Rows.{Rows, Text}
 use Rattle.ks_machine.specs.declared.body_out.BodyOut.TheVariants as body
 use Rattle.ks_machine.specs.declared.call.Call.{Call}
 use Rattle.ks_machine.specs.declared.cause.Cause.{Cause}
@@ -15,12 +15,11 @@ use Rattle.ks_machine.specs.declared.command.Command.{Command}
 use Rattle.ks_machine.specs.declared.command.Command.TheVariants as command
 use Rattle.ks_machine.specs.declared.reply.Reply.{Reply}
 use Rattle.ks_machine.specs.declared.reply.Reply.TheVariants as reply
-use Rattle.ks_machine.specs.Moment.{moment_of}
-use Rattle.ks_machine.specs.Allowed.{allowed}
 use Rattle.ks_machine.specs.Actions.{Requirements, requirements}
+use Rattle.ks_machine.specs.Admission.{Parties, admitted, caller_of, missing}
 use Rattle.ks_machine.specs.AppCredCommands.{create_app_cred, delete_app_cred, get_app_cred, list_app_creds}
 use Rattle.ks_machine.specs.Assignments.{assignments}
-use Rattle.ks_machine.specs.Attempts.{Attempt, Go, Stop, Lacks, Lack, ◌>>=◌, Known, blame, found, need, unless}
+use Rattle.ks_machine.specs.Attempts.{Attempt, Go, Stop, Lacks, Lack, ◌>>=◌, Known, found, need, unless}
 use Rattle.ks_machine.specs.CatalogCommands.{create_catalog, show_catalog, update_catalog}
 use Rattle.ks_machine.specs.Creations.{create}
 use Rattle.ks_machine.specs.FactorCommands.{create_secret, delete_secret, get_secret, list_secrets}
@@ -28,14 +27,16 @@ use Rattle.ks_machine.specs.Keys.{is_failed, load_keys, rotate_keys}
 use Rattle.ks_machine.specs.Listings.{delete, events, get, list}
 use Rattle.ks_machine.specs.Login.{login, told_token}
 use Rattle.ks_machine.specs.Members.{grant, grants_of, list_groups_of, implication, implied, imply, is_granted, is_implied, is_in, join, leave, list_members_of, ungrant, unimply}
+use Rattle.ks_machine.specs.Moment.{moment_of}
+use Rattle.ks_machine.specs.Openings.{NamedRule}
 use Rattle.ks_machine.specs.Outcomes.{Outcome, changes, made_id, tells}
 use Rattle.ks_machine.specs.Passwords.{change_password}
 use Rattle.ks_machine.specs.Room.{event_limit, room_for}
 use Rattle.ks_machine.specs.States.{State, raised}
-use Rattle.ks_machine.specs.Targets.{catalog_kind, credentials, target_of}
+use Rattle.ks_machine.specs.Targets.{catalog_kind}
 use Rattle.ks_machine.specs.TrustCommands.{create_trust, delete_trust, get_trust, list_trusts, roles_of_trust}
 use Rattle.ks_machine.specs.Updates.{update}
-use Rattle.ks_machine.specs.Validity.{Valid, validity}
+use Rattle.ks_machine.specs.Validity.{Valid}
 
 -- the outside
 
@@ -44,125 +45,119 @@ has_drawn (Bytes bytes) = true
 has_drawn Unused = false
 has_drawn Failed = false
 
-abbrev pub missing : Text → Cause
-missing name = cause.Shape (shape.Missing name)
-
--- what a request lacks: the token that it is about, or a field of its query
+-- | what a request lacks: the token that it is about, or a field of its query
 unfoldable pub lacking_of : Requirements → Option Text → Option Cause
 lacking_of asked subject = first_of (
     fault_if (asked.subject && is_none subject) (missing (codes "X-Subject-Token")) ∷ option_map missing asked.lacks ∷ [])
 
--- tokens
+-- a command's own checks
 
-unfoldable pub caller_of : Known → State → ℕ → Option Text → Attempt Cause Valid
-caller_of known S moment given = do
-  text ← found given cause.NoToken
-  blame (λ why. cause.CallerToken why) (validity known S moment false text)
+-- the bytes that were drawn
+abbrev pub bytes_drawn : Drawn → Attempt Cause Drawn
+bytes_drawn (Bytes bytes) = Go (Bytes bytes)
+bytes_drawn Unused = Stop cause.Random
+bytes_drawn Failed = Stop cause.Random
 
--- `late` says whether the request allows an expired token
-unfoldable pub subject_of : Known → State → ℕ → Bool → Option Text → Attempt Cause Valid
-subject_of known S moment late given = do
-  text ← found given (missing (codes "X-Subject-Token"))
-  blame (λ why. cause.SubjectToken why) (validity known S moment late text)
-
--- rules
-
--- the action, if one is asked for, is allowed
-abbrev pub allows : State → Valid → Option Valid → Command → Option Text → Attempt Cause (Unit {0})
-allows S caller subject asked None = Go tt
-allows S caller subject asked (Some action) =
-    need (allowed S.rules action (credentials S.rows caller) (target_of S.rows subject asked)) (cause.Rule action)
-
-abbrev pub is_allowed : State → Valid → Option Valid → Command → Attempt Cause (Unit {0})
-is_allowed S caller subject asked = allows S caller subject asked (requirements asked).action
-
--- a command of a caller whose token is valid and whom the rule allows it
-unfoldable pub as_caller : Known → State → ℕ → Call → (Valid → Attempt Cause Outcome) → Attempt Cause Outcome
-as_caller known S moment call own = do
-  caller ← caller_of known S moment call.caller
-  _ ← is_allowed S caller None call.command
-  own caller
-
--- the same of a command about a token that is valid too
-unfoldable pub as_caller_about : Known → State → ℕ → Call → Bool → (Text → Valid → Outcome) → Attempt Cause Outcome
-as_caller_about known S moment call late own = do
-  caller ← caller_of known S moment call.caller
-  subject ← subject_of known S moment late call.subject
-  _ ← is_allowed S caller (Some subject) call.command
-  text ← found call.subject (missing (codes "X-Subject-Token"))
-  Go (own text subject)
-
-abbrev pub told_subject : State → Text → Valid → Outcome
-told_subject S text token = tells (body.Token (told_token S.rows text false token.payload token.issued token.roles))
+abbrev pub told_subject : Rows → Text → Valid → Outcome
+told_subject rows text token = tells (body.Token (told_token rows text false token.payload token.issued token.roles))
 
 abbrev pub revoked_subject : Text → Valid → Outcome
 revoked_subject text token = changes (change.RevokeToken token.payload.audit) body.Nothing
 
--- the command's own checks; version, login and password change need no caller's token
-unfoldable pub answered : Known → State → ℕ → Call → Command → Attempt Cause Outcome
-answered known S moment call command.Version = Go (tells body.Version)
-answered known S moment call (command.Login asked) = login known S moment call.draw asked
-answered known S moment call (command.ChangePassword id original password) = change_password known S call.draw id original password
-answered known S moment call (command.Validate late) = as_caller_about known S moment call late (told_subject S)
-answered known S moment call (command.Check late) = as_caller_about known S moment call late (told_subject S)
-answered known S moment call command.RevokeToken = as_caller_about known S moment call false revoked_subject
-answered known S moment call (command.Create made) = as_caller known S moment call (λ caller. create known S call.draw caller made)
-answered known S moment call (command.List kind filters) = as_caller known S moment call (λ _. Go (list S.rows kind filters))
-answered known S moment call (command.Get kind id) = as_caller known S moment call (λ _. get S.rows kind id)
-answered known S moment call (command.Update id made) = as_caller known S moment call (λ _. update known S call.draw id made)
-answered known S moment call (command.Delete kind id) = as_caller known S moment call (λ _. delete S.rows kind id)
-answered known S moment call (command.GroupsOf id) = as_caller known S moment call (λ _. list_groups_of S.rows id)
-answered known S moment call (command.MembersOf id) = as_caller known S moment call (λ _. list_members_of S.rows id)
-answered known S moment call (command.Join row) = as_caller known S moment call (λ _. join S.rows row)
-answered known S moment call (command.IsIn row) = as_caller known S moment call (λ _. is_in S.rows row)
-answered known S moment call (command.Leave row) = as_caller known S moment call (λ _. leave S.rows row)
-answered known S moment call (command.Implied id) = as_caller known S moment call (λ _. implied S.rows id)
-answered known S moment call (command.Imply row) = as_caller known S moment call (λ _. imply S.rows row)
-answered known S moment call (command.Implication row) = as_caller known S moment call (λ _. implication S.rows row)
-answered known S moment call (command.IsImplied row) = as_caller known S moment call (λ _. is_implied S.rows row)
-answered known S moment call (command.Unimply row) = as_caller known S moment call (λ _. unimply S.rows row)
-answered known S moment call (command.GrantsOf who at inherited) = as_caller known S moment call (λ _. grants_of S.rows who at inherited)
-answered known S moment call (command.Grant row) = as_caller known S moment call (λ _. grant S.rows row)
-answered known S moment call (command.IsGranted row) = as_caller known S moment call (λ _. is_granted S.rows row)
-answered known S moment call (command.Ungrant row) = as_caller known S moment call (λ _. ungrant S.rows row)
-answered known S moment call (command.Assignments filters) = as_caller known S moment call (λ _. Go (assignments S.rows filters))
-answered known S moment call (command.CreateTrust asked) =
-    as_caller known S moment call (λ caller. create_trust S.rows moment call.draw caller asked)
-answered known S moment call (command.Trusts filters) = as_caller known S moment call (λ _. Go (list_trusts S.rows filters))
-answered known S moment call (command.Trust id) = as_caller known S moment call (λ _. get_trust S.rows id)
-answered known S moment call (command.DeleteTrust id) = as_caller known S moment call (λ _. delete_trust S.rows id)
-answered known S moment call (command.TrustRoles id) = as_caller known S moment call (λ _. roles_of_trust S.rows id)
-answered known S moment call command.Events = as_caller known S moment call (λ _. Go (events S moment))
-answered known S moment call command.RotateKeys = as_caller known S moment call (λ _. rotate_keys S call.draw)
-answered known S moment call command.LoadKeys = as_caller known S moment call (λ _. load_keys S call.folder)
-answered known S moment call (command.CreateCatalog asked) =
-    as_caller known S moment call (λ _. create_catalog S.rows (made_id call.draw) asked.of asked)
-answered known S moment call (command.ListCatalog kind filters) =
-    as_caller known S moment call (λ _. Go (list S.rows (catalog_kind kind) filters))
-answered known S moment call (command.GetCatalog kind id) = as_caller known S moment call (λ _. get S.rows (catalog_kind kind) id)
-answered known S moment call (command.UpdateCatalog id asked) =
-    as_caller known S moment call (λ _. update_catalog S.rows id asked.of asked)
-answered known S moment call (command.DeleteCatalog kind id) =
-    as_caller known S moment call (λ _. delete S.rows (catalog_kind kind) id)
-answered known S moment call command.ShowCatalog = as_caller known S moment call (λ caller. Go (show_catalog S.rows caller))
-answered known S moment call (command.CreateAppCred user asked) =
-    as_caller known S moment call (λ caller. create_app_cred known S moment call.draw caller user asked)
-answered known S moment call (command.ListAppCreds user) = as_caller known S moment call (λ _. list_app_creds S.rows user)
-answered known S moment call (command.GetAppCred user id) = as_caller known S moment call (λ _. get_app_cred S.rows user id)
-answered known S moment call (command.DeleteAppCred user id) =
-    as_caller known S moment call (λ caller. delete_app_cred S.rows caller user id)
-answered known S moment call (command.CreateSecret asked) = as_caller known S moment call (λ _. create_secret S.rows call.draw asked)
-answered known S moment call command.ListSecrets = as_caller known S moment call (λ _. Go (list_secrets S.rows))
-answered known S moment call (command.GetSecret id) = as_caller known S moment call (λ _. get_secret S.rows id)
-answered known S moment call (command.DeleteSecret id) = as_caller known S moment call (λ _. delete_secret S.rows id)
+-- | the subject with its text
+abbrev pub subject_shown : Option Text → Option Valid → Attempt Cause (Text × Valid)
+subject_shown given subject = do
+  token ← found subject (missing (codes "X-Subject-Token"))
+  text ← found given (missing (codes "X-Subject-Token"))
+  Go (text, token)
 
--- the checks of a call in their order, and what it gives where all pass
+abbrev pub on_subject : Option Text → Option Valid → (Text → Valid → Outcome) → Attempt Cause Outcome
+on_subject given subject own = subject_shown given subject >>= (λ shown. Go (own shown.0 shown.1))
+
+-- | the own checks of a command of these parties, over these rows of the state
+unfoldable pub own_checks : Known → State → Rows → ℕ → Call → Parties → Command → Attempt Cause Outcome
+own_checks known S rows moment call who command.Version = Go (tells body.Version)
+own_checks known S rows moment call who (command.Login asked) = bytes_drawn call.draw >>= (λ draw. login known S moment draw asked)
+own_checks known S rows moment call who (command.ChangePassword id original password) =
+    bytes_drawn call.draw >>= (λ draw. change_password known S draw id original password)
+own_checks known S rows moment call who (command.Validate late) = on_subject call.subject who.subject (told_subject rows)
+own_checks known S rows moment call who (command.Check late) = on_subject call.subject who.subject (told_subject rows)
+own_checks known S rows moment call who command.RevokeToken = on_subject call.subject who.subject revoked_subject
+own_checks known S rows moment call who (command.Create made) = do
+  caller ← found who.caller cause.NoToken
+  draw ← bytes_drawn call.draw
+  create known S draw caller made
+own_checks known S rows moment call who (command.List kind filters) = Go (list rows kind filters)
+own_checks known S rows moment call who (command.Get kind id) = get rows kind id
+own_checks known S rows moment call who (command.Update id made) = update known S call.draw id made
+own_checks known S rows moment call who (command.Delete kind id) = delete rows kind id
+own_checks known S rows moment call who (command.GroupsOf id) = list_groups_of rows id
+own_checks known S rows moment call who (command.MembersOf id) = list_members_of rows id
+own_checks known S rows moment call who (command.Join row) = join rows row
+own_checks known S rows moment call who (command.IsIn row) = is_in rows row
+own_checks known S rows moment call who (command.Leave row) = leave rows row
+own_checks known S rows moment call who (command.Implied id) = implied rows id
+own_checks known S rows moment call who (command.Imply row) = imply rows row
+own_checks known S rows moment call who (command.Implication row) = implication rows row
+own_checks known S rows moment call who (command.IsImplied row) = is_implied rows row
+own_checks known S rows moment call who (command.Unimply row) = unimply rows row
+own_checks known S rows moment call who (command.GrantsOf actor at inherited) = grants_of rows actor at inherited
+own_checks known S rows moment call who (command.Grant row) = grant rows row
+own_checks known S rows moment call who (command.IsGranted row) = is_granted rows row
+own_checks known S rows moment call who (command.Ungrant row) = ungrant rows row
+own_checks known S rows moment call who (command.Assignments filters) = Go (assignments rows filters)
+own_checks known S rows moment call who (command.CreateTrust asked) = do
+  caller ← found who.caller cause.NoToken
+  draw ← bytes_drawn call.draw
+  create_trust rows moment draw caller asked
+own_checks known S rows moment call who (command.Trusts filters) = Go (list_trusts rows filters)
+own_checks known S rows moment call who (command.Trust id) = get_trust rows id
+own_checks known S rows moment call who (command.DeleteTrust id) = delete_trust rows id
+own_checks known S rows moment call who (command.TrustRoles id) = roles_of_trust rows id
+own_checks known S rows moment call who command.Events = Go (events S moment)
+own_checks known S rows moment call who command.RotateKeys = bytes_drawn call.draw >>= (λ draw. rotate_keys S draw)
+own_checks known S rows moment call who command.LoadKeys = load_keys S call.folder
+own_checks known S rows moment call who (command.CreateCatalog asked) =
+    bytes_drawn call.draw >>= (λ draw. create_catalog rows (made_id draw) asked.of asked)
+own_checks known S rows moment call who (command.ListCatalog kind filters) = Go (list rows (catalog_kind kind) filters)
+own_checks known S rows moment call who (command.GetCatalog kind id) = get rows (catalog_kind kind) id
+own_checks known S rows moment call who (command.UpdateCatalog id asked) = update_catalog rows id asked.of asked
+own_checks known S rows moment call who (command.DeleteCatalog kind id) = delete rows (catalog_kind kind) id
+-- no rule is asked for, so that nobody was admitted before
+own_checks known S rows moment call who command.ShowCatalog = do
+  caller ← caller_of known S moment call.caller
+  Go (show_catalog rows caller)
+own_checks known S rows moment call who (command.CreateAppCred user asked) = do
+  caller ← found who.caller cause.NoToken
+  draw ← bytes_drawn call.draw
+  create_app_cred known S moment draw caller user asked
+own_checks known S rows moment call who (command.ListAppCreds user) = list_app_creds rows user
+own_checks known S rows moment call who (command.GetAppCred user id) = get_app_cred rows user id
+own_checks known S rows moment call who (command.DeleteAppCred user id) = do
+  caller ← found who.caller cause.NoToken
+  delete_app_cred rows caller user id
+own_checks known S rows moment call who (command.CreateSecret asked) = bytes_drawn call.draw >>= (λ draw. create_secret rows draw asked)
+own_checks known S rows moment call who command.ListSecrets = Go (list_secrets rows)
+own_checks known S rows moment call who (command.GetSecret id) = get_secret rows id
+own_checks known S rows moment call who (command.DeleteSecret id) = delete_secret rows id
+
+-- | the checks of a call by what its command asks for, over these rules and rows of the state
+unfoldable pub planned_by : Known → State → List NamedRule → Rows → ℕ → Call → Requirements → Attempt Cause Outcome
+planned_by known S rules rows moment call asked = do
+  _ ← unless (lacking_of asked call.subject)
+  _ ← need (not asked.draws || has_drawn call.draw) cause.Random
+  _ ← need (not (asked.loads && is_failed call.folder)) cause.KeyDir
+  who ← admitted known S rules rows moment call asked.action asked.subject asked.late
+  own_checks known S rows moment call who call.command
+
+-- | all checks but that of room for the revocations which its change writes
+unfoldable pub planned : Known → State → ℕ → Call → Attempt Cause Outcome
+planned known S moment call = planned_by known S S.rules S.rows moment call (requirements call.command)
+
+-- | and with it, which comes last: what a call gives where all pass
 unfoldable pub checked : Known → State → ℕ → Call → Attempt Cause Outcome
 checked known S moment call = do
-  _ ← unless (lacking_of (requirements call.command) call.subject)
-  _ ← need (not (requirements call.command).draws || has_drawn call.draw) cause.Random
-  _ ← need (not ((requirements call.command).loads && is_failed call.folder)) cause.KeyDir
-  outcome ← answered known S moment call call.command
+  outcome ← planned known S moment call
   _ ← room_for S moment (event_limit call.command) outcome.change
   Go outcome
 

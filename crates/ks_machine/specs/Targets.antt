@@ -8,8 +8,6 @@ use Rattle.ks_base.specs.declared.grants.Actor.TheVariants as actor
 use Rattle.ks_base.specs.declared.grants.GrantRow.{GrantRow}
 use Rattle.ks_base.specs.declared.grants.Target.{Target}
 use Rattle.ks_base.specs.declared.grants.Target.TheVariants as target
-use Rattle.ks_base.specs.declared.kinds.Kind.{Kind}
-use Rattle.ks_base.specs.declared.kinds.Kind.TheVariants as kind
 use Rattle.ks_base.specs.declared.users.MemberRow.{MemberRow}
 use Rattle.ks_base.specs.declared.grants.ImplyRow.{ImplyRow}
 use Rattle.ks_base.specs.Catalog.{endpoint_of, region_of, service_of}
@@ -18,6 +16,10 @@ use Rattle.ks_machine.specs.declared.bodies.Made.{Made}
 use Rattle.ks_machine.specs.declared.bodies.Made.TheVariants as made
 use Rattle.ks_machine.specs.declared.command.Command.{Command}
 use Rattle.ks_machine.specs.declared.command.Command.TheVariants as command
+use Rattle.ks_machine.specs.declared.row_kind.MadeKind.{MadeKind}
+use Rattle.ks_machine.specs.declared.row_kind.MadeKind.TheVariants as of_made
+use Rattle.ks_machine.specs.declared.row_kind.RowKind.{RowKind}
+use Rattle.ks_machine.specs.declared.row_kind.RowKind.TheVariants as kind
 use Rattle.ks_rule.specs.declared.credentials.Credentials.{Credentials}
 use Rattle.ks_rule.specs.Kinds.{Fields, value_in}
 use Rattle.ks_machine.specs.Scopes.{titled_role}
@@ -104,7 +106,7 @@ abbrev pub of_row : {R : Type 0} → (R → Seen) → (Seen → Fields) → Opti
 of_row see fields None = []
 of_row see fields (Some row) = fields (see row)
 
-unfoldable pub object : Rows → Kind → Id → Fields
+unfoldable pub object : Rows → RowKind → Id → Fields
 object rows kind.Domain id =
     of_row (λ row. record { id = Some row.id; name = Some row.name; domain = None; enabled = Some row.enabled })
     domain_fields (domain_of id rows.domains)
@@ -120,11 +122,6 @@ object rows kind.Group id =
 object rows kind.Role id =
     of_row (λ row. record { id = Some row.id; name = Some row.name; domain = None; enabled = None })
     role_fields (role_of id rows.roles)
-object rows kind.Implication id = []
-object rows kind.Grant id = []
-object rows kind.Member id = []
-object rows kind.Trust id = []
-object rows kind.Event id = []
 object rows kind.Region id =
     of_row (λ row. record { id = Some row.id; name = None; domain = None; enabled = None })
     region_fields (region_of id rows.regions)
@@ -134,32 +131,23 @@ object rows kind.Service id =
 object rows kind.Endpoint id =
     of_row (λ row. record { id = Some row.id; name = None; domain = None; enabled = Some row.enabled })
     endpoint_fields (endpoint_of id rows.endpoints)
-object rows kind.AppCred id = []
-object rows kind.Secret id = []
 
 -- the user of a path
 abbrev pub path_user : Id → Fields
 path_user id = field (codes "user_id") id
 
 -- a path that names a user gives rules its id under that name too
-abbrev pub user_of_path : Kind → Id → Fields
+abbrev pub user_of_path : RowKind → Id → Fields
 user_of_path kind.User id = path_user id
 user_of_path kind.Domain id = []
 user_of_path kind.Project id = []
 user_of_path kind.Group id = []
 user_of_path kind.Role id = []
-user_of_path kind.Implication id = []
-user_of_path kind.Grant id = []
-user_of_path kind.Member id = []
-user_of_path kind.Trust id = []
-user_of_path kind.Event id = []
 user_of_path kind.Region id = []
 user_of_path kind.Service id = []
 user_of_path kind.Endpoint id = []
-user_of_path kind.AppCred id = []
-user_of_path kind.Secret id = []
 
-abbrev pub object_of_path : Rows → Kind → Id → Fields
+abbrev pub object_of_path : Rows → RowKind → Id → Fields
 object_of_path rows kind id = user_of_path kind id ++ object rows kind id
 
 -- what a creation gives, without the id
@@ -182,15 +170,23 @@ of_catalog_body of.Service asked = service_fields (record { id = None; name = as
 of_catalog_body of.Endpoint asked = endpoint_fields (record { id = None; name = None; domain = None; enabled = asked.enabled })
 
 -- the kind of what a body makes
-abbrev pub kind_of : Made → Kind
-kind_of (made.Domain id name description enabled) = kind.Domain
-kind_of (made.Project id name domain parent description enabled) = kind.Project
-kind_of (made.User id name domain password enabled factors) = kind.User
-kind_of (made.Group id name domain description) = kind.Group
-kind_of (made.Role id name description) = kind.Role
+abbrev pub kind_of : Made → MadeKind
+kind_of (made.Domain id name description enabled) = of_made.Domain
+kind_of (made.Project id name domain parent description enabled) = of_made.Project
+kind_of (made.User id name domain password enabled factors) = of_made.User
+kind_of (made.Group id name domain description) = of_made.Group
+kind_of (made.Role id name description) = of_made.Role
 
--- the kinds of the catalog among all
-abbrev pub catalog_kind : CatalogKind → Kind
+-- a kind of what bodies make among those that have routes
+abbrev pub made_kind : MadeKind → RowKind
+made_kind of_made.Domain = kind.Domain
+made_kind of_made.Project = kind.Project
+made_kind of_made.User = kind.User
+made_kind of_made.Group = kind.Group
+made_kind of_made.Role = kind.Role
+
+-- the same of a kind of the catalog
+abbrev pub catalog_kind : CatalogKind → RowKind
 catalog_kind of.Region = kind.Region
 catalog_kind of.Service = kind.Service
 catalog_kind of.Endpoint = kind.Endpoint
@@ -237,22 +233,15 @@ abbrev pub of_filter : List Text → Fields → Fields
 of_filter [] filters = []
 of_filter (name ∷ names) filters = given name (value_in filters name) ++ of_filter names filters
 
-abbrev pub filter_names : Kind → List Text
+abbrev pub filter_names : RowKind → List Text
 filter_names kind.Domain = codes "name" ∷ codes "enabled" ∷ []
 filter_names kind.Project = codes "name" ∷ codes "domain_id" ∷ codes "parent_id" ∷ codes "enabled" ∷ []
 filter_names kind.User = codes "name" ∷ codes "domain_id" ∷ codes "enabled" ∷ []
 filter_names kind.Group = codes "name" ∷ codes "domain_id" ∷ []
 filter_names kind.Role = codes "name" ∷ []
-filter_names kind.Implication = []
-filter_names kind.Grant = []
-filter_names kind.Member = []
-filter_names kind.Trust = []
-filter_names kind.Event = []
 filter_names kind.Region = codes "parent_region_id" ∷ []
 filter_names kind.Service = codes "type" ∷ codes "name" ∷ []
 filter_names kind.Endpoint = codes "service_id" ∷ codes "region_id" ∷ codes "interface" ∷ []
-filter_names kind.AppCred = []
-filter_names kind.Secret = []
 
 -- the target of a command
 
@@ -263,7 +252,7 @@ target_of rows subject command.RevokeToken = of_subject subject
 target_of rows subject (command.Create made) = of_body made
 target_of rows subject (command.List kind filter) = of_filter (filter_names kind) filter.fields
 target_of rows subject (command.Get kind id) = object_of_path rows kind id
-target_of rows subject (command.Update id made) = object_of_path rows (kind_of made) id
+target_of rows subject (command.Update id made) = object_of_path rows (made_kind (kind_of made)) id
 target_of rows subject (command.Delete kind id) = object_of_path rows kind id
 target_of rows subject (command.GroupsOf id) = object_of_path rows kind.User id
 target_of rows subject (command.MembersOf id) = object rows kind.Group id

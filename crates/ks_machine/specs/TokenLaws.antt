@@ -13,11 +13,12 @@ use Rattle.ks_machine.specs.declared.call.Call.{Call}
 use Rattle.ks_machine.specs.declared.change.Change.{Change}
 use Rattle.ks_machine.specs.declared.change.Change.TheVariants as change
 use Rattle.ks_machine.specs.declared.reply.Reply.{Reply}
+use Rattle.ks_machine.specs.Admission.{caller_of}
 use Rattle.ks_machine.specs.Attempts.{Go, Known}
 use Rattle.ks_machine.specs.Fronts.{Front, ◌⊑◌, replay}
 use Rattle.ks_machine.specs.Lawful.{IsLawful}
 use Rattle.ks_machine.specs.States.{State, raised}
-use Rattle.ks_machine.specs.Steps.{Replies, caller_of, step_at}
+use Rattle.ks_machine.specs.Steps.{Replies, step_at}
 use Rattle.ks_machine.specs.Validity.{Valid, cred_in_payload, holder, validity}
 use Rattle.ks_payload.specs.declared.payload.Payload.{Payload}
 

@@ -1,8 +1,9 @@
 //! What answers that grant a command tell (Identity API v3).
 ghost use Rattle.std.specs.Prelude.{◌≡◌, IfOk};
 
+use crate::RowKind;
 use ks_base::{
-    AppCredRow, Boxed, DomainRow, EndpointRow, EventList, GrantList, GroupRow, Id, IndexList, Kind,
+    AppCredRow, Boxed, DomainRow, EndpointRow, EventList, GrantList, GroupRow, Id, IndexList,
     ListOf, Memory, ProjectRow, RegionRow, RoleList, RoleRow, SecretRow, ServiceRow, Text,
     TrustRow, TryCopy, UserRow,
 };
@@ -139,7 +140,7 @@ pub enum BodyOut {
     Version,
     Token(Boxed<TokenOut>),
     One(Boxed<Row>, bool),
-    Many(Kind, RowList, Text),
+    Many(RowKind, RowList, Text),
     /// One implication: the prior role, and the one that it implies.
     Inference(Boxed<Titled>, Boxed<Titled>, bool),
     /// The prior role, and all that it implies directly.

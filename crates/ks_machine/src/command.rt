@@ -1,11 +1,10 @@
 ghost use Rattle.std.specs.Prelude.{◌≡◌};
 ghost use Rattle.ks_machine.specs.Room.{event_limit};
 
-use crate::{AppCredBody, LoginBody, Made, SecretBody, TrustBody};
+use crate::{AppCredBody, LoginBody, Made, RowKind, SecretBody, TrustBody};
 use ks_base::limits::{EVENTS, SELF_REVOCATIONS};
 use ks_base::{
-    Actor, Boxed, CatalogIn, CatalogKind, Filter, GrantRow, Id, ImplyRow, Kind, MemberRow, Target,
-    Text,
+    Actor, Boxed, CatalogIn, CatalogKind, Filter, GrantRow, Id, ImplyRow, MemberRow, Target, Text,
 };
 
 /// What a request asks for, by the route that it came on. Bodies stand behind pointers, so that a command is small to hand on.
@@ -21,10 +20,10 @@ pub enum Command {
     /// The end of the subject token.
     RevokeToken,
     Create(Boxed<Made>),
-    List(Kind, Filter),
-    Get(Kind, Id),
+    List(RowKind, Filter),
+    Get(RowKind, Id),
     Update(Id, Boxed<Made>),
-    Delete(Kind, Id),
+    Delete(RowKind, Id),
     /// The user, the original password and the new one.
     ChangePassword(Id, Text, Text),
     /// The groups that the user is in.

@@ -15,6 +15,7 @@ mod derived;
 mod laws;
 mod lines;
 mod reply;
+mod row_kind;
 mod settings;
 mod why;
 
@@ -38,5 +39,6 @@ pub use laws::{
 };
 pub use lines::{ReadToken, first_answer, read_payload, token_lines};
 pub use reply::Reply;
+pub use row_kind::{MadeKind, RowKind};
 pub use settings::{OpenFault, Settings};
 pub use why::Why;

@@ -1,4 +1,3 @@
-pub mod DemandLemmas
+pub mod AskedLemmas
 pub mod KeyLemmas
 pub mod LiveEvents
-pub mod OrderLemmas

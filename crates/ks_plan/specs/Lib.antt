@@ -1,4 +1,2 @@
-pub mod Demands
 pub mod KeysTold
 pub mod Parties
-pub mod Planned

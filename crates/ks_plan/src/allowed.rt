@@ -3,8 +3,8 @@ ghost use Rattle.std.specs.Prelude.{◌≡◌, ◌≤◌, IfOk, IfSome, option_m
 ghost use Rattle.std.specs.Option.{option_copied};
 ghost use Rattle.ks_auth.specs.Answers.{Tells, rows_told};
 ghost use Rattle.ks_auth.specs.Facts.{told};
+ghost use Rattle.ks_machine.specs.Admission.{admitted, allows, subject_asked};
 ghost use Rattle.ks_machine.specs.States.{State};
-ghost use Rattle.ks_plan.specs.Planned.{admitted, allows_by, is_late, subject_asked};
 ghost use Rattle.ks_checks.specs.Plans.{Gives, Passes, valid_of};
 ghost use Rattle.ks_plan.specs.Parties.{AreUsable, parties_of};
 ghost use Rattle.ks_targets.specs.Views.{requirements_of};
@@ -47,7 +47,7 @@ fn allows(
     command: &Command,
     action: &'static str,
 ) -> Result<(), Halt>
-    ensures { Passes result (allows_by rules.now (rows_told tables.now) (valid_of caller.now) (option_map valid_of (option_copied subject.entry)) command.now action.entry.now) }
+    ensures { Passes result (allows rules.now (rows_told tables.now) (valid_of caller.now) (option_map valid_of (option_copied subject.entry)) command.now action.entry.now) }
 {
     let action = Text::of(alloc, action)?;
     let seen = credentials(alloc, tables, caller)?;
@@ -56,35 +56,6 @@ fn allows(
         Ok(())
     } else {
         Err(Halt::Refused(Cause::Rule(action)))
-    }
-}
-
-/// Whether the request allows a token that has expired.
-fn is_late(command: &Command) -> bool
-    ensures { result ≡ is_late command.now }
-{
-    match command {
-        Command::Validate(late) | Command::Check(late) => *late,
-        Command::RevokeToken => false,
-        Command::Version | Command::Login(_) | Command::ChangePassword(_, _, _) => false,
-        Command::Create(_) | Command::List(_, _) | Command::Get(_, _) => false,
-        Command::Update(_, _) | Command::Delete(_, _) => false,
-        Command::GroupsOf(_) | Command::MembersOf(_) => false,
-        Command::Join(_) | Command::IsIn(_) | Command::Leave(_) => false,
-        Command::Implied(_) | Command::Imply(_) | Command::Implication(_) => false,
-        Command::IsImplied(_) | Command::Unimply(_) => false,
-        Command::GrantsOf(_, _, _) | Command::Grant(_) | Command::IsGranted(_) => false,
-        Command::Ungrant(_) | Command::Assignments(_) => false,
-        Command::CreateTrust(_) | Command::Trusts(_) | Command::Trust(_) => false,
-        Command::DeleteTrust(_) | Command::TrustRoles(_) => false,
-        Command::Events | Command::RotateKeys | Command::LoadKeys => false,
-        Command::CreateCatalog(_) | Command::ListCatalog(_, _) => false,
-        Command::GetCatalog(_, _) | Command::UpdateCatalog(_, _) => false,
-        Command::DeleteCatalog(_, _) | Command::ShowCatalog => false,
-        Command::CreateAppCred(_, _) | Command::ListAppCreds(_) => false,
-        Command::GetAppCred(_, _) | Command::DeleteAppCred(_, _) => false,
-        Command::CreateSecret(_) | Command::ListSecrets => false,
-        Command::GetSecret(_) | Command::DeleteSecret(_) => false,
     }
 }
 
@@ -111,7 +82,7 @@ fn subject_asked(
 }
 
 /// Whom the call admits.
-#[tactic(auto, unfolding(crate::specs::Planned::admitted))]
+#[tactic(auto, unfolding(ks_machine::specs::Admission::admitted))]
 pub fn admitted(
     alloc: Global,
     tables: &Tables,
@@ -123,7 +94,7 @@ pub fn admitted(
 ) -> Result<Parties, Halt>
     requires moment { tables.now.revoked.now.high ≤ moment }
     requires life { tables.now.revoked.now.life ≡ tables.now.settings.now.life }
-    ensures parties { (S : State) → Tells tables.now S → Gives parties_of result (admitted (told facts.now) S rules.now (rows_told tables.now) moment call.now call.now.command (requirements_of asked.now).action (requirements_of asked.now).subject) }
+    ensures parties { (S : State) → Tells tables.now S → Gives parties_of result (admitted (told facts.now) S rules.now (rows_told tables.now) moment call.now (requirements_of asked.now).action (requirements_of asked.now).subject (requirements_of asked.now).late) }
     ensures usable { IfOk result (λ who. AreUsable tables.now.people.now.users who) }
 {
     let Some(action) = asked.action else {
@@ -133,10 +104,16 @@ pub fn admitted(
         });
     };
     let command = &call.command;
-    let late = is_late(command);
-    let about = asked.subject;
     let caller = caller_of(alloc, tables, moment, &call.caller, facts)?;
-    let subject = subject_asked(alloc, tables, moment, late, &call.subject, about, facts)?;
+    let subject = subject_asked(
+        alloc,
+        tables,
+        moment,
+        asked.late,
+        &call.subject,
+        asked.subject,
+        facts,
+    )?;
     allows(
         alloc,
         tables,

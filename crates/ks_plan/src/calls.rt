@@ -11,10 +11,8 @@ ghost use Rattle.ks_machine.specs.Fit.{Fit};
 ghost use Rattle.ks_machine.specs.Moment.{last_moment};
 ghost use Rattle.ks_machine.specs.Ranges.{IsSettings};
 ghost use Rattle.ks_machine.specs.States.{State};
-ghost use Rattle.ks_machine.specs.Steps.{has_drawn, lacking_of, revoked_subject};
+ghost use Rattle.ks_machine.specs.Steps.{bytes_drawn, has_drawn, lacking_of, on_subject, own_checks, planned, planned_by, revoked_subject, subject_shown, told_subject};
 ghost use Rattle.ks_plan.specs.Parties.{AreUsable, parties_of};
-ghost use Rattle.ks_plan.specs.Planned.{bytes_drawn, on_subject, own_checks, planned, subject_shown, told_of};
-ghost use Rattle.ks_plan.specs.Demands.{by_demands};
 ghost use Rattle.ks_checks.specs.Plans.{Gives, HasBytes, Passes, Plans, valid_of};
 ghost use Rattle.ks_targets.specs.Views.{requirements_of};
 
@@ -36,7 +34,7 @@ use ks_listings::catalog_shown::show_catalog;
 use ks_listings::listings::list;
 use ks_listings::secrets::{get_secret, list_secrets};
 use ks_logins::login::login;
-use ks_machine::{BodyOut, Call, Cause, Change, Command};
+use ks_machine::{BodyOut, Call, Cause, Change, Command, RowKind};
 use ks_policy::Rules;
 use ks_relations::assignments::assignments;
 use ks_relations::grants::{grant, grants_of, is_granted, ungrant};
@@ -49,7 +47,6 @@ use ks_rows::creations::create;
 use ks_rows::factors::{create_secret, delete_secret};
 use ks_rows::single::{delete, get};
 use ks_rows::updates::update;
-use ks_targets::catalog_kinds::catalog_kind;
 use ks_targets::{Requirements, required};
 use std::alloc::Global;
 
@@ -72,12 +69,12 @@ pub fn plan_call(
     ensures { (S : State) → Tells tables.now S → S.rules ≡ rules.now → Plans result (planned (told facts.now) S moment call.now) }
 {
     let asked = required(&call.command);
-    by_demands(alloc, tables, rules, moment, call, &asked, facts)
+    planned_by(alloc, tables, rules, moment, call, &asked, facts)
 }
 
 /// The checks of a call by what its command asks for.
-#[tactic(auto, unfolding(crate::specs::Demands::by_demands))]
-fn by_demands(
+#[tactic(auto, unfolding(ks_machine::specs::Steps::planned_by))]
+fn planned_by(
     alloc: Global,
     tables: &Tables,
     rules: &Rules,
@@ -92,7 +89,7 @@ fn by_demands(
     requires last { moment ≤ last_moment }
     requires life { tables.now.revoked.now.life ≡ tables.now.settings.now.life }
     requires settings { IsSettings tables.now.settings.now }
-    ensures { (S : State) → Tells tables.now S → Plans result (by_demands (told facts.now) S rules.now (rows_told tables.now) moment call.now (requirements_of asked.now)) }
+    ensures { (S : State) → Tells tables.now S → Plans result (planned_by (told facts.now) S rules.now (rows_told tables.now) moment call.now (requirements_of asked.now)) }
 {
     lacks_nothing(alloc, asked, &call.subject)?;
     are_drawn(asked.draws, &call.draw)?;
@@ -180,7 +177,7 @@ fn told_subject(
     who: &Parties,
 ) -> Result<Plan, Halt>
     requires { AreUsable tables.now.people.now.users who.now }
-    ensures { Plans result (on_subject given.now (parties_of who.now).subject (told_of (rows_told tables.now))) }
+    ensures { Plans result (on_subject given.now (parties_of who.now).subject (told_subject (rows_told tables.now))) }
 {
     let (text, token) = subject_in(alloc, tables, given, who)?;
     let Caller {
@@ -208,7 +205,7 @@ fn revoked_subject(
 }
 
 /// The command's own checks, once its caller and its subject are admitted.
-#[tactic(auto, unfolding(crate::specs::Planned::own_checks))]
+#[tactic(auto, unfolding(ks_machine::specs::Steps::own_checks))]
 fn own_checks(
     alloc: Global,
     tables: &Tables,
@@ -281,10 +278,13 @@ fn own_checks(
             let drawn = bytes_drawn(&call.draw)?;
             create_catalog(alloc, tables, made_id(drawn), asked.get())
         }
-        Command::ListCatalog(of, filters) => Ok(list(alloc, tables, catalog_kind(*of), filters)?),
-        Command::GetCatalog(of, id) => get(alloc, tables, catalog_kind(*of), id),
+        Command::ListCatalog(of, filters) => {
+            let kind = RowKind::of_catalog(*of);
+            Ok(list(alloc, tables, kind, filters)?)
+        }
+        Command::GetCatalog(of, id) => get(alloc, tables, RowKind::of_catalog(*of), id),
         Command::UpdateCatalog(id, asked) => update_catalog(alloc, tables, id, asked.get()),
-        Command::DeleteCatalog(of, id) => delete(tables, catalog_kind(*of), id),
+        Command::DeleteCatalog(of, id) => delete(tables, RowKind::of_catalog(*of), id),
         Command::ShowCatalog => {
             let caller = caller_of(alloc, tables, moment, &call.caller, facts)?;
             Ok(show_catalog(alloc, tables, &caller)?)

@@ -6,7 +6,5 @@ mod allowed;
 mod calls;
 mod events;
 mod keys;
-mod laws;
 
 pub use calls::plan_call;
-pub use laws::room_comes_last;

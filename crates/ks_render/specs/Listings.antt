@@ -1,9 +1,10 @@
 -- The bodies that list rows.
 use Rattle.std.specs.Prelude.{ℕ, List, [], ◌∷◌, ◌++◌, map, codes}
 use Rattle.serde_json.specs.Data.{Data, null, string}
-use Rattle.ks_base.specs.declared.kinds.Kind.{Kind}
-use Rattle.ks_base.specs.declared.kinds.Kind.TheVariants as kind
 use Rattle.ks_machine.specs.declared.body_out.Titled.{Titled}
+use Rattle.ks_machine.specs.declared.row_kind.RowKind.{RowKind}
+use Rattle.ks_machine.specs.declared.row_kind.RowKind.TheVariants as kind
+use Rattle.ks_machine.specs.Actions.{row_words}
 use Rattle.ks_render.specs.Values.{array_of, object_of}
 use Rattle.ks_render.specs.Named.{titled_value}
 use Rattle.ks_render.specs.Rows.{count_value}
@@ -25,22 +26,15 @@ unfoldable pub links_then_rows : List ℕ → List Data → List ℕ → List �
 links_then_rows name rows url path = object_of ((codes "links", links_value url path) ∷ (name, array_of rows) ∷ [])
 
 -- the rows of a kind: the names of an object are in their order
-abbrev pub many_body : Kind → List Data → List ℕ → List ℕ → Data
-many_body kind.Domain rows url path = rows_then_links (codes "domains") rows url path
-many_body kind.Project rows url path = links_then_rows (codes "projects") rows url path
-many_body kind.User rows url path = links_then_rows (codes "users") rows url path
-many_body kind.Group rows url path = rows_then_links (codes "groups") rows url path
-many_body kind.Role rows url path = links_then_rows (codes "roles") rows url path
-many_body kind.Implication rows url path = rows_then_links (codes "implications") rows url path
-many_body kind.Grant rows url path = rows_then_links (codes "grants") rows url path
-many_body kind.Member rows url path = links_then_rows (codes "members") rows url path
-many_body kind.Trust rows url path = links_then_rows (codes "trusts") rows url path
-many_body kind.Event rows url path = rows_then_links (codes "events") rows url path
-many_body kind.Region rows url path = links_then_rows (codes "regions") rows url path
-many_body kind.Service rows url path = links_then_rows (codes "services") rows url path
-many_body kind.Endpoint rows url path = rows_then_links (codes "endpoints") rows url path
-many_body kind.AppCred rows url path = rows_then_links (codes "application_credentials") rows url path
-many_body kind.Secret rows url path = rows_then_links (codes "credentials") rows url path
+abbrev pub many_body : RowKind → List Data → List ℕ → List ℕ → Data
+many_body kind.Domain rows url path = rows_then_links (row_words kind.Domain) rows url path
+many_body kind.Project rows url path = links_then_rows (row_words kind.Project) rows url path
+many_body kind.User rows url path = links_then_rows (row_words kind.User) rows url path
+many_body kind.Group rows url path = rows_then_links (row_words kind.Group) rows url path
+many_body kind.Role rows url path = links_then_rows (row_words kind.Role) rows url path
+many_body kind.Region rows url path = links_then_rows (row_words kind.Region) rows url path
+many_body kind.Service rows url path = links_then_rows (row_words kind.Service) rows url path
+many_body kind.Endpoint rows url path = rows_then_links (row_words kind.Endpoint) rows url path
 
 -- {"role_inference": {"implies": .., "prior_role": ..}}
 unfoldable pub inference_body : Data → Titled → Data

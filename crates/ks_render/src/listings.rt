@@ -11,8 +11,8 @@ use crate::named::{write_titled_entry, write_titles};
 use crate::tell::{Tell, write_list};
 use crate::writing::{push, write_count, write_null, write_str};
 use json::Writer;
-use ks_base::{IndexList, Kind, ListOf, Text};
-use ks_machine::{RowList, Titled, TitledList};
+use ks_base::{IndexList, ListOf, Text};
+use ks_machine::{RowKind, RowList, Titled, TitledList};
 use std::alloc::AllocError;
 
 /// Makes the URL of a path, in place of what `link` held.
@@ -95,7 +95,7 @@ pub fn write_links_then_rows<T: Tell>(
 /// Writes the rows of a kind.
 pub fn write_many(
     out: &mut Writer,
-    kind: Kind,
+    kind: RowKind,
     rows: &RowList,
     url: &Text,
     path: &Text,
@@ -105,23 +105,14 @@ pub fn write_many(
     ensures { OnOk result (Tells out.old out.new (many_body kind (map (row_value url.now) rows.now) url.now path.now)) }
 {
     match kind {
-        Kind::Domain => write_rows_then_links(out, "domains", rows, url, path, link),
-        Kind::Project => write_links_then_rows(out, "projects", rows, url, path, link),
-        Kind::User => write_links_then_rows(out, "users", rows, url, path, link),
-        Kind::Group => write_rows_then_links(out, "groups", rows, url, path, link),
-        Kind::Role => write_links_then_rows(out, "roles", rows, url, path, link),
-        Kind::Implication => write_rows_then_links(out, "implications", rows, url, path, link),
-        Kind::Grant => write_rows_then_links(out, "grants", rows, url, path, link),
-        Kind::Member => write_links_then_rows(out, "members", rows, url, path, link),
-        Kind::Trust => write_links_then_rows(out, "trusts", rows, url, path, link),
-        Kind::Event => write_rows_then_links(out, "events", rows, url, path, link),
-        Kind::Region => write_links_then_rows(out, "regions", rows, url, path, link),
-        Kind::Service => write_links_then_rows(out, "services", rows, url, path, link),
-        Kind::Endpoint => write_rows_then_links(out, "endpoints", rows, url, path, link),
-        Kind::AppCred => {
-            write_rows_then_links(out, "application_credentials", rows, url, path, link)
-        }
-        Kind::Secret => write_rows_then_links(out, "credentials", rows, url, path, link),
+        RowKind::Domain => write_rows_then_links(out, "domains", rows, url, path, link),
+        RowKind::Project => write_links_then_rows(out, "projects", rows, url, path, link),
+        RowKind::User => write_links_then_rows(out, "users", rows, url, path, link),
+        RowKind::Group => write_rows_then_links(out, "groups", rows, url, path, link),
+        RowKind::Role => write_links_then_rows(out, "roles", rows, url, path, link),
+        RowKind::Region => write_links_then_rows(out, "regions", rows, url, path, link),
+        RowKind::Service => write_links_then_rows(out, "services", rows, url, path, link),
+        RowKind::Endpoint => write_rows_then_links(out, "endpoints", rows, url, path, link),
     }
 }
 

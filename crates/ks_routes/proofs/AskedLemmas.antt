@@ -18,7 +18,7 @@ use Rattle.ks_routes.specs.declared.action.Action.{Action}
 use Rattle.ks_routes.specs.declared.action.Action.TheVariants as action
 use Rattle.ks_routes.specs.declared.routed.Routed.{Routed}
 use Rattle.ks_routes.specs.declared.routed.Routed.TheVariants as routed
-use Rattle.ks_routes.specs.Asked.{app_cred_by, asked, catalog_by, grant_in, grants_in, id_at, implication_in, kind_of, login_by, made_by, member_in, over, pair_in, password_by, read_by, secret_by, token_lacking, trust_by, unless_lacking, with_id}
+use Rattle.ks_routes.specs.Asked.{app_cred_by, asked, catalog_by, grant_in, grants_in, id_at, implication_in, login_by, made_by, member_in, over, pair_in, password_by, read_by, secret_by, token_lacking, trust_by, unless_lacking, with_id}
 use Rattle.ks_routes.specs.Queries.{allows_expired, assignment_filters, filter_in}
 
 abbrev pub is_own : Routed → Bool
@@ -108,13 +108,13 @@ asked_own action.Login ids request = own_read login_by (body_of form.Login reque
 asked_own action.Validate ids request = own_lacking (token_lacking request.subject) (command.Validate (allows_expired request.query))
 asked_own action.Check ids request = own_lacking (token_lacking request.subject) (command.Check (allows_expired request.query))
 asked_own action.RevokeToken ids request = own_lacking (token_lacking request.subject) command.RevokeToken
-asked_own (action.Create kind) ids request = own_read (made_by (λ made. command.Create made)) (body_of (form.Made (kind_of kind) true) request.body) (own_made (λ made. command.Create made))
+asked_own (action.Create kind) ids request = own_read (made_by (λ made. command.Create made)) (body_of (form.Made kind true) request.body) (own_made (λ made. command.Create made))
 asked_own (action.List kind) ids request = refl
-asked_own (action.Get kind) ids request = own_over (id_at ids 0) (λ a. command.Get (kind_of kind) a)
+asked_own (action.Get kind) ids request = own_over (id_at ids 0) (λ a. command.Get kind a)
 asked_own (action.Update kind) ids request =
-    own_with (id_at ids 0) (λ a. read_by (made_by (λ made. command.Update a made)) (body_of (form.Made (kind_of kind) false) request.body))
-    (λ a. own_read (made_by (λ made. command.Update a made)) (body_of (form.Made (kind_of kind) false) request.body) (own_made (λ made. command.Update a made)))
-asked_own (action.Delete kind) ids request = own_over (id_at ids 0) (λ a. command.Delete (kind_of kind) a)
+    own_with (id_at ids 0) (λ a. read_by (made_by (λ made. command.Update a made)) (body_of (form.Made kind false) request.body))
+    (λ a. own_read (made_by (λ made. command.Update a made)) (body_of (form.Made kind false) request.body) (own_made (λ made. command.Update a made)))
+asked_own (action.Delete kind) ids request = own_over (id_at ids 0) (λ a. command.Delete kind a)
 asked_own action.ChangePassword ids request =
     own_with (id_at ids 0) (λ user. read_by (password_by user) (body_of form.Password request.body))
     (λ user. own_read (password_by user) (body_of form.Password request.body) (own_password user))

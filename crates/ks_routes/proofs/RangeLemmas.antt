@@ -12,8 +12,9 @@ use Rattle.ks_http.specs.declared.request.Request.{Request}
 use Rattle.ks_machine.specs.declared.bodies.Made.{Made}
 use Rattle.ks_machine.specs.declared.command.Command.{Command}
 use Rattle.ks_machine.specs.declared.command.Command.TheVariants as command
+use Rattle.ks_machine.specs.declared.row_kind.MadeKind.{MadeKind}
 use Rattle.ks_machine.specs.Assignments.{user_lacking}
-use Rattle.ks_machine.specs.Fit.{AreFields, IsCatalogBody, IsGrant, IsMade, IsOwnKind, IsPlace}
+use Rattle.ks_machine.specs.Fit.{AreFields, IsCatalogBody, IsGrant, IsMade, IsPlace}
 use Rattle.ks_shape.specs.Bodies.{body_of, catalog_body_of}
 use Rattle.ks_shape.specs.Ranges.{IsBodyFor, IsCatalogFor}
 use Rattle.ks_shape.specs.declared.form.BodyIn.{BodyIn}
@@ -25,12 +26,10 @@ use Rattle.ks_shape.proofs.RangeLemmas.{bodies_in_range}
 use Rattle.ks_routes.specs.declared.action.Action.{Action}
 use Rattle.ks_routes.specs.declared.action.Action.TheVariants as action
 use Rattle.ks_routes.specs.declared.action.Place.{Place}
-use Rattle.ks_routes.specs.declared.action.RowKind.{RowKind}
-use Rattle.ks_routes.specs.declared.action.RowKind.TheVariants as row_kind
 use Rattle.ks_routes.specs.declared.action.TargetKind.{TargetKind}
 use Rattle.ks_routes.specs.declared.action.TargetKind.TheVariants as target_kind
 use Rattle.ks_routes.specs.declared.routed.Routed.{Routed}
-use Rattle.ks_routes.specs.Asked.{actor_of, app_cred_by, asked, both, catalog_by, grant_in, grants_in, id_at, ids_in, implication_in, kind_of, login_by, made_by, member_in, pair_in, password_by, read_by, secret_by, target_ids, target_of, token_lacking, trust_by}
+use Rattle.ks_routes.specs.Asked.{actor_of, app_cred_by, asked, both, catalog_by, grant_in, grants_in, id_at, ids_in, implication_in, login_by, made_by, member_in, pair_in, password_by, read_by, secret_by, target_ids, target_of, token_lacking, trust_by}
 use Rattle.ks_routes.specs.Patterns.{segments}
 use Rattle.ks_routes.specs.Queries.{allows_expired, assignment_filters, filter_in}
 use Rattle.ks_routes.specs.Ranges.{CommandsAreInRange}
@@ -58,8 +57,8 @@ login_in (body.Trust trust) is = tt
 login_in (body.AppCred cred) is = tt
 login_in (body.Secret secret) is = tt
 
-made_in : (asks : Made → Command) (k : RowKind) (new : Bool) → ((made : Made) → IsMade new made → AreFields (asks made))
-    → (b : BodyIn) → IsBodyFor (form.Made (kind_of k) new) b → IsInRange (made_by asks b)
+made_in : (asks : Made → Command) (k : MadeKind) (new : Bool) → ((made : Made) → IsMade new made → AreFields (asks made))
+    → (b : BodyIn) → IsBodyFor (form.Made k new) b → IsInRange (made_by asks b)
 made_in asks k new on (body.Made made) is = on made is.1
 made_in asks k new on (body.Login login) is = tt
 made_in asks k new on (body.Password original password) is = tt
@@ -107,14 +106,6 @@ catalog_in : (asks : CatalogIn → Command) (kind : CatalogKind) (new : Bool) �
     → (bytes : List ℕ) (read : Result CatalogIn ShapeFault) → catalog_body_of kind new bytes ≡ read → IsInRange (read_by (catalog_by asks) read)
 catalog_in asks kind new on bytes (Ok row) is = on row (named_kind kind new row (catalog_bodies_in_range kind new bytes row is))
 catalog_in asks kind new on bytes (Err fault) is = tt
-
--- the kinds of rows that have routes
-own_kind : (k : RowKind) → IsOwnKind (kind_of k)
-own_kind row_kind.Domain = tt
-own_kind row_kind.Project = tt
-own_kind row_kind.User = tt
-own_kind row_kind.Group = tt
-own_kind row_kind.Role = tt
 
 -- places: no grants on the system are inherited
 
@@ -176,15 +167,15 @@ asked_in action.Validate ids request is = lacking_holds AreFields (token_lacking
 asked_in action.Check ids request is = lacking_holds AreFields (token_lacking request.subject) (command.Check (allows_expired request.query)) tt
 asked_in action.RevokeToken ids request is = lacking_holds AreFields (token_lacking request.subject) command.RevokeToken tt
 asked_in (action.Create kind) ids request is =
-    read_in (made_by (λ made. command.Create made)) (form.Made (kind_of kind) true) request.body (body_of (form.Made (kind_of kind) true) request.body) refl
+    read_in (made_by (λ made. command.Create made)) (form.Made kind true) request.body (body_of (form.Made kind true) request.body) refl
     (made_in (λ made. command.Create made) kind true (λ made is_made. is_made))
-asked_in (action.List kind) ids request is = own_kind kind
-asked_in (action.Get kind) ids request is = plain_holds AreFields (id_at ids 0) (λ a. command.Get (kind_of kind) a) (λ a. own_kind kind)
+asked_in (action.List kind) ids request is = tt
+asked_in (action.Get kind) ids request is = plain_holds AreFields (id_at ids 0) (λ a. command.Get kind a) (λ a. tt)
 asked_in (action.Update kind) ids request is =
     with_holds AreFields (id_at ids 0) _ (λ a.
-    read_in (made_by (λ made. command.Update a made)) (form.Made (kind_of kind) false) request.body (body_of (form.Made (kind_of kind) false) request.body) refl
+    read_in (made_by (λ made. command.Update a made)) (form.Made kind false) request.body (body_of (form.Made kind false) request.body) refl
     (made_in (λ made. command.Update a made) kind false (λ made is_made. is_made)))
-asked_in (action.Delete kind) ids request is = plain_holds AreFields (id_at ids 0) (λ a. command.Delete (kind_of kind) a) (λ a. own_kind kind)
+asked_in (action.Delete kind) ids request is = plain_holds AreFields (id_at ids 0) (λ a. command.Delete kind a) (λ a. tt)
 asked_in action.ChangePassword ids request is =
     with_holds AreFields (id_at ids 0) _ (λ user. read_in (password_by user) form.Password request.body (body_of form.Password request.body) refl (password_in user))
 asked_in action.GroupsOf ids request is = plain_holds AreFields (id_at ids 0) (λ a. command.GroupsOf a) (λ a. tt)

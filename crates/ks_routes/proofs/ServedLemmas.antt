@@ -4,7 +4,6 @@ use Rattle.std.proofs.lemmas.Bool.{and_parts}
 use Rattle.std.specs.Prelude.{◌≢◌, nat_le}
 use Rattle.serde_json.specs.Data.{Data}
 use Rattle.ks_base.specs.declared.catalog.CatalogIn.{CatalogIn}
-use Rattle.ks_base.specs.declared.kinds.Kind.{Kind}
 use Rattle.ks_base.specs.declared.shapes.ShapeFault.{ShapeFault}
 use Rattle.ks_base.specs.declared.shapes.ShapeFault.TheVariants as fault
 use Rattle.ks_base.specs.Rows.{Id, Text}
@@ -18,6 +17,7 @@ use Rattle.ks_machine.specs.declared.bodies.SecretBody.{SecretBody}
 use Rattle.ks_machine.specs.declared.bodies.TrustBody.{TrustBody}
 use Rattle.ks_machine.specs.declared.command.Command.{Command}
 use Rattle.ks_machine.specs.declared.command.Command.TheVariants as command
+use Rattle.ks_machine.specs.declared.row_kind.MadeKind.{MadeKind}
 use Rattle.ks_machine.specs.Assignments.{user_lacking}
 use Rattle.ks_shape.specs.AppCreds.{app_cred_of}
 use Rattle.ks_shape.specs.Bodies.{body_of, catalog_body_of, document, form_of, password_of, whole_document}
@@ -39,7 +39,7 @@ use Rattle.ks_routes.specs.declared.action.TargetKind.{TargetKind}
 use Rattle.ks_routes.specs.declared.action.TargetKind.TheVariants as target_kind
 use Rattle.ks_routes.specs.declared.routed.Routed.{Routed}
 use Rattle.ks_routes.specs.declared.routed.Routed.TheVariants as routed
-use Rattle.ks_routes.specs.Asked.{app_cred_by, asked, catalog_by, ids_in, kind_of, login_by, made_by, password_by, read_by, secret_by, target_ids, token_lacking, trust_by, unless_lacking}
+use Rattle.ks_routes.specs.Asked.{app_cred_by, asked, catalog_by, ids_in, login_by, made_by, password_by, read_by, secret_by, target_ids, token_lacking, trust_by, unless_lacking}
 use Rattle.ks_routes.specs.Patterns.{Part, literal, id, fits, takes}
 use Rattle.ks_routes.specs.Queries.{allows_expired, assignment_filters, filter_in}
 use Rattle.ks_routes.specs.Tables.{Row}
@@ -125,7 +125,7 @@ read_made : (asks : Made → Command) (r : Result Made ShapeFault) → is_served
 read_made asks (Ok made) = refl
 read_made asks (Err fault) = refl
 
-served_made : (asks : Made → Command) (kind : Kind) (new : Bool) (d : Option Data)
+served_made : (asks : Made → Command) (kind : MadeKind) (new : Bool) (d : Option Data)
     → is_served (read_by (made_by asks) (found_or d fault.NotJson >>= (λ value. form_of (form.Made kind new) (whole_document value)))) ≡ true
 unfolding form_of
 served_made asks kind new (Some value) = read_made asks (made_of kind new (whole_document value))
@@ -243,12 +243,12 @@ asked_served action.Login ids request le = served_login (document request.body)
 asked_served action.Validate ids request le = served_lacking (token_lacking request.subject) (command.Validate (allows_expired request.query))
 asked_served action.Check ids request le = served_lacking (token_lacking request.subject) (command.Check (allows_expired request.query))
 asked_served action.RevokeToken ids request le = served_lacking (token_lacking request.subject) command.RevokeToken
-asked_served (action.Create kind) ids request le = served_made (λ made. command.Create made) (kind_of kind) true (document request.body)
+asked_served (action.Create kind) ids request le = served_made (λ made. command.Create made) kind true (document request.body)
 asked_served (action.List kind) ids request le = refl
 asked_served (action.Get kind) [] request le = absurd (omega (arith, le))
 asked_served (action.Get kind) (a ∷ ids) request le = refl
 asked_served (action.Update kind) [] request le = absurd (omega (arith, le))
-asked_served (action.Update kind) (a ∷ ids) request le = served_made (λ made. command.Update a made) (kind_of kind) false (document request.body)
+asked_served (action.Update kind) (a ∷ ids) request le = served_made (λ made. command.Update a made) kind false (document request.body)
 asked_served (action.Delete kind) [] request le = absurd (omega (arith, le))
 asked_served (action.Delete kind) (a ∷ ids) request le = refl
 asked_served action.ChangePassword [] request le = absurd (omega (arith, le))

@@ -18,7 +18,7 @@ use Rattle.ks_shape.specs.declared.form.Form.TheVariants as form
 use Rattle.ks_routes.specs.declared.action.Action.{Action}
 use Rattle.ks_routes.specs.declared.action.Action.TheVariants as action
 use Rattle.ks_routes.specs.declared.routed.Routed.{Routed}
-use Rattle.ks_routes.specs.Asked.{app_cred_by, asked, catalog_by, grant_in, grants_in, id_at, ids_in, implication_in, kind_of, login_by, made_by, member_in, pair_in, password_by, read_by, secret_by, token_lacking, trust_by, unless_lacking}
+use Rattle.ks_routes.specs.Asked.{app_cred_by, asked, catalog_by, grant_in, grants_in, id_at, ids_in, implication_in, login_by, made_by, member_in, pair_in, password_by, read_by, secret_by, token_lacking, trust_by, unless_lacking}
 use Rattle.ks_routes.specs.Patterns.{segments}
 use Rattle.ks_routes.specs.Queries.{allows_expired, assignment_filters, filter_in}
 use Rattle.ks_routes.specs.Ranges.{CommandsAreWhole}
@@ -108,15 +108,15 @@ asked_whole action.Validate ids request = token_whole request.subject (command.V
 asked_whole action.Check ids request = token_whole request.subject (command.Check (allows_expired request.query)) (λ token. refl)
 asked_whole action.RevokeToken ids request = token_whole request.subject command.RevokeToken (λ token. refl)
 asked_whole (action.Create kind) ids request =
-    read_holds (IsWhole request.subject) (made_by (λ made. command.Create made)) (body_of (form.Made (kind_of kind) true) request.body)
+    read_holds (IsWhole request.subject) (made_by (λ made. command.Create made)) (body_of (form.Made kind true) request.body)
     (made_whole request.subject (λ made. command.Create made) (λ made. refl))
 asked_whole (action.List kind) ids request = refl
-asked_whole (action.Get kind) ids request = plain_holds (IsWhole request.subject) (id_at ids 0) (λ a. command.Get (kind_of kind) a) (λ a. refl)
+asked_whole (action.Get kind) ids request = plain_holds (IsWhole request.subject) (id_at ids 0) (λ a. command.Get kind a) (λ a. refl)
 asked_whole (action.Update kind) ids request =
     with_holds (IsWhole request.subject) (id_at ids 0) _ (λ a.
-    read_holds (IsWhole request.subject) (made_by (λ made. command.Update a made)) (body_of (form.Made (kind_of kind) false) request.body)
+    read_holds (IsWhole request.subject) (made_by (λ made. command.Update a made)) (body_of (form.Made kind false) request.body)
     (made_whole request.subject (λ made. command.Update a made) (λ made. refl)))
-asked_whole (action.Delete kind) ids request = plain_holds (IsWhole request.subject) (id_at ids 0) (λ a. command.Delete (kind_of kind) a) (λ a. refl)
+asked_whole (action.Delete kind) ids request = plain_holds (IsWhole request.subject) (id_at ids 0) (λ a. command.Delete kind a) (λ a. refl)
 asked_whole action.ChangePassword ids request =
     with_holds (IsWhole request.subject) (id_at ids 0) _ (λ user.
     read_holds (IsWhole request.subject) (password_by user) (body_of form.Password request.body) (password_whole request.subject user))

@@ -7,8 +7,6 @@ use Rattle.ks_base.specs.declared.grants.GrantRow.{GrantRow}
 use Rattle.ks_base.specs.declared.grants.ImplyRow.{ImplyRow}
 use Rattle.ks_base.specs.declared.grants.Target.{Target}
 use Rattle.ks_base.specs.declared.grants.Target.TheVariants as target
-use Rattle.ks_base.specs.declared.kinds.Kind.{Kind}
-use Rattle.ks_base.specs.declared.kinds.Kind.TheVariants as kind
 use Rattle.ks_base.specs.declared.shapes.Filter.{Filter}
 use Rattle.ks_base.specs.declared.shapes.ShapeFault.{ShapeFault}
 use Rattle.ks_base.specs.declared.shapes.ShapeFault.TheVariants as fault
@@ -30,8 +28,6 @@ use Rattle.ks_routes.specs.declared.action.Action.TheVariants as action
 use Rattle.ks_routes.specs.declared.action.ActorKind.{ActorKind}
 use Rattle.ks_routes.specs.declared.action.ActorKind.TheVariants as actor_kind
 use Rattle.ks_routes.specs.declared.action.Place.{Place}
-use Rattle.ks_routes.specs.declared.action.RowKind.{RowKind}
-use Rattle.ks_routes.specs.declared.action.RowKind.TheVariants as row_kind
 use Rattle.ks_routes.specs.declared.action.TargetKind.{TargetKind}
 use Rattle.ks_routes.specs.declared.action.TargetKind.TheVariants as target_kind
 use Rattle.ks_routes.specs.declared.routed.Routed.{Routed}
@@ -57,14 +53,7 @@ ids_in [] segments = []
 ids_in (part ∷ parts) [] = []
 ids_in (part ∷ parts) (segment ∷ segments) = before (id_by part segment) (ids_in parts segments)
 
--- the kind of rows that a route names
-abbrev pub kind_of : RowKind → Kind
-kind_of row_kind.Domain = kind.Domain
-kind_of row_kind.Project = kind.Project
-kind_of row_kind.User = kind.User
-kind_of row_kind.Group = kind.Group
-kind_of row_kind.Role = kind.Role
-
+-- the ids of a path, by their places
 abbrev pub id_at : List Id → ℕ → Option Id
 id_at ids place = slice_get ids place
 
@@ -203,12 +192,12 @@ asked action.Validate ids request = about_token request (command.Validate (allow
 asked action.Check ids request = about_token request (command.Check (allows_expired request.query))
 asked action.RevokeToken ids request = about_token request command.RevokeToken
 asked (action.Create kind) ids request =
-    read_by (made_by (λ made. command.Create made)) (body_of (form.Made (kind_of kind) true) request.body)
-asked (action.List kind) ids request = routed.Command (command.List (kind_of kind) (filter_in (filter_names (kind_of kind)) request.query))
-asked (action.Get kind) ids request = over (id_at ids 0) (λ a. command.Get (kind_of kind) a)
+    read_by (made_by (λ made. command.Create made)) (body_of (form.Made kind true) request.body)
+asked (action.List kind) ids request = routed.Command (command.List kind (filter_in (filter_names kind) request.query))
+asked (action.Get kind) ids request = over (id_at ids 0) (λ a. command.Get kind a)
 asked (action.Update kind) ids request =
-    with_id (id_at ids 0) (λ a. read_by (made_by (λ made. command.Update a made)) (body_of (form.Made (kind_of kind) false) request.body))
-asked (action.Delete kind) ids request = over (id_at ids 0) (λ a. command.Delete (kind_of kind) a)
+    with_id (id_at ids 0) (λ a. read_by (made_by (λ made. command.Update a made)) (body_of (form.Made kind false) request.body))
+asked (action.Delete kind) ids request = over (id_at ids 0) (λ a. command.Delete kind a)
 asked action.ChangePassword ids request =
     with_id (id_at ids 0) (λ user. read_by (password_by user) (body_of form.Password request.body))
 asked action.GroupsOf ids request = over (id_at ids 0) (λ user. command.GroupsOf user)

@@ -1,15 +1,20 @@
 -- The routes of the Identity API v3, OS-INHERIT, OS-TRUST and OS-REVOKE, and those of the keys, which are own.
-use Rattle.std.specs.Prelude.{◌≡◌, ◌⊎◌, true, false, List, [], ◌∷◌, Option, Some, None, codes}
+-- Source: Identity API v3; OS-INHERIT, OS-TRUST, OS-REVOKE.
+use Rattle.std.specs.Prelude.{◌≡◌, ◌⊎◌, ℕ, true, false, List, [], ◌∷◌, ◌++◌, Option, Some, None, codes}
 use Rattle.ks_base.specs.declared.catalog.CatalogKind.{CatalogKind}
-use Rattle.ks_base.specs.declared.catalog.CatalogKind.TheVariants as catalog_kind
+use Rattle.ks_base.specs.declared.catalog.CatalogKind.TheVariants as of_catalog
 use Rattle.ks_http.specs.declared.request.Request.{Request}
+use Rattle.ks_machine.specs.declared.row_kind.MadeKind.{MadeKind}
+use Rattle.ks_machine.specs.declared.row_kind.MadeKind.TheVariants as of_made
+use Rattle.ks_machine.specs.declared.row_kind.RowKind.{RowKind}
+use Rattle.ks_machine.specs.Actions.{row_word}
+use Rattle.ks_machine.specs.Listings.{path_of_kind}
+use Rattle.ks_machine.specs.Targets.{catalog_kind, made_kind}
 use Rattle.ks_routes.specs.declared.action.Action.{Action}
 use Rattle.ks_routes.specs.declared.action.Action.TheVariants as action
 use Rattle.ks_routes.specs.declared.action.ActorKind.{ActorKind}
 use Rattle.ks_routes.specs.declared.action.ActorKind.TheVariants as actor_kind
 use Rattle.ks_routes.specs.declared.action.Place.{Place}
-use Rattle.ks_routes.specs.declared.action.RowKind.{RowKind}
-use Rattle.ks_routes.specs.declared.action.RowKind.TheVariants as row_kind
 use Rattle.ks_routes.specs.declared.action.TargetKind.{TargetKind}
 use Rattle.ks_routes.specs.declared.action.TargetKind.TheVariants as target_kind
 use Rattle.ks_routes.specs.declared.methods.Methods.{Methods}
@@ -23,20 +28,32 @@ use Rattle.ks_routes.specs.Tables.{Row, row, found, action_of, allowed}
 abbrev pub none : Methods Action
 none = record { get = None; head = None; post = None; patch = None; put = None; delete = None }
 
--- all rows of a kind, and one of them
-abbrev pub all_of : RowKind → Methods Action
-all_of kind = record none { get = Some (action.List kind); post = Some (action.Create kind) }
+-- the path of one row of a kind
+abbrev pub path_of_one : RowKind → List ℕ
+path_of_one kind = path_of_kind kind ++ (codes "/{" ++ (row_word kind ++ codes "}"))
 
-abbrev pub one_of : RowKind → Methods Action
-one_of kind = record none { get = Some (action.Get kind); patch = Some (action.Update kind); delete = Some (action.Delete kind) }
+-- the routes of all rows of a kind, and of one of them
+abbrev pub all_of : MadeKind → Row Action
+all_of kind = row (path_of_kind (made_kind kind)) (record none { get = Some (action.List (made_kind kind)); post = Some (action.Create kind) })
+
+abbrev pub one_of : MadeKind → Row Action
+one_of kind = row (path_of_one (made_kind kind)) (record none {
+  get = Some (action.Get (made_kind kind));
+  patch = Some (action.Update kind);
+  delete = Some (action.Delete (made_kind kind));
+})
 
 -- the same of a kind of the catalog
-abbrev pub all_of_catalog : CatalogKind → Methods Action
-all_of_catalog kind = record none { get = Some (action.ListCatalog kind); post = Some (action.CreateCatalog kind) }
+abbrev pub all_of_catalog : CatalogKind → Row Action
+all_of_catalog kind =
+    row (path_of_kind (catalog_kind kind)) (record none { get = Some (action.ListCatalog kind); post = Some (action.CreateCatalog kind) })
 
-abbrev pub one_of_catalog : CatalogKind → Methods Action
-one_of_catalog kind =
-    record none { get = Some (action.GetCatalog kind); patch = Some (action.UpdateCatalog kind); delete = Some (action.DeleteCatalog kind) }
+abbrev pub one_of_catalog : CatalogKind → Row Action
+one_of_catalog kind = row (path_of_one (catalog_kind kind)) (record none {
+  get = Some (action.GetCatalog kind);
+  patch = Some (action.UpdateCatalog kind);
+  delete = Some (action.DeleteCatalog kind);
+})
 
 -- grants that hold at a target, and those that its projects inherit
 abbrev pub direct : TargetKind → ActorKind → Place
@@ -59,22 +76,14 @@ table =
     row (codes "/v3/") (record none { get = Some action.Version }) ∷
     row (codes "/v3/auth/tokens") (record none { get = Some action.Validate; head = Some action.Check; post = Some action.Login; delete = Some action.RevokeToken }) ∷
     row (codes "/v3/auth/catalog") (record none { get = Some action.ShowCatalog }) ∷
-    row (codes "/v3/domains") (all_of row_kind.Domain) ∷
-    row (codes "/v3/domains/{domain}") (one_of row_kind.Domain) ∷
-    row (codes "/v3/projects") (all_of row_kind.Project) ∷
-    row (codes "/v3/projects/{project}") (one_of row_kind.Project) ∷
-    row (codes "/v3/users") (all_of row_kind.User) ∷
-    row (codes "/v3/users/{user}") (one_of row_kind.User) ∷
-    row (codes "/v3/groups") (all_of row_kind.Group) ∷
-    row (codes "/v3/groups/{group}") (one_of row_kind.Group) ∷
-    row (codes "/v3/roles") (all_of row_kind.Role) ∷
-    row (codes "/v3/roles/{role}") (one_of row_kind.Role) ∷
-    row (codes "/v3/regions") (all_of_catalog catalog_kind.Region) ∷
-    row (codes "/v3/regions/{region}") (one_of_catalog catalog_kind.Region) ∷
-    row (codes "/v3/services") (all_of_catalog catalog_kind.Service) ∷
-    row (codes "/v3/services/{service}") (one_of_catalog catalog_kind.Service) ∷
-    row (codes "/v3/endpoints") (all_of_catalog catalog_kind.Endpoint) ∷
-    row (codes "/v3/endpoints/{endpoint}") (one_of_catalog catalog_kind.Endpoint) ∷
+    all_of of_made.Domain ∷ one_of of_made.Domain ∷
+    all_of of_made.Project ∷ one_of of_made.Project ∷
+    all_of of_made.User ∷ one_of of_made.User ∷
+    all_of of_made.Group ∷ one_of of_made.Group ∷
+    all_of of_made.Role ∷ one_of of_made.Role ∷
+    all_of_catalog of_catalog.Region ∷ one_of_catalog of_catalog.Region ∷
+    all_of_catalog of_catalog.Service ∷ one_of_catalog of_catalog.Service ∷
+    all_of_catalog of_catalog.Endpoint ∷ one_of_catalog of_catalog.Endpoint ∷
     row (codes "/v3/users/{user}/password") (record none { post = Some action.ChangePassword }) ∷
     row (codes "/v3/users/{user}/groups") (record none { get = Some action.GroupsOf }) ∷
     row (codes "/v3/users/{user}/application_credentials") (record none { get = Some action.ListAppCreds; post = Some action.CreateAppCred }) ∷

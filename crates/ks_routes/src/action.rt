@@ -1,18 +1,6 @@
 //! What routes ask for.
-ghost use Rattle.std.specs.Prelude.{◌≡◌};
-ghost use Rattle.ks_routes.specs.Asked.{kind_of};
-
-use ks_base::{CatalogKind, Kind};
-
-/// The kinds of rows that have routes of their own and are not of the catalog.
-#[derive(Clone, Copy)]
-pub enum RowKind {
-    Domain,
-    Project,
-    User,
-    Group,
-    Role,
-}
+use ks_base::CatalogKind;
+use ks_machine::{MadeKind, RowKind};
 
 /// Whose grants a route is about.
 #[derive(Clone, Copy)]
@@ -45,10 +33,10 @@ pub enum Action {
     Validate,
     Check,
     RevokeToken,
-    Create(RowKind),
+    Create(MadeKind),
     List(RowKind),
     Get(RowKind),
-    Update(RowKind),
+    Update(MadeKind),
     Delete(RowKind),
     ChangePassword,
     GroupsOf,
@@ -88,19 +76,4 @@ pub enum Action {
     ListSecrets,
     GetSecret,
     DeleteSecret,
-}
-
-impl RowKind {
-    /// The kind.
-    pub fn kind(self) -> Kind
-        ensures { result ≡ kind_of self }
-    {
-        match self {
-            RowKind::Domain => Kind::Domain,
-            RowKind::Project => Kind::Project,
-            RowKind::User => Kind::User,
-            RowKind::Group => Kind::Group,
-            RowKind::Role => Kind::Role,
-        }
-    }
 }

@@ -5,14 +5,14 @@ ghost use Rattle.ks_machine.specs.declared.command.Command.TheVariants as comman
 ghost use Rattle.ks_machine.specs.Targets.{catalog_kind, filter_names};
 ghost use Rattle.ks_shape.specs.Bodies.{body_of, catalog_body_of};
 ghost use Rattle.ks_shape.specs.declared.form.Form.TheVariants as forms;
-ghost use Rattle.ks_routes.specs.Asked.{about_token, actor_of, app_cred_by, asked, assignments_by, both, catalog_by, grant_in, grants_in, implication_in, kind_of, login_by, made_by, member_in, pair_in, password_by, read_by, routed_over, secret_by, target_ids, target_of, token_lacking, trust_by, unless_lacking};
+ghost use Rattle.ks_routes.specs.Asked.{about_token, actor_of, app_cred_by, asked, assignments_by, both, catalog_by, grant_in, grants_in, implication_in, login_by, made_by, member_in, pair_in, password_by, read_by, routed_over, secret_by, target_ids, target_of, token_lacking, trust_by, unless_lacking};
 ghost use Rattle.ks_routes.specs.Queries.{allows_expired, assignment_filters as assignment_names, filter_in, trust_filters as trust_names};
 ghost use Rattle.ks_routes.specs.steps.Reading.{IsAsked, unread_of};
 ghost use Rattle.ks_routes.specs.Routes.{Answers};
 
-use crate::action::{Action, ActorKind, Place, RowKind, TargetKind};
+use crate::action::{Action, ActorKind, Place, TargetKind};
 use crate::captured::Captured;
-use crate::filters::{assignment_filters, catalog_filters, kind_filters, trust_filters};
+use crate::filters::{assignment_filters, trust_filters};
 use crate::query::{allows_expired, filter_in};
 use crate::routed::Routed;
 use ks_base::{
@@ -20,7 +20,7 @@ use ks_base::{
     Target, Text,
 };
 use ks_http::Request;
-use ks_machine::{Command, user_lacking};
+use ks_machine::{Command, MadeKind, RowKind, user_lacking};
 use ks_shape::{BodyIn, Form, read_body, read_catalog_body};
 use std::alloc::Global;
 
@@ -134,53 +134,27 @@ fn login(alloc: Global, request: &Request) -> Routed
 {
     match read_body(alloc, Form::Login, request.body.as_slice()) {
         Ok(BodyIn::Login(login)) => Routed::Command(Command::Login(login)),
-        Ok(
-            BodyIn::Made(_)
-            | BodyIn::Password(_, _)
-            | BodyIn::Trust(_)
-            | BodyIn::AppCred(_)
-            | BodyIn::Secret(_),
-        ) => Routed::NoRoute,
+        Ok(_) => Routed::NoRoute,
         Err(refusal) => unread(refusal),
     }
 }
 
-fn create(alloc: Global, kind: RowKind, request: &Request) -> Routed
-    ensures { Answers (read_by (made_by (λ made. commands.Create made)) (body_of (forms.Made (kind_of kind) true) request.now.body)) result }
+fn create(alloc: Global, kind: MadeKind, request: &Request) -> Routed
+    ensures { Answers (read_by (made_by (λ made. commands.Create made)) (body_of (forms.Made kind true) request.now.body)) result }
 {
-    match read_body(
-        alloc,
-        Form::Made(kind.kind(), true),
-        request.body.as_slice(),
-    ) {
+    match read_body(alloc, Form::Made(kind, true), request.body.as_slice()) {
         Ok(BodyIn::Made(made)) => Routed::Command(Command::Create(made)),
-        Ok(
-            BodyIn::Login(_)
-            | BodyIn::Password(_, _)
-            | BodyIn::Trust(_)
-            | BodyIn::AppCred(_)
-            | BodyIn::Secret(_),
-        ) => Routed::NoRoute,
+        Ok(_) => Routed::NoRoute,
         Err(refusal) => unread(refusal),
     }
 }
 
-fn update(alloc: Global, kind: RowKind, id: Id, request: &Request) -> Routed
-    ensures { Answers (read_by (made_by (λ made. commands.Update id made)) (body_of (forms.Made (kind_of kind) false) request.now.body)) result }
+fn update(alloc: Global, kind: MadeKind, id: Id, request: &Request) -> Routed
+    ensures { Answers (read_by (made_by (λ made. commands.Update id made)) (body_of (forms.Made kind false) request.now.body)) result }
 {
-    match read_body(
-        alloc,
-        Form::Made(kind.kind(), false),
-        request.body.as_slice(),
-    ) {
+    match read_body(alloc, Form::Made(kind, false), request.body.as_slice()) {
         Ok(BodyIn::Made(made)) => Routed::Command(Command::Update(id, made)),
-        Ok(
-            BodyIn::Login(_)
-            | BodyIn::Password(_, _)
-            | BodyIn::Trust(_)
-            | BodyIn::AppCred(_)
-            | BodyIn::Secret(_),
-        ) => Routed::NoRoute,
+        Ok(_) => Routed::NoRoute,
         Err(refusal) => unread(refusal),
     }
 }
@@ -192,13 +166,7 @@ fn change_password(alloc: Global, user: Id, request: &Request) -> Routed
         Ok(BodyIn::Password(original, password)) => {
             Routed::Command(Command::ChangePassword(user, original, password))
         }
-        Ok(
-            BodyIn::Login(_)
-            | BodyIn::Made(_)
-            | BodyIn::Trust(_)
-            | BodyIn::AppCred(_)
-            | BodyIn::Secret(_),
-        ) => Routed::NoRoute,
+        Ok(_) => Routed::NoRoute,
         Err(refusal) => unread(refusal),
     }
 }
@@ -208,13 +176,7 @@ fn create_trust(alloc: Global, request: &Request) -> Routed
 {
     match read_body(alloc, Form::Trust, request.body.as_slice()) {
         Ok(BodyIn::Trust(trust)) => Routed::Command(Command::CreateTrust(trust)),
-        Ok(
-            BodyIn::Login(_)
-            | BodyIn::Made(_)
-            | BodyIn::Password(_, _)
-            | BodyIn::AppCred(_)
-            | BodyIn::Secret(_),
-        ) => Routed::NoRoute,
+        Ok(_) => Routed::NoRoute,
         Err(refusal) => unread(refusal),
     }
 }
@@ -224,13 +186,7 @@ fn create_app_cred(alloc: Global, user: Id, request: &Request) -> Routed
 {
     match read_body(alloc, Form::AppCred, request.body.as_slice()) {
         Ok(BodyIn::AppCred(cred)) => Routed::Command(Command::CreateAppCred(user, cred)),
-        Ok(
-            BodyIn::Login(_)
-            | BodyIn::Made(_)
-            | BodyIn::Password(_, _)
-            | BodyIn::Trust(_)
-            | BodyIn::Secret(_),
-        ) => Routed::NoRoute,
+        Ok(_) => Routed::NoRoute,
         Err(refusal) => unread(refusal),
     }
 }
@@ -240,13 +196,7 @@ fn create_secret(alloc: Global, request: &Request) -> Routed
 {
     match read_body(alloc, Form::Secret, request.body.as_slice()) {
         Ok(BodyIn::Secret(secret)) => Routed::Command(Command::CreateSecret(secret)),
-        Ok(
-            BodyIn::Login(_)
-            | BodyIn::Made(_)
-            | BodyIn::Password(_, _)
-            | BodyIn::Trust(_)
-            | BodyIn::AppCred(_),
-        ) => Routed::NoRoute,
+        Ok(_) => Routed::NoRoute,
         Err(refusal) => unread(refusal),
     }
 }
@@ -271,17 +221,18 @@ fn update_catalog(alloc: Global, kind: CatalogKind, id: Id, request: &Request) -
 
 /// The listing of a kind that the query asks for.
 fn list(alloc: Global, kind: RowKind, request: &Request) -> Result<Command, Memory>
-    ensures { IfOk result (λ command. command ≡ commands.List (kind_of kind) (filter_in (filter_names (kind_of kind)) request.now.query)) }
+    ensures { IfOk result (λ command. command ≡ commands.List kind (filter_in (filter_names kind) request.now.query)) }
 {
-    let filter = filter_in(alloc, kind_filters(kind), request.query.as_slice())?;
-    Ok(Command::List(kind.kind(), filter))
+    let filter = filter_in(alloc, kind.filter_names(), request.query.as_slice())?;
+    Ok(Command::List(kind, filter))
 }
 
 /// The listing of a kind of the catalog that the query asks for.
 fn list_catalog(alloc: Global, kind: CatalogKind, request: &Request) -> Result<Command, Memory>
     ensures { IfOk result (λ command. command ≡ commands.ListCatalog kind (filter_in (filter_names (catalog_kind kind)) request.now.query)) }
 {
-    let filter = filter_in(alloc, catalog_filters(kind), request.query.as_slice())?;
+    let names = RowKind::of_catalog(kind).filter_names();
+    let filter = filter_in(alloc, names, request.query.as_slice())?;
     Ok(Command::ListCatalog(kind, filter))
 }
 
@@ -378,12 +329,12 @@ impl Action {
             Action::RevokeToken => about_token(alloc, request, Command::RevokeToken),
             Action::Create(kind) => create(alloc, kind, request),
             Action::List(kind) => asked_of(list(alloc, kind, request)),
-            Action::Get(kind) => over(ids.at(0).map(|id| Command::Get(kind.kind(), id))),
+            Action::Get(kind) => over(ids.at(0).map(|id| Command::Get(kind, id))),
             Action::Update(kind) => match ids.at(0) {
                 Some(id) => update(alloc, kind, id, request),
                 None => Routed::NoRoute,
             },
-            Action::Delete(kind) => over(ids.at(0).map(|id| Command::Delete(kind.kind(), id))),
+            Action::Delete(kind) => over(ids.at(0).map(|id| Command::Delete(kind, id))),
             Action::ChangePassword => match ids.at(0) {
                 Some(user) => change_password(alloc, user, request),
                 None => Routed::NoRoute,

@@ -3,10 +3,11 @@ ghost use Rattle.std.specs.Prelude.{◌≡◌, map};
 ghost use Rattle.ks_routes.specs.Tables.{row_of};
 ghost use Rattle.ks_routes.specs.Routes.{table};
 
-use crate::action::{Action, ActorKind, Place, RowKind, TargetKind};
+use crate::action::{Action, ActorKind, Place, TargetKind};
 use crate::methods::Methods;
 use crate::route::Route;
 use ks_base::CatalogKind;
+use ks_machine::{MadeKind, RowKind};
 
 const NONE: Methods<Action> = Methods {
     get: None,
@@ -113,7 +114,7 @@ static TABLE: [Route<Action>; 55] = [
         pattern: "/v3/domains",
         methods: Methods {
             get: Some(Action::List(RowKind::Domain)),
-            post: Some(Action::Create(RowKind::Domain)),
+            post: Some(Action::Create(MadeKind::Domain)),
             ..NONE
         },
     },
@@ -121,7 +122,7 @@ static TABLE: [Route<Action>; 55] = [
         pattern: "/v3/domains/{domain}",
         methods: Methods {
             get: Some(Action::Get(RowKind::Domain)),
-            patch: Some(Action::Update(RowKind::Domain)),
+            patch: Some(Action::Update(MadeKind::Domain)),
             delete: Some(Action::Delete(RowKind::Domain)),
             ..NONE
         },
@@ -130,7 +131,7 @@ static TABLE: [Route<Action>; 55] = [
         pattern: "/v3/projects",
         methods: Methods {
             get: Some(Action::List(RowKind::Project)),
-            post: Some(Action::Create(RowKind::Project)),
+            post: Some(Action::Create(MadeKind::Project)),
             ..NONE
         },
     },
@@ -138,7 +139,7 @@ static TABLE: [Route<Action>; 55] = [
         pattern: "/v3/projects/{project}",
         methods: Methods {
             get: Some(Action::Get(RowKind::Project)),
-            patch: Some(Action::Update(RowKind::Project)),
+            patch: Some(Action::Update(MadeKind::Project)),
             delete: Some(Action::Delete(RowKind::Project)),
             ..NONE
         },
@@ -147,7 +148,7 @@ static TABLE: [Route<Action>; 55] = [
         pattern: "/v3/users",
         methods: Methods {
             get: Some(Action::List(RowKind::User)),
-            post: Some(Action::Create(RowKind::User)),
+            post: Some(Action::Create(MadeKind::User)),
             ..NONE
         },
     },
@@ -155,7 +156,7 @@ static TABLE: [Route<Action>; 55] = [
         pattern: "/v3/users/{user}",
         methods: Methods {
             get: Some(Action::Get(RowKind::User)),
-            patch: Some(Action::Update(RowKind::User)),
+            patch: Some(Action::Update(MadeKind::User)),
             delete: Some(Action::Delete(RowKind::User)),
             ..NONE
         },
@@ -164,7 +165,7 @@ static TABLE: [Route<Action>; 55] = [
         pattern: "/v3/groups",
         methods: Methods {
             get: Some(Action::List(RowKind::Group)),
-            post: Some(Action::Create(RowKind::Group)),
+            post: Some(Action::Create(MadeKind::Group)),
             ..NONE
         },
     },
@@ -172,7 +173,7 @@ static TABLE: [Route<Action>; 55] = [
         pattern: "/v3/groups/{group}",
         methods: Methods {
             get: Some(Action::Get(RowKind::Group)),
-            patch: Some(Action::Update(RowKind::Group)),
+            patch: Some(Action::Update(MadeKind::Group)),
             delete: Some(Action::Delete(RowKind::Group)),
             ..NONE
         },
@@ -181,7 +182,7 @@ static TABLE: [Route<Action>; 55] = [
         pattern: "/v3/roles",
         methods: Methods {
             get: Some(Action::List(RowKind::Role)),
-            post: Some(Action::Create(RowKind::Role)),
+            post: Some(Action::Create(MadeKind::Role)),
             ..NONE
         },
     },
@@ -189,7 +190,7 @@ static TABLE: [Route<Action>; 55] = [
         pattern: "/v3/roles/{role}",
         methods: Methods {
             get: Some(Action::Get(RowKind::Role)),
-            patch: Some(Action::Update(RowKind::Role)),
+            patch: Some(Action::Update(MadeKind::Role)),
             delete: Some(Action::Delete(RowKind::Role)),
             ..NONE
         },

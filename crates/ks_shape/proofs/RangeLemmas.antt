@@ -6,8 +6,6 @@ use Rattle.std.specs.List.{AllByRecursion}
 use Rattle.std.specs.Str.{bytes_eq}
 use Rattle.serde_json.specs.Data.{Data, Items}
 use Rattle.serde_json.specs.Find.{as_number, as_object, as_u64}
-use Rattle.ks_base.specs.declared.kinds.Kind.{Kind}
-use Rattle.ks_base.specs.declared.kinds.Kind.TheVariants as kind
 use Rattle.ks_base.specs.declared.limits.TheConstants.{DESCRIPTION_BYTES, NAME_BYTES, PASSWORD_BYTES, TRUST_ROLES, USES}
 use Rattle.ks_base.specs.declared.shapes.ShapeFault.{ShapeFault}
 use Rattle.ks_base.specs.declared.shapes.ShapeFault.TheVariants as fault
@@ -21,6 +19,8 @@ use Rattle.ks_machine.specs.declared.bodies.Named.{Named}
 use Rattle.ks_machine.specs.declared.bodies.ScopeIn.TheVariants as scope
 use Rattle.ks_machine.specs.declared.bodies.SecretBody.{SecretBody}
 use Rattle.ks_machine.specs.declared.bodies.UserNamed.{UserNamed}
+use Rattle.ks_machine.specs.declared.row_kind.MadeKind.{MadeKind}
+use Rattle.ks_machine.specs.declared.row_kind.MadeKind.TheVariants as kind
 use Rattle.ks_machine.specs.Fit.{IsAppCredBody, IsCredNamed, IsMadeName, IsNamed, IsProjectNamed, IsProof, IsScope, IsTrustBody, IsUserNamed}
 use Rattle.ks_machine.specs.Ranges.{AreMfaRules, AreUses, IsCode, IsCredSecret, IsDescription, IsExpiry, IsName, IsPassable, IsPassword, IsTotpSecret}
 use Rattle.ks_shape.specs.declared.form.BodyIn.{BodyIn}
@@ -329,13 +329,12 @@ role_row_in new body =
     step Q (IsIdFor new) (id_at new (names (codes "role.id")) body) _ (row_id_in new _ body) (λ id is_id.
     (refl, (made_name new id name is_name is_id, is_description)))))
 
-row_in : (kind : Kind) (new : Bool) (body : Place) → IfOk (made_of kind new body) (IsMadeFor kind new)
+row_in : (kind : MadeKind) (new : Bool) (body : Place) → IfOk (made_of kind new body) (IsMadeFor kind new)
 row_in kind.Domain new body = domain_row_in new body
 row_in kind.Project new body = project_row_in new body
 row_in kind.User new body = user_row_in new body
 row_in kind.Group new body = group_row_in new body
 row_in kind.Role new body = role_row_in new body
-row_in _ new body = tt
 
 -- passwords
 

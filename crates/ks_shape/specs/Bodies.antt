@@ -1,5 +1,6 @@
--- The bodies of requests (Identity API v3), from their bytes.
-use Rattle.std.specs.Prelude.{ℕ, Bool, true, if◌then◌else◌, List, [], Option, Some, None, Result, Ok, codes}
+-- The bodies of requests, from their bytes.
+-- Source: RFC 8259; Identity API v3.
+use Rattle.std.specs.Prelude.{ℕ, Bool, if◌then◌else◌, List, [], Option, Some, None, Result, Ok, codes}
 use Rattle.std.specs.Str.{is_utf8}
 use Rattle.serde_json.specs.Data.{Data}
 use Rattle.serde_json.specs.Read.{read}
@@ -16,7 +17,7 @@ use Rattle.ks_shape.specs.Places.{Place, names}
 use Rattle.ks_shape.specs.Fields.{needed}
 use Rattle.ks_shape.specs.Types.{password_text}
 use Rattle.ks_shape.specs.Logins.{login_of}
-use Rattle.ks_shape.specs.Rows.{has_body, made_of}
+use Rattle.ks_shape.specs.Rows.{made_of}
 use Rattle.ks_shape.specs.Catalog.{catalog_row_of}
 use Rattle.ks_shape.specs.Trusts.{trust_of}
 use Rattle.ks_shape.specs.AppCreds.{app_cred_of}
@@ -54,15 +55,7 @@ form_of form.Secret place = do
   secret ← secret_of place
   Ok (body.Secret secret)
 
--- the forms that there are
-abbrev pub is_form : Form → Bool
-is_form form.Login = true
-is_form (form.Made kind new) = has_body kind
-is_form form.Password = true
-is_form form.Trust = true
-is_form form.AppCred = true
-is_form form.Secret = true
-
+-- the typed body, or the first fault in the order of the form's fields
 unfoldable pub body_of : Form → List ℕ → Result BodyIn ShapeFault
 body_of form bytes = do
   value ← found (document bytes) fault.NotJson

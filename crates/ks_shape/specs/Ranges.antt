@@ -2,8 +2,8 @@
 use Rattle.std.specs.Prelude.{◌≡◌, ℕ, Bool, List, Ok}
 use Rattle.ks_base.specs.declared.catalog.CatalogIn.{CatalogIn}
 use Rattle.ks_base.specs.declared.catalog.CatalogKind.{CatalogKind}
-use Rattle.ks_base.specs.declared.kinds.Kind.{Kind}
 use Rattle.ks_machine.specs.declared.bodies.Made.{Made}
+use Rattle.ks_machine.specs.declared.row_kind.MadeKind.{MadeKind}
 use Rattle.ks_machine.specs.Fit.{IsAppCredBody, IsCatalogBody, IsMade, IsProof, IsScope, IsTrustBody}
 use Rattle.ks_machine.specs.Ranges.{IsPassword, IsTotpSecret}
 use Rattle.ks_machine.specs.Targets.{kind_of}
@@ -14,7 +14,7 @@ use Rattle.ks_shape.specs.declared.form.BodyIn.TheVariants as body
 use Rattle.ks_shape.specs.Bodies.{body_of, catalog_body_of}
 
 -- a row of this kind, in range
-abbrev pub IsMadeFor : Kind → Bool → Made → Type 0
+abbrev pub IsMadeFor : MadeKind → Bool → Made → Type 0
 IsMadeFor kind new made = (kind_of made ≡ kind) × IsMade new made
 
 -- what a form takes: a login, a row of its kind, two passwords, a trust, an application credential or a secret of one-time codes, with

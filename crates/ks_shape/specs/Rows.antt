@@ -1,13 +1,12 @@
--- The bodies that make and change rows (Identity API v3). A creation needs the name; a change needs nothing, and it
--- alone reads the id.
-use Rattle.std.specs.Prelude.{ℕ, Bool, true, false, List, Option, None, Result, Ok, Err, codes}
-use Rattle.ks_base.specs.declared.kinds.Kind.{Kind}
-use Rattle.ks_base.specs.declared.kinds.Kind.TheVariants as kind
+-- The bodies that make and change rows. A creation needs the name; a change needs nothing, and it alone reads the id.
+-- Source: Identity API v3.
+use Rattle.std.specs.Prelude.{ℕ, Bool, true, false, List, Option, None, Result, Ok, codes}
 use Rattle.ks_base.specs.declared.shapes.ShapeFault.{ShapeFault}
-use Rattle.ks_base.specs.declared.shapes.ShapeFault.TheVariants as fault
 use Rattle.ks_base.specs.Results.{◌>>=◌}
 use Rattle.ks_machine.specs.declared.bodies.Made.{Made}
 use Rattle.ks_machine.specs.declared.bodies.Made.TheVariants as made
+use Rattle.ks_machine.specs.declared.row_kind.MadeKind.{MadeKind}
+use Rattle.ks_machine.specs.declared.row_kind.MadeKind.TheVariants as kind
 use Rattle.ks_shape.specs.Places.{Place, names}
 use Rattle.ks_shape.specs.Fields.{needed_if, optional}
 use Rattle.ks_shape.specs.Factors.{factors_at}
@@ -61,28 +60,10 @@ role_of new body = do
   id ← id_at new (names (codes "role.id")) body
   Ok (made.Role id name description)
 
--- the kinds of rows that have a body in this form
-abbrev pub has_body : Kind → Bool
-has_body kind.Domain = true
-has_body kind.Project = true
-has_body kind.User = true
-has_body kind.Group = true
-has_body kind.Role = true
-has_body kind.Implication = false
-has_body kind.Grant = false
-has_body kind.Member = false
-has_body kind.Trust = false
-has_body kind.Event = false
-has_body kind.Region = false
-has_body kind.Service = false
-has_body kind.Endpoint = false
-has_body kind.AppCred = false
-has_body kind.Secret = false
-
-abbrev pub made_of : Kind → Bool → Place → Result Made ShapeFault
+-- the bodies that make and change rows
+abbrev pub made_of : MadeKind → Bool → Place → Result Made ShapeFault
 made_of kind.Domain new body = domain_of new body
 made_of kind.Project new body = project_of new body
 made_of kind.User new body = user_of new body
 made_of kind.Group new body = group_of new body
 made_of kind.Role new body = role_of new body
-made_of _ new body = Err fault.NotJson

@@ -1,7 +1,7 @@
-ghost use Rattle.std.specs.Prelude.{◌≡◌, Some, IsTrue};
+ghost use Rattle.std.specs.Prelude.{◌≡◌, Some};
 ghost use Rattle.serde_json.specs.View.{view};
 ghost use Rattle.ks_base.specs.declared.shapes.ShapeFault.TheVariants as fault;
-ghost use Rattle.ks_shape.specs.Bodies.{body_of, catalog_body_of, document, form_of, is_form, password_of, whole_document};
+ghost use Rattle.ks_shape.specs.Bodies.{body_of, catalog_body_of, document, form_of, password_of, whole_document};
 ghost use Rattle.ks_shape.specs.Places.{place_of};
 ghost use Rattle.ks_base.specs.Results.{found};
 ghost use Rattle.ks_shape.specs.Readings.{Reads, ReadsBy};
@@ -30,7 +30,6 @@ fn password(body: &Node) -> Result<BodyIn, ShapeRefusal>
 /// What the document at the node asks for.
 #[tactic(auto, unfolding(crate::specs::Bodies::form_of))]
 fn read_form(form: Form, body: &Node) -> Result<BodyIn, ShapeRefusal>
-    requires { IsTrue (is_form form) }
     ensures { Reads result (form_of form (place_of body.now)) }
 {
     match form {
@@ -58,7 +57,6 @@ pub fn read_document(alloc: Global, bytes: &[u8]) -> Result<Value, ShapeRefusal>
 /// What the bytes of a body ask for, which is to be of the form, or the first fault in the order of the form's fields.
 #[tactic(auto, unfolding(crate::specs::Bodies::body_of))]
 pub fn read_body(alloc: Global, form: Form, bytes: &[u8]) -> Result<BodyIn, ShapeRefusal>
-    requires { IsTrue (is_form form) }
     ensures { Reads result (body_of form bytes.now) }
 {
     let value = read_document(alloc, bytes)?;

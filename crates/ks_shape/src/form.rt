@@ -1,12 +1,12 @@
-use ks_base::{Boxed, Kind, Text};
-use ks_machine::{AppCredBody, LoginBody, Made, SecretBody, TrustBody};
+use ks_base::{Boxed, Text};
+use ks_machine::{AppCredBody, LoginBody, Made, MadeKind, SecretBody, TrustBody};
 
 /// What a body is to be.
 #[derive(Clone, Copy)]
 pub enum Form {
     Login,
     /// A row of this kind. In a creation, which is true, the name is needed; in a change nothing is.
-    Made(Kind, bool),
+    Made(MadeKind, bool),
     /// A change of one's own password.
     Password,
     Trust,

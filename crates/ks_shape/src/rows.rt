@@ -1,14 +1,13 @@
-ghost use Rattle.std.specs.Prelude.{IsTrue};
 ghost use Rattle.ks_shape.specs.Places.{names_in, place_of};
 ghost use Rattle.ks_shape.specs.Readings.{Reads};
-ghost use Rattle.ks_shape.specs.Rows.{domain_of, group_of, has_body, id_at, made_of, project_of, role_of, user_of};
+ghost use Rattle.ks_shape.specs.Rows.{domain_of, group_of, id_at, made_of, project_of, role_of, user_of};
 
 use crate::factors::factors;
 use crate::node::Node;
 use crate::types::{Falsehood, IdText, TextOf, Truth};
 use ks_base::limits::{DESCRIPTION_BYTES, NAME_BYTES, PASSWORD_BYTES};
-use ks_base::{Id, Kind, ShapeRefusal};
-use ks_machine::Made;
+use ks_base::{Id, ShapeRefusal};
+use ks_machine::{Made, MadeKind};
 
 /// A name: 1 to 255 bytes.
 pub const NAME: TextOf = TextOf {
@@ -126,16 +125,14 @@ fn role(new: bool, body: &Node) -> Result<Made, ShapeRefusal>
 }
 
 /// The body that makes or changes a row of the kind.
-pub fn made(kind: Kind, new: bool, body: &Node) -> Result<Made, ShapeRefusal>
-    requires { IsTrue (has_body kind) }
+pub fn made(kind: MadeKind, new: bool, body: &Node) -> Result<Made, ShapeRefusal>
     ensures { Reads result (made_of kind new (place_of body.now)) }
 {
     match kind {
-        Kind::Domain => domain(new, body),
-        Kind::Project => project(new, body),
-        Kind::User => user(new, body),
-        Kind::Group => group(new, body),
-        Kind::Role => role(new, body),
-        _ => unreachable!(),
+        MadeKind::Domain => domain(new, body),
+        MadeKind::Project => project(new, body),
+        MadeKind::User => user(new, body),
+        MadeKind::Group => group(new, body),
+        MadeKind::Role => role(new, body),
     }
 }

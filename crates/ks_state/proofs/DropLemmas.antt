@@ -11,13 +11,13 @@ use Rattle.ks_base.specs.Factors.{FactorState}
 use Rattle.ks_base.specs.People.{PeopleState, group_ids, is_group_in, is_user_in, users_of}
 use Rattle.ks_base.specs.Rows.{Id, has_id}
 use Rattle.ks_base.specs.Trees.{TreeState, lies_in}
-use Rattle.ks_base.specs.Trusts.{trusts_gone, trusts_left}
+use Rattle.ks_base.specs.Trusts.{trusts_left}
 use Rattle.ks_base.specs.declared.memory.Memory.{Memory}
 use Rattle.ks_base.proofs.ListLemmas.{map_twice}
 use Rattle.ks_totp.specs.Factors.{of_users}
 use Rattle.ks_trust.specs.State.{without_trusts}
 use Rattle.ks_state.specs.declared.trusts_gone.TrustsGone.{TrustsGone}
-use Rattle.ks_machine.specs.Changes.{is_actor_gone, is_id_of, is_left, is_target_gone}
+use Rattle.ks_machine.specs.Changes.{is_actor_gone, is_id_of, is_left, is_target_gone, trusts_ended}
 use Rattle.ks_state.specs.declared.domain_rows.DomainRows.{DomainRows}
 use Rattle.ks_state.specs.DomainRows.{AreOf, has_group, has_project, has_user, is_touched}
 use Rattle.ks_state.proofs.IdLemmas.{names_those}
@@ -92,16 +92,13 @@ abbrev pub told_rows : Id → TreeState → PeopleState → List Revoke
 told_rows domain tree people =
     revoke.Domain domain ∷ (map (λ row. revoke.Project row.id) (filter (lies_in domain) tree.projects) ++ map (λ row. revoke.User row.id) (filter (is_user_in domain) people.users))
 
-abbrev pub told_trusts : List TrustRow → (TrustRow → Bool) → List Revoke
-told_trusts trusts test = map (λ trust. revoke.Trust trust.id) (trusts_gone trusts test)
-
 pub domain_told : (rows : DomainRows) (tree : TreeState) (people : PeopleState) (trusts : List TrustRow) (first : List Revoke) (r : Result TrustsGone Memory) → AreOf rows tree people →
     first ≡ revoke.Domain rows.domain ∷ (map revoke.Project rows.projects ++ map revoke.User rows.users) →
-    IfOk r (λ all. all.things ≡ first ++ told_trusts trusts (λ trust. touched_by (λ id. has_id rows.users id) (λ id. has_id rows.projects id) trust)) →
-    IfOk r (λ all. all.things ≡ told_rows rows.domain tree people ++ told_trusts trusts (λ trust. is_touched rows.domain tree people trust))
+    IfOk r (λ all. all.things ≡ first ++ trusts_ended trusts (λ trust. touched_by (λ id. has_id rows.users id) (λ id. has_id rows.projects id) trust)) →
+    IfOk r (λ all. all.things ≡ told_rows rows.domain tree people ++ trusts_ended trusts (λ trust. is_touched rows.domain tree people trust))
 domain_told rows tree people trusts first (Ok all) are is h =
-    h ∙ ap (λ l. l ++ told_trusts trusts (λ trust. touched_by (λ id. has_id rows.users id) (λ id. has_id rows.projects id) trust)) (is ∙ told_of rows tree people are)
-    ∙ ap {A = TrustRow → Bool} (λ test. told_rows rows.domain tree people ++ told_trusts trusts test) (touches_of rows tree people are)
+    h ∙ ap (λ l. l ++ trusts_ended trusts (λ trust. touched_by (λ id. has_id rows.users id) (λ id. has_id rows.projects id) trust)) (is ∙ told_of rows tree people are)
+    ∙ ap {A = TrustRow → Bool} (λ test. told_rows rows.domain tree people ++ trusts_ended trusts test) (touches_of rows tree people are)
 domain_told rows tree people trusts first (Err e) are is h = tt
 
 pub domain_left : (rows : DomainRows) (tree : TreeState) (people : PeopleState) (trusts : List TrustRow) (r : Result TrustsGone Memory) → AreOf rows tree people →

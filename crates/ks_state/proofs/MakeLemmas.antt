@@ -10,10 +10,10 @@ use Rattle.ks_base.specs.People.{PeopleState, is_group_in, is_user_in}
 use Rattle.ks_base.specs.RoleLists.{RolesState}
 use Rattle.ks_base.specs.Rows.{Id, Rows}
 use Rattle.ks_base.specs.Trees.{TreeState, without_domain}
+use Rattle.ks_base.specs.Trusts.{trusts_left}
 use Rattle.ks_machine.specs.declared.change.Change.{Change}
-use Rattle.ks_machine.specs.declared.change.Change.TheVariants as change
 use Rattle.ks_machine.specs.declared.settings.Settings.{Settings}
-use Rattle.ks_machine.specs.Changes.{apply, domain_dropped, ended_by, is_actor_gone, is_left, is_target_gone, ring_after, rows_after, trusts_after}
+use Rattle.ks_machine.specs.Changes.{Effect, apply, domain_dropped, effect, is_actor_gone, is_left, is_of_domain, is_target_gone}
 use Rattle.ks_machine.specs.Openings.{NamedRule}
 use Rattle.ks_ring.specs.Rings.{RingState}
 use Rattle.ks_totp.specs.Factors.{of_users}
@@ -35,18 +35,19 @@ roomy room log = record log { revoked = record log.revoked { room = room } }
 
 pub made : (most : ℕ) (settings : Settings) (rules : List NamedRule) (ring : RingState) (rows left : Rows) (log ready done : Logged) (things : List Revoke) (what : Change) →
     ready ≡ roomy ready.revoked.room log → done ≡ written things what done.revoked.marks done.revoked.room ready →
-    things ≡ ended_by rows what → left ≡ rows_after rows what → ring ≡ ring_after (parts settings rules ring rows log).state what →
+    (let makes = effect (parts settings rules ring rows log).state what in (things ≡ makes.ended) × (left ≡ makes.rows) × (ring ≡ makes.ring)) →
     is_room most log.revoked.events (length things) ≡ true → log.made < 2 ^ 58 →
     HasRoom most (parts settings rules ring rows log) what × (parts settings rules ring left done ≡ changed what (parts settings rules ring rows log))
 unfolding apply
-made most settings rules ring rows left log ready done things what roomier is ends leaves turns room few = (
-  (subst (λ (l : List Revoke). is_room most log.revoked.events (length l) ≡ true) ends room, few),
-  ap {A = Logged} (λ d. parts settings rules ring left d)
-      (is ∙ ap {A = Logged} (λ r. written things what done.revoked.marks done.revoked.room r) roomier
-      ∙ ap {A = List Revoke} (λ t. written t what done.revoked.marks done.revoked.room log) ends)
-      ∙ ap {A = Rows} (λ r. parts settings rules ring r (written (ended_by rows what) what done.revoked.marks done.revoked.room log)) leaves
-      ∙ ap {A = RingState} (λ r. parts settings rules r (rows_after rows what) (written (ended_by rows what) what done.revoked.marks done.revoked.room log)) turns,
-)
+made most settings rules ring rows left log ready done things what roomier is (ends, leaves, turns) room few =
+    let makes : Effect = effect (parts settings rules ring rows log).state what in (
+      (subst (λ (l : List Revoke). is_room most log.revoked.events (length l) ≡ true) ends room, few),
+      ap {A = Logged} (λ d. parts settings rules ring left d)
+          (is ∙ ap {A = Logged} (λ r. written things what done.revoked.marks done.revoked.room r) roomier
+          ∙ ap {A = List Revoke} (λ t. written t what done.revoked.marks done.revoked.room log) ends)
+          ∙ ap {A = Rows} (λ r. parts settings rules ring r (written makes.ended what done.revoked.marks done.revoked.room log)) leaves
+          ∙ ap {A = RingState} (λ r. parts settings rules r makes.rows (written makes.ended what done.revoked.marks done.revoked.room log)) turns,
+    )
 
 -- the people, the grants, the credentials and the factors that a domain leaves
 
@@ -84,8 +85,8 @@ tabled_rows t = rows_in t.tree t.people t.roles t.grants t.trusts t.catalog t.cr
 
 pub domain_rows : (t : Tabled) (tree : TreeState) (people : PeopleState) (grants : List GrantRow) (trusts : List TrustRow) (creds : List AppCredRow) (factors : FactorState) (id : Id) →
     tree ≡ without_domain id t.tree → people ≡ people_dropped id t.people → grants ≡ grants_dropped id t.tree t.people t.grants →
-    trusts ≡ trusts_after (tabled_rows t) (change.DropDomain id) → creds ≡ creds_dropped id t.tree t.people t.creds → factors ≡ factors_dropped id t.people t.factors →
-    rows_in tree people t.roles grants trusts t.catalog creds factors ≡ rows_after (tabled_rows t) (change.DropDomain id)
-unfolding rows_after domain_dropped
+    trusts ≡ trusts_left t.trusts (is_of_domain (tabled_rows t) id) → creds ≡ creds_dropped id t.tree t.people t.creds → factors ≡ factors_dropped id t.people t.factors →
+    rows_in tree people t.roles grants trusts t.catalog creds factors ≡ domain_dropped (tabled_rows t) id
+unfolding domain_dropped
 domain_rows t tree people grants trusts creds factors id one two three four five six =
     λ i. rows_in (one i) (two i) t.roles (three i) (four i) t.catalog (five i) (six i)

@@ -6,7 +6,7 @@ use Rattle.ks_machine.specs.Opened.{open_fault, opened_state}
 use Rattle.ks_machine.specs.Openings.{PlainOpening}
 use Rattle.ks_machine.specs.Ranges.{IsSettings}
 use Rattle.ks_machine.specs.States.{State}
-use Rattle.ks_opening.specs.declared.opened.Opened.{Opened}
+use Rattle.ks_opening.specs.declared.opened.OpenedTables.{OpenedTables}
 use Rattle.ks_opening.specs.Opened.{state_of}
 use Rattle.ks_state.specs.Standing.{Stands, with_live}
 
@@ -24,6 +24,6 @@ stands_first state opening range is none = record {
 }
 
 -- the settings keep their ranges
-pub settings_are : (opened : Opened) (opening : PlainOpening) → IsOpeningInRange opening → state_of opened ≡ opened_state opening → IsSettings opened.settings
+pub settings_are : (opened : OpenedTables) (opening : PlainOpening) → IsOpeningInRange opening → state_of opened ≡ opened_state opening → IsSettings opened.settings
 unfolding opened_state
 settings_are opened opening range is = subst IsSettings (sym (ap (λ (S : State). S.settings) is)) range.settings

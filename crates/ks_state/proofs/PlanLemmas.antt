@@ -8,24 +8,21 @@ use Rattle.ks_machine.specs.Fronts.{Front, replay}
 use Rattle.ks_machine.specs.Moment.{moment_of}
 use Rattle.ks_machine.specs.Openings.{NamedRule}
 use Rattle.ks_machine.specs.States.{State, raised}
+use Rattle.ks_machine.specs.Steps.{planned}
 use Rattle.ks_checks.specs.declared.halt.Halt.{Halt}
 use Rattle.ks_checks.specs.declared.plan.Plan.{Plan}
-use Rattle.ks_plan.specs.Planned.{RoomComesLast, planned}
 use Rattle.ks_checks.specs.Plans.{Plans}
 use Rattle.ks_state.specs.Deciding.{IsPlanned}
-use Rattle.ks_state.specs.Planning.{moment_at, state_at}
+use Rattle.ks_state.specs.Planning.{moment_at}
 use Rattle.ks_state.specs.Shown.{Shown}
 use Rattle.ks_state.specs.Standing.{Stands}
 use Rattle.ks_state.specs.StandingLaws.{high_is}
 use Rattle.ks_state.proofs.TellLemmas.{AreTables, tells}
 
 pub planned_at : (facts : FactsState) (tables : Tables) (rules : List NamedRule) (shown : Shown) (f : Front) (call : Call) (moment : ℕ) (result : Result Plan Halt) →
-    RoomComesLast → AreTables tables shown → rules ≡ shown.state.rules → Stands shown f → moment ≡ moment_of shown.state.high call.reading →
+    AreTables tables shown → rules ≡ shown.state.rules → Stands shown f → moment ≡ moment_of shown.state.high call.reading →
     ((S : State) → Tells tables S → S.rules ≡ rules → Plans result (planned (told facts) S moment call)) → IsPlanned (told facts) f call result
-planned_at facts tables rules shown f call moment result last are same stands is plans =
-    let at : moment ≡ moment_at f call = is ∙ ap (λ high. moment_of high call.reading) (high_is shown f stands) in record {
-      said = planned (told facts) (state_at f call) (moment_at f call) call;
-      is_plan = record { checks = last (told facts) (state_at f call) (moment_at f call) call };
-      gives = subst (λ m. Plans result (planned (told facts) (raised (replay f) m) m call)) at
-          (plans (raised (replay f) moment) (tells tables shown f moment are stands) (sym (same ∙ ap (λ (S : State). S.rules) stands.state)));
-    }
+planned_at facts tables rules shown f call moment result are same stands is plans =
+    let at : moment ≡ moment_at f call = is ∙ ap (λ high. moment_of high call.reading) (high_is shown f stands) in
+    subst (λ m. Plans result (planned (told facts) (raised (replay f) m) m call)) at
+    (plans (raised (replay f) moment) (tells tables shown f moment are stands) (sym (same ∙ ap (λ (S : State). S.rules) stands.state)))

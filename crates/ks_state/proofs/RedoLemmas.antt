@@ -10,6 +10,7 @@ use Rattle.ks_machine.specs.declared.cause.Cause.TheVariants as cause
 use Rattle.ks_machine.specs.declared.change.Change.{Change}
 use Rattle.ks_machine.specs.declared.change.Entry.{Entry}
 use Rattle.ks_machine.specs.Attempts.{Attempt, Go, Stop}
+use Rattle.ks_machine.specs.Changes.{effect}
 use Rattle.ks_machine.specs.Fronts.{Front, replay, replayed, then}
 use Rattle.ks_machine.specs.Lawful.{Fits, IsLawful}
 use Rattle.ks_machine.specs.Moment.{last_moment}
@@ -37,7 +38,7 @@ raised_is shown f moment le last stands = (raised_stands shown f moment le last 
 
 -- room is not a matter of the highest moment
 room_apart : (S : State) (high moment : ℕ) (what : Change) → room_for (record S { high = high }) moment (limit kind.Event) (Some what) ≡ room_for S moment (limit kind.Event) (Some what)
-unfolding room_for
+unfolding room_for effect
 room_apart S high moment what = refl
 
 fits_then : (S : State) (moment : ℕ) (what : Change) → Fits (with_live (record S { high = moment })) moment what → Fits S moment what

@@ -16,19 +16,23 @@ use Rattle.ks_machine.specs.Moment.{last_moment, moment_of}
 use Rattle.ks_machine.specs.Outcomes.{Outcome}
 use Rattle.ks_machine.specs.Room.{event_limit, room_for}
 use Rattle.ks_machine.specs.States.{State}
-use Rattle.ks_machine.specs.Steps.{Replies, Needs, step, step_at, stepped}
+use Rattle.ks_machine.specs.Steps.{Replies, Needs, checked, step, step_at, stepped}
 use Rattle.ks_laws.proofs.LawLemmas.{lower_limit}
-use Rattle.ks_state.specs.Planning.{GoOn, IsPlan, moment_at, state_at, with_room}
+use Rattle.ks_state.specs.Planning.{GoOn, IsPlan, moment_at, state_at}
 use Rattle.ks_state.specs.Replies.{CarriesOut, IsReply}
 use Rattle.ks_state.specs.Shown.{FitsWithRoom, HasRoom, Shown, changed, has_room, raised_to}
 use Rattle.ks_state.specs.Standing.{Stands, with_live}
 use Rattle.ks_state.specs.StandingLaws.{made_so_far}
 use Rattle.ks_state.proofs.StandLemmas.{changed_stands, fits_in, raised_stands, room_lacks, room_there}
 
+-- the checks but for room, and then room
+abbrev with_room : Front → Call → Attempt Cause Outcome → Attempt Cause Outcome
+with_room f call said = said >>= (λ outcome. room_for (state_at f call) (moment_at f call) (event_limit call.command) outcome.change >>= (λ _. Go outcome))
+
 step_is : (known : Known) (f : Front) (call : Call) (plan : Attempt Cause Outcome) → IsPlan known f call plan →
     step known (replay f) call ≡ stepped (with_room f call plan)
-unfolding step_at replay
-step_is known f call plan is = ap stepped is.checks
+unfolding step_at replay checked
+step_is known f call plan is = ap (λ (said : Attempt Cause Outcome). stepped (with_room f call said)) is
 
 -- what the machine answers with all facts
 

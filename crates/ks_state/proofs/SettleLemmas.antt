@@ -43,14 +43,13 @@ pub planned_fits : (facts : FactsState) (shown : Shown) (f : Front) (call : Call
     IfSome plan.change (λ what. FitsWithRoom (event_limit call.command) (raised_to moment shown) what)
 planned_fits facts shown f call moment plan few on fit stands is planned =
     subst (λ m. IfSome plan.change (λ what. FitsWithRoom (event_limit call.command) (raised_to m shown) what)) (sym (moment_is shown f call moment stands is))
-    (fits_by facts shown f call (outcome_of plan) plan.change few on fit stands refl (subst (IsPlan (told facts) f call) planned.gives planned.is_plan))
+    (fits_by facts shown f call (outcome_of plan) plan.change few on fit stands refl planned)
 
 pub done_reply : (facts : FactsState) (shown : Shown) (f : Front) (call : Call) (moment : ℕ) (plan : Plan) (said : Reply) (new : Shown) → FewFactsSuffice → GoOn → Fit call →
     Stands shown f → moment ≡ moment_of shown.state.high call.reading → IsPlanned (told facts) f call (Ok plan) →
     CarriesOut plan.told plan.change (event_limit call.command) (raised_to moment shown) said new → IsReply f call said new
 done_reply facts shown f call moment plan said new few on fit stands is planned carried =
-    carried_reply (told facts) shown f call (outcome_of plan) said new few (told_is_true facts) on fit stands
-    (subst (IsPlan (told facts) f call) planned.gives planned.is_plan)
+    carried_reply (told facts) shown f call (outcome_of plan) said new few (told_is_true facts) on fit stands planned
     (subst (λ m. CarriesOut plan.told plan.change (event_limit call.command) (raised_to m shown) said new) (moment_is shown f call moment stands is) carried)
 
 pub refused_reply : (facts : FactsState) (shown : Shown) (f : Front) (call : Call) (moment : ℕ) (why : Cause) → FewFactsSuffice → Stands shown f →
@@ -59,7 +58,7 @@ pub refused_reply : (facts : FactsState) (shown : Shown) (f : Front) (call : Cal
 refused_reply facts shown f call moment why few stands is planned =
     subst (λ m. IsReply f call (reply.Refused why) (raised_to m shown)) (sym (moment_is shown f call moment stands is))
     (same_reply (told facts) shown f call (reply.Refused why) few (told_is_true facts) stands
-    (refused_step (told facts) f call why (subst (IsPlan (told facts) f call) planned.gives planned.is_plan)))
+    (refused_step (told facts) f call why planned))
 
 pub no_memory_reply : (shown : Shown) (f : Front) (call : Call) (moment : ℕ) → Stands shown f → moment ≡ moment_of shown.state.high call.reading →
     IsReply f call (reply.Refused cause.Memory) (raised_to moment shown)
@@ -70,4 +69,4 @@ no_memory_reply shown f call moment stands is =
 pub lacking_is : (facts : FactsState) (f : Front) (call : Call) (needs : Lacking) → IsPlanned (told facts) f call (Err (halt.Needs needs)) →
     (lack : Lack) × Names needs lack × (step (told facts) (replay f) call ≡ Needs lack)
 lacking_is facts f call needs planned =
-    (planned.gives.0, planned.gives.1, lacking_step (told facts) f call planned.gives.0 (subst (IsPlan (told facts) f call) planned.gives.2 planned.is_plan))
+    (planned.0, planned.1, lacking_step (told facts) f call planned.0 planned.2)

@@ -13,8 +13,8 @@ use Rattle.ks_base.specs.Revocation.{live}
 use Rattle.ks_machine.specs.declared.cause.Cause.TheVariants as cause
 use Rattle.ks_machine.specs.declared.change.Change.{Change}
 use Rattle.ks_machine.specs.declared.change.Entry.{Entry}
-use Rattle.ks_machine.specs.Attempts.{Go, Stop}
-use Rattle.ks_machine.specs.Changes.{apply, ended_by, events_at, ring_after}
+use Rattle.ks_machine.specs.Attempts.{Go, Stop, need}
+use Rattle.ks_machine.specs.Changes.{apply, effect, events_at}
 use Rattle.ks_machine.specs.Fronts.{Front, replay, replayed, then}
 use Rattle.ks_machine.specs.Lawful.{AreLawful, Fits, IsLawful}
 use Rattle.ks_machine.specs.Moment.{last_moment}
@@ -42,9 +42,9 @@ live_with life moment (thing ∷ things) events =
 
 -- the live ones of a state that is changed, or at a higher moment
 pub live_applied : (S : State) (what : Change) → with_live (apply S S.high what) ≡ apply (with_live S) S.high what
-unfolding apply ring_after
+unfolding apply effect
 live_applied S what =
-    ap {A = List EventRow} (λ events. record (apply S S.high what) { events = events }) (live_with S.settings.life S.high (ended_by S.rows what) S.events)
+    ap {A = List EventRow} (λ events. record (apply S S.high what) { events = events }) (live_with S.settings.life S.high (effect S what).ended S.events)
 
 pub live_raised : (S : State) (moment : ℕ) → S.high ≤ moment →
     record (with_live S) { events = live S.settings.life moment (with_live S).events; high = moment } ≡ with_live (record S { high = moment })
@@ -112,15 +112,15 @@ room_is S moment most (thing ∷ things) le =
     let count : ℕ = length (live S.settings.life moment S.events) + length (thing ∷ things) in
     both_within count most EVENTS le ∙ ap (λ b. b || (nat_le count most && nat_le count EVENTS)) (sym (some_is (length things)))
 
-pub room_there : (S : State) (most : ℕ) (what : Change) → most ≤ EVENTS → is_room most (with_live S).events (length (ended_by S.rows what)) ≡ true →
+pub room_there : (S : State) (most : ℕ) (what : Change) → most ≤ EVENTS → is_room most (with_live S).events (length (effect (with_live S) what).ended) ≡ true →
     room_for S S.high most (Some what) ≡ Go tt
-unfolding room_for
-room_there S most what le is = rw (room_is S S.high most (ended_by S.rows what) le ∙ is) refl
+unfolding room_for effect
+room_there S most what le is = ap (λ b. need b (cause.Full kind.Event)) (room_is S S.high most (effect S what).ended le ∙ is)
 
-pub room_lacks : (S : State) (most : ℕ) (what : Change) → most ≤ EVENTS → is_room most (with_live S).events (length (ended_by S.rows what)) ≡ false →
+pub room_lacks : (S : State) (most : ℕ) (what : Change) → most ≤ EVENTS → is_room most (with_live S).events (length (effect (with_live S) what).ended) ≡ false →
     room_for S S.high most (Some what) ≡ Stop (cause.Full kind.Event)
-unfolding room_for
-room_lacks S most what le is = rw (room_is S S.high most (ended_by S.rows what) le ∙ is) refl
+unfolding room_for effect
+room_lacks S most what le is = ap (λ b. need b (cause.Full kind.Event)) (room_is S S.high most (effect S what).ended le ∙ is)
 
 -- what an identity stands for
 

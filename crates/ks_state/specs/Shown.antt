@@ -6,7 +6,7 @@ use Rattle.ks_base.specs.Revocation.{live}
 use Rattle.ks_base.specs.Trees.{TreeState}
 use Rattle.ks_machine.specs.declared.change.Change.{Change}
 use Rattle.ks_machine.specs.declared.change.Entry.{Entry}
-use Rattle.ks_machine.specs.Changes.{apply, ended_by}
+use Rattle.ks_machine.specs.Changes.{apply, effect}
 use Rattle.ks_machine.specs.Lawful.{Fits}
 use Rattle.ks_machine.specs.States.{State}
 use Rattle.ks_state.specs.Logs.{is_room}
@@ -47,7 +47,7 @@ changed change shown = record {
 
 -- there is room for the revocations of a change among so many live ones
 abbrev pub has_room : ℕ → Shown → Change → Bool
-has_room most shown change = is_room most shown.state.events (length (ended_by shown.state.rows change))
+has_room most shown change = is_room most shown.state.events (length (effect shown.state change).ended)
 
 -- there is room for them, and for a change more
 abbrev pub HasRoom : ℕ → Shown → Change → Type 0

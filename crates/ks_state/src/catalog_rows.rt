@@ -12,7 +12,7 @@ use ks_catalog::Catalog;
 use ks_machine::Change;
 
 impl Identity {
-    #[tactic(auto, unfolding(ks_machine::specs::Lawful::Fits, ks_machine::specs::Changes::apply, ks_machine::specs::Changes::rows_after, ks_machine::specs::Changes::ring_after, ks_machine::specs::Changes::ended_by))]
+    #[tactic(auto, unfolding(ks_machine::specs::Lawful::Fits, ks_machine::specs::Changes::apply, ks_machine::specs::Changes::effect))]
     pub(crate) fn put_region(&mut self, row: RegionRow, most: usize) -> Result<(), Unmade>
         requires { FitsWithRoom most self.old (Change.PutRegion row) }
         ensures { Makes most self.old (Change.PutRegion row) result self.new }
@@ -24,7 +24,7 @@ impl Identity {
         Ok(())
     }
 
-    #[tactic(auto, unfolding(ks_machine::specs::Changes::apply, ks_machine::specs::Changes::rows_after, ks_machine::specs::Changes::ring_after, ks_machine::specs::Changes::ended_by))]
+    #[tactic(auto, unfolding(ks_machine::specs::Changes::apply, ks_machine::specs::Changes::effect))]
     pub(crate) fn put_service(&mut self, row: ServiceRow, most: usize) -> Result<(), Unmade>
         ensures { Makes most self.old (Change.PutService row) result self.new }
     {
@@ -35,7 +35,7 @@ impl Identity {
         Ok(())
     }
 
-    #[tactic(auto, unfolding(ks_machine::specs::Changes::apply, ks_machine::specs::Changes::rows_after, ks_machine::specs::Changes::ring_after, ks_machine::specs::Changes::ended_by))]
+    #[tactic(auto, unfolding(ks_machine::specs::Changes::apply, ks_machine::specs::Changes::effect))]
     pub(crate) fn put_endpoint(&mut self, row: EndpointRow, most: usize) -> Result<(), Unmade>
         ensures { Makes most self.old (Change.PutEndpoint row) result self.new }
     {
@@ -46,7 +46,7 @@ impl Identity {
         Ok(())
     }
 
-    #[tactic(auto, unfolding(ks_machine::specs::Lawful::Fits, ks_machine::specs::Changes::apply, ks_machine::specs::Changes::rows_after, ks_machine::specs::Changes::ring_after, ks_machine::specs::Changes::ended_by))]
+    #[tactic(auto, unfolding(ks_machine::specs::Lawful::Fits, ks_machine::specs::Changes::apply, ks_machine::specs::Changes::effect))]
     pub(crate) fn drop_region(&mut self, id: Id, most: usize) -> Result<(), Unmade>
         requires { FitsWithRoom most self.old (Change.DropRegion id) }
         ensures { Makes most self.old (Change.DropRegion id) result self.new }
@@ -59,7 +59,7 @@ impl Identity {
         Ok(())
     }
 
-    #[tactic(auto, unfolding(ks_machine::specs::Lawful::Fits, ks_machine::specs::Changes::apply, ks_machine::specs::Changes::rows_after, ks_machine::specs::Changes::ring_after, ks_machine::specs::Changes::ended_by))]
+    #[tactic(auto, unfolding(ks_machine::specs::Lawful::Fits, ks_machine::specs::Changes::apply, ks_machine::specs::Changes::effect))]
     pub(crate) fn drop_service(&mut self, id: Id, most: usize) -> Result<(), Unmade>
         requires { FitsWithRoom most self.old (Change.DropService id) }
         ensures { Makes most self.old (Change.DropService id) result self.new }
@@ -72,7 +72,7 @@ impl Identity {
         Ok(())
     }
 
-    #[tactic(auto, unfolding(ks_machine::specs::Lawful::Fits, ks_machine::specs::Changes::apply, ks_machine::specs::Changes::rows_after, ks_machine::specs::Changes::ring_after, ks_machine::specs::Changes::ended_by))]
+    #[tactic(auto, unfolding(ks_machine::specs::Lawful::Fits, ks_machine::specs::Changes::apply, ks_machine::specs::Changes::effect))]
     pub(crate) fn drop_endpoint(&mut self, id: Id, most: usize) -> Result<(), Unmade>
         requires { FitsWithRoom most self.old (Change.DropEndpoint id) }
         ensures { Makes most self.old (Change.DropEndpoint id) result self.new }

@@ -9,7 +9,7 @@ use ks_base::{AppCredRow, Id};
 use ks_machine::Change;
 
 impl Identity {
-    #[tactic(auto, unfolding(ks_machine::specs::Changes::apply, ks_machine::specs::Changes::rows_after, ks_machine::specs::Changes::ring_after, ks_machine::specs::Changes::ended_by))]
+    #[tactic(auto, unfolding(ks_machine::specs::Changes::apply, ks_machine::specs::Changes::effect))]
     pub(crate) fn put_app_cred(&mut self, row: AppCredRow, most: usize) -> Result<(), Unmade>
         ensures { Makes most self.old (Change.PutAppCred row) result self.new }
     {
@@ -22,7 +22,7 @@ impl Identity {
         Ok(())
     }
 
-    #[tactic(auto, unfolding(ks_machine::specs::Lawful::Fits, ks_machine::specs::Changes::apply, ks_machine::specs::Changes::rows_after, ks_machine::specs::Changes::ring_after, ks_machine::specs::Changes::ended_by))]
+    #[tactic(auto, unfolding(ks_machine::specs::Lawful::Fits, ks_machine::specs::Changes::apply, ks_machine::specs::Changes::effect))]
     pub(crate) fn drop_app_cred(&mut self, id: Id, most: usize) -> Result<(), Unmade>
         requires { FitsWithRoom most self.old (Change.DropAppCred id) }
         ensures { Makes most self.old (Change.DropAppCred id) result self.new }

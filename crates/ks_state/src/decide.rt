@@ -11,7 +11,7 @@ use ks_auth::Facts;
 use ks_checks::{Halt, Plan};
 use ks_laws::lawful_fronts_go_on;
 use ks_machine::{Call, moment, restricted_tokens_are_held_back};
-use ks_plan::{plan_call, room_comes_last};
+use ks_plan::plan_call;
 
 impl Identity {
     /// Decides a call: what the machine answers, or which facts of ciphers that takes.
@@ -49,7 +49,6 @@ impl Identity {
         requires last { moment ≤ last_moment }
         ensures { (f : Front) → Stands self.now f → IsPlanned (told facts.now) f call.now result }
     {
-        room_comes_last();
         let seen = self.tables();
         plan_call(self.alloc, &seen, &self.rules, moment, call, facts)
     }

@@ -11,7 +11,7 @@ use ks_base::{Actor, Id, Target};
 use ks_machine::Change;
 
 impl Identity {
-    #[tactic(auto, unfolding(ks_machine::specs::Lawful::Fits, ks_machine::specs::Changes::apply, ks_machine::specs::Changes::rows_after, ks_machine::specs::Changes::ring_after, ks_machine::specs::Changes::domain_dropped))]
+    #[tactic(auto, unfolding(ks_machine::specs::Lawful::Fits, ks_machine::specs::Changes::apply, ks_machine::specs::Changes::effect, ks_machine::specs::Changes::domain_dropped))]
     pub(crate) fn drop_domain(&mut self, id: Id, most: usize) -> Result<(), Unmade>
         requires { FitsWithRoom most self.old (Change.DropDomain id) }
         ensures { Makes most self.old (Change.DropDomain id) result self.new }
@@ -32,7 +32,7 @@ impl Identity {
         Ok(())
     }
 
-    #[tactic(auto, unfolding(ks_machine::specs::Lawful::Fits, ks_machine::specs::Changes::apply, ks_machine::specs::Changes::rows_after, ks_machine::specs::Changes::ring_after, ks_machine::specs::Changes::project_dropped))]
+    #[tactic(auto, unfolding(ks_machine::specs::Lawful::Fits, ks_machine::specs::Changes::apply, ks_machine::specs::Changes::effect, ks_machine::specs::Changes::project_dropped))]
     pub(crate) fn drop_project(&mut self, id: Id, most: usize) -> Result<(), Unmade>
         requires { FitsWithRoom most self.old (Change.DropProject id) }
         ensures { Makes most self.old (Change.DropProject id) result self.new }
@@ -50,7 +50,7 @@ impl Identity {
         Ok(())
     }
 
-    #[tactic(auto, unfolding(ks_machine::specs::Lawful::Fits, ks_machine::specs::Changes::apply, ks_machine::specs::Changes::rows_after, ks_machine::specs::Changes::ring_after, ks_machine::specs::Changes::user_dropped))]
+    #[tactic(auto, unfolding(ks_machine::specs::Lawful::Fits, ks_machine::specs::Changes::apply, ks_machine::specs::Changes::effect, ks_machine::specs::Changes::user_dropped))]
     pub(crate) fn drop_user(&mut self, id: Id, most: usize) -> Result<(), Unmade>
         requires { FitsWithRoom most self.old (Change.DropUser id) }
         ensures { Makes most self.old (Change.DropUser id) result self.new }
@@ -68,7 +68,7 @@ impl Identity {
         Ok(())
     }
 
-    #[tactic(auto, unfolding(ks_machine::specs::Lawful::Fits, ks_machine::specs::Changes::apply, ks_machine::specs::Changes::rows_after, ks_machine::specs::Changes::ring_after, ks_machine::specs::Changes::ended_by, ks_machine::specs::Changes::group_dropped))]
+    #[tactic(auto, unfolding(ks_machine::specs::Lawful::Fits, ks_machine::specs::Changes::apply, ks_machine::specs::Changes::effect, ks_machine::specs::Changes::group_dropped))]
     pub(crate) fn drop_group(&mut self, id: Id, most: usize) -> Result<(), Unmade>
         requires { FitsWithRoom most self.old (Change.DropGroup id) }
         ensures { Makes most self.old (Change.DropGroup id) result self.new }
@@ -82,7 +82,7 @@ impl Identity {
         Ok(())
     }
 
-    #[tactic(auto, unfolding(ks_machine::specs::Lawful::Fits, ks_machine::specs::Changes::apply, ks_machine::specs::Changes::rows_after, ks_machine::specs::Changes::ring_after, ks_machine::specs::Changes::role_dropped))]
+    #[tactic(auto, unfolding(ks_machine::specs::Lawful::Fits, ks_machine::specs::Changes::apply, ks_machine::specs::Changes::effect, ks_machine::specs::Changes::role_dropped))]
     pub(crate) fn drop_role(&mut self, id: Id, most: usize) -> Result<(), Unmade>
         requires { FitsWithRoom most self.old (Change.DropRole id) }
         ensures { Makes most self.old (Change.DropRole id) result self.new }
@@ -99,7 +99,7 @@ impl Identity {
         Ok(())
     }
 
-    #[tactic(auto, unfolding(ks_machine::specs::Changes::apply, ks_machine::specs::Changes::rows_after, ks_machine::specs::Changes::ring_after))]
+    #[tactic(auto, unfolding(ks_machine::specs::Changes::apply, ks_machine::specs::Changes::effect))]
     pub(crate) fn drop_trust(&mut self, id: Id, most: usize) -> Result<(), Unmade>
         ensures { Makes most self.old (Change.DropTrust id) result self.new }
     {

@@ -11,7 +11,7 @@ use ks_base::{Id, MfaRow, SecretRow, UserRow};
 use ks_machine::Change;
 
 impl Identity {
-    #[tactic(auto, unfolding(ks_machine::specs::Changes::apply, ks_machine::specs::Changes::rows_after, ks_machine::specs::Changes::ring_after, ks_machine::specs::Changes::ended_by))]
+    #[tactic(auto, unfolding(ks_machine::specs::Changes::apply, ks_machine::specs::Changes::effect))]
     pub(crate) fn put_secret(&mut self, row: SecretRow, most: usize) -> Result<(), Unmade>
         ensures { Makes most self.old (Change.PutSecret row) result self.new }
     {
@@ -24,7 +24,7 @@ impl Identity {
         Ok(())
     }
 
-    #[tactic(auto, unfolding(ks_machine::specs::Lawful::Fits, ks_machine::specs::Changes::apply, ks_machine::specs::Changes::rows_after, ks_machine::specs::Changes::ring_after, ks_machine::specs::Changes::ended_by))]
+    #[tactic(auto, unfolding(ks_machine::specs::Lawful::Fits, ks_machine::specs::Changes::apply, ks_machine::specs::Changes::effect))]
     pub(crate) fn drop_secret(&mut self, id: Id, most: usize) -> Result<(), Unmade>
         requires { FitsWithRoom most self.old (Change.DropSecret id) }
         ensures { Makes most self.old (Change.DropSecret id) result self.new }
@@ -38,7 +38,7 @@ impl Identity {
     }
 
     /// Puts a user and its rules. The room for the rules is made before the user's row changes, so that both are put or neither.
-    #[tactic(auto, unfolding(ks_machine::specs::Changes::apply, ks_machine::specs::Changes::rows_after, ks_machine::specs::Changes::ring_after, ks_machine::specs::Changes::ended_by))]
+    #[tactic(auto, unfolding(ks_machine::specs::Changes::apply, ks_machine::specs::Changes::effect))]
     pub(crate) fn put_user_with(
         &mut self,
         row: UserRow,

@@ -2,7 +2,7 @@
 ghost use Rattle.std.specs.Prelude.{◌≡◌, IfOk};
 ghost use Rattle.ks_base.specs.Tables.{id_cmp, IsAscending};
 ghost use Rattle.ks_machine.specs.declared.change.Change.{Change};
-ghost use Rattle.ks_machine.specs.Changes.{ended_by, trusts_after};
+ghost use Rattle.ks_machine.specs.Changes.{effect};
 ghost use Rattle.ks_state.specs.DomainRows.{AreOf};
 ghost use Rattle.ks_state.specs.Shown.{people_in, tree_in};
 ghost use Rattle.ks_trust.specs.State.{without_trusts, IsClosed};
@@ -18,20 +18,20 @@ impl Identity {
     /// The trusts that go with a domain, and all that ends with it.
     pub(crate) fn domain_gone(&self, rows: &DomainRows) -> Result<TrustsGone, Memory>
         requires { AreOf rows.now (tree_in self.now) (people_in self.now) }
-        ensures things { IfOk result (λ gone. gone.things ≡ ended_by self.now.state.rows (Change.DropDomain rows.now.domain)) }
+        ensures things { IfOk result (λ gone. gone.things ≡ (effect self.now.state (Change.DropDomain rows.now.domain)).ended) }
         ensures ascending { IfOk result (λ gone. IsAscending id_cmp (λ other. other) gone.ids) }
         ensures closed { IfOk result (λ gone. IsClosed self.now.state.rows.trusts gone.ids) }
-        ensures left { IfOk result (λ gone. without_trusts gone.ids self.now.state.rows.trusts ≡ trusts_after self.now.state.rows (Change.DropDomain rows.now.domain)) }
+        ensures left { IfOk result (λ gone. without_trusts gone.ids self.now.state.rows.trusts ≡ (effect self.now.state (Change.DropDomain rows.now.domain)).rows.trusts) }
     {
         domain_trusts(self.alloc, &self.tree, &self.people, &self.trusts, rows)
     }
 
     /// The trusts that go with a project, and all that ends with it.
     pub(crate) fn project_gone(&self, id: &Id) -> Result<TrustsGone, Memory>
-        ensures things { IfOk result (λ gone. gone.things ≡ ended_by self.now.state.rows (Change.DropProject id.now)) }
+        ensures things { IfOk result (λ gone. gone.things ≡ (effect self.now.state (Change.DropProject id.now)).ended) }
         ensures ascending { IfOk result (λ gone. IsAscending id_cmp (λ other. other) gone.ids) }
         ensures closed { IfOk result (λ gone. IsClosed self.now.state.rows.trusts gone.ids) }
-        ensures left { IfOk result (λ gone. without_trusts gone.ids self.now.state.rows.trusts ≡ trusts_after self.now.state.rows (Change.DropProject id.now)) }
+        ensures left { IfOk result (λ gone. without_trusts gone.ids self.now.state.rows.trusts ≡ (effect self.now.state (Change.DropProject id.now)).rows.trusts) }
     {
         let what = Revoke::Project(*id);
         let first = one(self.alloc, Revoke::Project(*id))?;
@@ -40,10 +40,10 @@ impl Identity {
 
     /// The trusts that go with a user, and all that ends with it.
     pub(crate) fn user_gone(&self, id: &Id) -> Result<TrustsGone, Memory>
-        ensures things { IfOk result (λ gone. gone.things ≡ ended_by self.now.state.rows (Change.DropUser id.now)) }
+        ensures things { IfOk result (λ gone. gone.things ≡ (effect self.now.state (Change.DropUser id.now)).ended) }
         ensures ascending { IfOk result (λ gone. IsAscending id_cmp (λ other. other) gone.ids) }
         ensures closed { IfOk result (λ gone. IsClosed self.now.state.rows.trusts gone.ids) }
-        ensures left { IfOk result (λ gone. without_trusts gone.ids self.now.state.rows.trusts ≡ trusts_after self.now.state.rows (Change.DropUser id.now)) }
+        ensures left { IfOk result (λ gone. without_trusts gone.ids self.now.state.rows.trusts ≡ (effect self.now.state (Change.DropUser id.now)).rows.trusts) }
     {
         let what = Revoke::User(*id);
         let first = one(self.alloc, Revoke::User(*id))?;
@@ -52,10 +52,10 @@ impl Identity {
 
     /// The trusts that go with a trust, and all that ends with it.
     pub(crate) fn trust_gone(&self, id: &Id) -> Result<TrustsGone, Memory>
-        ensures things { IfOk result (λ gone. gone.things ≡ ended_by self.now.state.rows (Change.DropTrust id.now)) }
+        ensures things { IfOk result (λ gone. gone.things ≡ (effect self.now.state (Change.DropTrust id.now)).ended) }
         ensures ascending { IfOk result (λ gone. IsAscending id_cmp (λ other. other) gone.ids) }
         ensures closed { IfOk result (λ gone. IsClosed self.now.state.rows.trusts gone.ids) }
-        ensures left { IfOk result (λ gone. without_trusts gone.ids self.now.state.rows.trusts ≡ trusts_after self.now.state.rows (Change.DropTrust id.now)) }
+        ensures left { IfOk result (λ gone. without_trusts gone.ids self.now.state.rows.trusts ≡ (effect self.now.state (Change.DropTrust id.now)).rows.trusts) }
     {
         let what = Revoke::Trust(*id);
         let first = ListOf::new(self.alloc);
@@ -64,10 +64,10 @@ impl Identity {
 
     /// The trusts that go with a role, and all that ends with it.
     pub(crate) fn role_gone(&self, id: &Id) -> Result<TrustsGone, Memory>
-        ensures things { IfOk result (λ gone. gone.things ≡ ended_by self.now.state.rows (Change.DropRole id.now)) }
+        ensures things { IfOk result (λ gone. gone.things ≡ (effect self.now.state (Change.DropRole id.now)).ended) }
         ensures ascending { IfOk result (λ gone. IsAscending id_cmp (λ other. other) gone.ids) }
         ensures closed { IfOk result (λ gone. IsClosed self.now.state.rows.trusts gone.ids) }
-        ensures left { IfOk result (λ gone. without_trusts gone.ids self.now.state.rows.trusts ≡ trusts_after self.now.state.rows (Change.DropRole id.now)) }
+        ensures left { IfOk result (λ gone. without_trusts gone.ids self.now.state.rows.trusts ≡ (effect self.now.state (Change.DropRole id.now)).rows.trusts) }
     {
         let first = ListOf::new(self.alloc);
         trusts_gone(&self.trusts, &WithRole { role: id }, first)

@@ -9,7 +9,7 @@ use ks_base::{GrantRow, ImplyRow, MemberRow, TryCopy};
 use ks_machine::Change;
 
 impl Identity {
-    #[tactic(auto, unfolding(ks_machine::specs::Changes::apply, ks_machine::specs::Changes::rows_after, ks_machine::specs::Changes::ring_after, ks_machine::specs::Changes::ended_by))]
+    #[tactic(auto, unfolding(ks_machine::specs::Changes::apply, ks_machine::specs::Changes::effect))]
     pub(crate) fn join(&mut self, row: MemberRow, most: usize) -> Result<(), Unmade>
         ensures { Makes most self.old (Change.Join row) result self.new }
     {
@@ -22,7 +22,7 @@ impl Identity {
         Ok(())
     }
 
-    #[tactic(auto, unfolding(ks_machine::specs::Lawful::Fits, ks_machine::specs::Changes::apply, ks_machine::specs::Changes::rows_after, ks_machine::specs::Changes::ring_after, ks_machine::specs::Changes::ended_by))]
+    #[tactic(auto, unfolding(ks_machine::specs::Lawful::Fits, ks_machine::specs::Changes::apply, ks_machine::specs::Changes::effect))]
     pub(crate) fn leave(&mut self, row: MemberRow, most: usize) -> Result<(), Unmade>
         requires { FitsWithRoom most self.old (Change.Leave row) }
         ensures { Makes most self.old (Change.Leave row) result self.new }
@@ -35,7 +35,7 @@ impl Identity {
         Ok(())
     }
 
-    #[tactic(auto, unfolding(ks_machine::specs::Changes::apply, ks_machine::specs::Changes::rows_after, ks_machine::specs::Changes::ring_after, ks_machine::specs::Changes::ended_by))]
+    #[tactic(auto, unfolding(ks_machine::specs::Changes::apply, ks_machine::specs::Changes::effect))]
     pub(crate) fn imply(&mut self, row: ImplyRow, most: usize) -> Result<(), Unmade>
         ensures { Makes most self.old (Change.Imply row) result self.new }
     {
@@ -48,7 +48,7 @@ impl Identity {
         Ok(())
     }
 
-    #[tactic(auto, unfolding(ks_machine::specs::Lawful::Fits, ks_machine::specs::Changes::apply, ks_machine::specs::Changes::rows_after, ks_machine::specs::Changes::ring_after, ks_machine::specs::Changes::ended_by))]
+    #[tactic(auto, unfolding(ks_machine::specs::Lawful::Fits, ks_machine::specs::Changes::apply, ks_machine::specs::Changes::effect))]
     pub(crate) fn unimply(&mut self, row: ImplyRow, most: usize) -> Result<(), Unmade>
         requires { FitsWithRoom most self.old (Change.Unimply row) }
         ensures { Makes most self.old (Change.Unimply row) result self.new }
@@ -61,7 +61,7 @@ impl Identity {
         Ok(())
     }
 
-    #[tactic(auto, unfolding(ks_machine::specs::Changes::apply, ks_machine::specs::Changes::rows_after, ks_machine::specs::Changes::ring_after, ks_machine::specs::Changes::ended_by))]
+    #[tactic(auto, unfolding(ks_machine::specs::Changes::apply, ks_machine::specs::Changes::effect))]
     pub(crate) fn grant(&mut self, row: GrantRow, most: usize) -> Result<(), Unmade>
         ensures { Makes most self.old (Change.Grant row) result self.new }
     {
@@ -75,7 +75,7 @@ impl Identity {
         Ok(())
     }
 
-    #[tactic(auto, unfolding(ks_machine::specs::Lawful::Fits, ks_machine::specs::Changes::apply, ks_machine::specs::Changes::rows_after, ks_machine::specs::Changes::ring_after, ks_machine::specs::Changes::ended_by))]
+    #[tactic(auto, unfolding(ks_machine::specs::Lawful::Fits, ks_machine::specs::Changes::apply, ks_machine::specs::Changes::effect))]
     pub(crate) fn ungrant(&mut self, row: GrantRow, most: usize) -> Result<(), Unmade>
         requires { FitsWithRoom most self.old (Change.Ungrant row) }
         ensures { Makes most self.old (Change.Ungrant row) result self.new }

@@ -12,7 +12,7 @@ use crate::Identity;
 use crate::log::Log;
 use ks_appcred::AppCreds;
 use ks_machine::OpenFault;
-use ks_opening::{Opened, open_tables};
+use ks_opening::{OpenedTables, open_tables};
 use ks_policy::Opening;
 use ks_totp::Factors;
 use ks_trust::Trusts;
@@ -33,7 +33,7 @@ impl Identity {
     }
 
     /// The identity of what a server opens with, before any change.
-    fn new(alloc: Global, opened: Opened) -> Identity
+    fn new(alloc: Global, opened: OpenedTables) -> Identity
         requires { IsSettings opened.settings }
         ensures { result ≡ record { state = state_of opened; newest = None } }
     {

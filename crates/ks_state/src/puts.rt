@@ -17,7 +17,7 @@ use ks_roles::Roles;
 use ks_tree::Tree;
 
 impl Identity {
-    #[tactic(auto, unfolding(ks_machine::specs::Changes::apply, ks_machine::specs::Changes::rows_after, ks_machine::specs::Changes::ring_after, ks_machine::specs::Changes::ended_by))]
+    #[tactic(auto, unfolding(ks_machine::specs::Changes::apply, ks_machine::specs::Changes::effect))]
     pub(crate) fn put_domain(&mut self, row: DomainRow, most: usize) -> Result<(), Unmade>
         ensures { Makes most self.old (Change.PutDomain row) result self.new }
     {
@@ -29,7 +29,7 @@ impl Identity {
         Ok(())
     }
 
-    #[tactic(auto, unfolding(ks_machine::specs::Lawful::Fits, ks_machine::specs::Changes::apply, ks_machine::specs::Changes::rows_after, ks_machine::specs::Changes::ring_after, ks_machine::specs::Changes::ended_by))]
+    #[tactic(auto, unfolding(ks_machine::specs::Lawful::Fits, ks_machine::specs::Changes::apply, ks_machine::specs::Changes::effect))]
     pub(crate) fn put_project(&mut self, row: ProjectRow, most: usize) -> Result<(), Unmade>
         requires { FitsWithRoom most self.old (Change.PutProject row) }
         ensures { Makes most self.old (Change.PutProject row) result self.new }
@@ -42,7 +42,7 @@ impl Identity {
         Ok(())
     }
 
-    #[tactic(auto, unfolding(ks_machine::specs::Changes::apply, ks_machine::specs::Changes::rows_after, ks_machine::specs::Changes::ring_after, ks_machine::specs::Changes::ended_by))]
+    #[tactic(auto, unfolding(ks_machine::specs::Changes::apply, ks_machine::specs::Changes::effect))]
     pub(crate) fn put_user(&mut self, row: UserRow, most: usize) -> Result<(), Unmade>
         ensures { Makes most self.old (Change.PutUser row) result self.new }
     {
@@ -54,7 +54,7 @@ impl Identity {
         Ok(())
     }
 
-    #[tactic(auto, unfolding(ks_machine::specs::Changes::apply, ks_machine::specs::Changes::rows_after, ks_machine::specs::Changes::ring_after, ks_machine::specs::Changes::ended_by))]
+    #[tactic(auto, unfolding(ks_machine::specs::Changes::apply, ks_machine::specs::Changes::effect))]
     pub(crate) fn put_group(&mut self, row: GroupRow, most: usize) -> Result<(), Unmade>
         ensures { Makes most self.old (Change.PutGroup row) result self.new }
     {
@@ -65,7 +65,7 @@ impl Identity {
         Ok(())
     }
 
-    #[tactic(auto, unfolding(ks_machine::specs::Changes::apply, ks_machine::specs::Changes::rows_after, ks_machine::specs::Changes::ring_after, ks_machine::specs::Changes::ended_by))]
+    #[tactic(auto, unfolding(ks_machine::specs::Changes::apply, ks_machine::specs::Changes::effect))]
     pub(crate) fn put_role(&mut self, row: RoleRow, most: usize) -> Result<(), Unmade>
         ensures { Makes most self.old (Change.PutRole row) result self.new }
     {
@@ -77,7 +77,7 @@ impl Identity {
     }
 
     /// A trust comes. That its first trustor has its roles was seen when it was planned.
-    #[tactic(auto, unfolding(ks_machine::specs::Lawful::Fits, ks_machine::specs::Changes::apply, ks_machine::specs::Changes::rows_after, ks_machine::specs::Changes::ring_after, ks_machine::specs::Changes::ended_by))]
+    #[tactic(auto, unfolding(ks_machine::specs::Lawful::Fits, ks_machine::specs::Changes::apply, ks_machine::specs::Changes::effect))]
     pub(crate) fn put_trust(&mut self, row: TrustRow, most: usize) -> Result<(), Unmade>
         requires { FitsWithRoom most self.old (Change.PutTrust row) }
         ensures { Makes most self.old (Change.PutTrust row) result self.new }

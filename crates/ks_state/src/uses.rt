@@ -9,7 +9,7 @@ use ks_base::{Id, Key, KeyList, Revoke};
 use ks_machine::Change;
 
 impl Identity {
-    #[tactic(auto, unfolding(ks_machine::specs::Lawful::Fits, ks_machine::specs::Changes::apply, ks_machine::specs::Changes::rows_after, ks_machine::specs::Changes::ring_after, ks_machine::specs::Changes::ended_by))]
+    #[tactic(auto, unfolding(ks_machine::specs::Lawful::Fits, ks_machine::specs::Changes::apply, ks_machine::specs::Changes::effect))]
     pub(crate) fn use_trust(&mut self, id: Id, most: usize) -> Result<(), Unmade>
         requires { FitsWithRoom most self.old (Change.UseTrust id) }
         ensures { Makes most self.old (Change.UseTrust id) result self.new }
@@ -27,7 +27,7 @@ impl Identity {
         Ok(())
     }
 
-    #[tactic(auto, unfolding(ks_machine::specs::Changes::apply, ks_machine::specs::Changes::rows_after, ks_machine::specs::Changes::ring_after, ks_machine::specs::Changes::ended_by))]
+    #[tactic(auto, unfolding(ks_machine::specs::Changes::apply, ks_machine::specs::Changes::effect))]
     pub(crate) fn revoke_token(&mut self, audit: [u8; 16], most: usize) -> Result<(), Unmade>
         ensures { Makes most self.old (Change.RevokeToken audit) result self.new }
     {
@@ -37,7 +37,7 @@ impl Identity {
         Ok(())
     }
 
-    #[tactic(auto, unfolding(ks_machine::specs::Lawful::Fits, ks_machine::specs::Changes::apply, ks_machine::specs::Changes::rows_after, ks_machine::specs::Changes::ring_after, ks_machine::specs::Changes::ended_by))]
+    #[tactic(auto, unfolding(ks_machine::specs::Lawful::Fits, ks_machine::specs::Changes::apply, ks_machine::specs::Changes::effect))]
     pub(crate) fn rotate(&mut self, key: Key, most: usize) -> Result<(), Unmade>
         requires { FitsWithRoom most self.old (Change.Rotate key) }
         ensures { Makes most self.old (Change.Rotate key) result self.new }
@@ -48,7 +48,7 @@ impl Identity {
         Ok(())
     }
 
-    #[tactic(auto, unfolding(ks_machine::specs::Lawful::Fits, ks_machine::specs::Changes::apply, ks_machine::specs::Changes::rows_after, ks_machine::specs::Changes::ring_after, ks_machine::specs::Changes::ended_by))]
+    #[tactic(auto, unfolding(ks_machine::specs::Lawful::Fits, ks_machine::specs::Changes::apply, ks_machine::specs::Changes::effect))]
     pub(crate) fn load(&mut self, keys: KeyList, most: usize) -> Result<(), Unmade>
         requires { FitsWithRoom most self.old (Change.Load keys) }
         ensures { Makes most self.old (Change.Load keys) result self.new }

@@ -14,12 +14,13 @@ requirements_of asked = record {
   draws = asked.draws;
   loads = asked.loads;
   subject = asked.subject;
+  late = asked.late;
   lacks = option_copied asked.lacks;
 }
 
 -- a rule alone
 abbrev pub asks_for : Text → machine.Requirements
-asks_for action = record { action = Some action; draws = false; loads = false; subject = false; lacks = None }
+asks_for action = record { action = Some action; draws = false; loads = false; subject = false; late = false; lacks = None }
 
 -- what rules see of a row
 abbrev pub seen_of : Seen → targets.Seen

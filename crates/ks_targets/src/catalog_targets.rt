@@ -1,7 +1,7 @@
 //! What rules see of rows of the catalog.
 ghost use Rattle.std.specs.Prelude.{◌≡◌, ◌++◌, OnOk};
 ghost use Rattle.ks_auth.specs.Answers.{rows_told};
-ghost use Rattle.ks_base.specs.declared.kinds.Kind.TheVariants as kinds;
+ghost use Rattle.ks_machine.specs.declared.row_kind.RowKind.TheVariants as kinds;
 ghost use Rattle.ks_machine.specs.Targets.{object, of_catalog_body};
 
 use crate::fields::Fields;

@@ -3,7 +3,6 @@
 #![tactic(auto)]
 
 mod actions;
-pub mod catalog_kinds;
 mod catalog_targets;
 pub mod credentials;
 mod fields;

@@ -4,12 +4,11 @@ ghost use Rattle.ks_machine.specs.Actions.{draws_for, open_to_all, requirements}
 ghost use Rattle.ks_targets.specs.Views.{asks_for, requirements_of};
 
 use crate::actions::{
-    catalog_creation_action, catalog_update_action, creation_action, deletion_action, get_action,
-    grant_action, grant_check_action, grants_action, listing_action, revocation_action,
-    update_action,
+    creation_action, deletion_action, get_action, grant_action, grant_check_action, grants_action,
+    listing_action, revocation_action, update_action,
 };
-use crate::catalog_kinds::catalog_kind;
-use ks_machine::{Command, Made, user_lacking};
+use crate::targets::kind_of;
+use ks_machine::{Command, Made, RowKind, user_lacking};
 
 /// What a command asks for before its own checks.
 #[derive(Clone, Copy)]
@@ -22,6 +21,8 @@ pub struct Requirements {
     pub loads: bool,
     /// A token that it is about.
     pub subject: bool,
+    /// Whether this token may have expired.
+    pub late: bool,
     /// A field of its query that it lacks.
     pub lacks: Option<&'static str>,
 }
@@ -46,6 +47,7 @@ impl Requirements {
             draws,
             loads: false,
             subject: false,
+            late: false,
             lacks: None,
         }
     }
@@ -60,12 +62,13 @@ impl Requirements {
         }
     }
 
-    /// A rule and a token that it is about.
-    fn about(action: &'static str) -> Requirements
-        ensures { requirements_of result ≡ record (asks_for action.entry.now) { subject = true } }
+    /// A rule and a token that it is about; `late` says whether that may have expired.
+    fn about(action: &'static str, late: bool) -> Requirements
+        ensures { requirements_of result ≡ record (asks_for action.entry.now) { subject = true; late = late } }
     {
         Requirements {
             subject: true,
+            late,
             ..Requirements::rule(action)
         }
     }
@@ -90,15 +93,15 @@ pub fn required(command: &Command) -> Requirements
     match command {
         Command::Version => Requirements::open(false),
         Command::Login(_) | Command::ChangePassword(_, _, _) => Requirements::open(true),
-        Command::Validate(_) => Requirements::about("identity:validate_token"),
-        Command::Check(_) => Requirements::about("identity:check_token"),
-        Command::RevokeToken => Requirements::about("identity:revoke_token"),
-        Command::Create(made) => Requirements::drawing(creation_action(made.get()), true),
+        Command::Validate(late) => Requirements::about("identity:validate_token", *late),
+        Command::Check(late) => Requirements::about("identity:check_token", *late),
+        Command::RevokeToken => Requirements::about("identity:revoke_token", false),
+        Command::Create(made) => Requirements::drawing(creation_action(kind_of(made.get())), true),
         Command::List(kind, _) => Requirements::rule(listing_action(*kind)),
         Command::Get(kind, _) => Requirements::rule(get_action(*kind)),
         Command::Update(_, made) => {
             let made = made.get();
-            Requirements::drawing(update_action(made), draws_for(made))
+            Requirements::drawing(update_action(kind_of(made)), draws_for(made))
         },
         Command::Delete(kind, _) => Requirements::rule(deletion_action(*kind)),
         Command::GroupsOf(_) => Requirements::rule("identity:list_groups_for_user"),
@@ -131,15 +134,19 @@ pub fn required(command: &Command) -> Requirements
             ..Requirements::rule("identity:load_keys")
         },
         Command::CreateCatalog(asked) => Requirements::drawing(
-            catalog_creation_action(asked.get().of),
+            creation_action(RowKind::of_catalog(asked.get().of)),
             true,
         ),
-        Command::ListCatalog(of, _) => Requirements::rule(listing_action(catalog_kind(*of))),
-        Command::GetCatalog(of, _) => Requirements::rule(get_action(catalog_kind(*of))),
-        Command::UpdateCatalog(_, asked) => Requirements::rule(catalog_update_action(
-            asked.get().of,
-        )),
-        Command::DeleteCatalog(of, _) => Requirements::rule(deletion_action(catalog_kind(*of))),
+        Command::ListCatalog(of, _) => Requirements::rule(listing_action(RowKind::of_catalog(*of))),
+        Command::GetCatalog(of, _) => Requirements::rule(get_action(RowKind::of_catalog(*of))),
+        Command::UpdateCatalog(_, asked) => {
+            let kind = RowKind::of_catalog(asked.get().of);
+            Requirements::rule(update_action(kind))
+        }
+        Command::DeleteCatalog(of, _) => {
+            let kind = RowKind::of_catalog(*of);
+            Requirements::rule(deletion_action(kind))
+        }
         Command::ShowCatalog => Requirements::open(false),
         Command::CreateAppCred(_, _) => {
             Requirements::drawing("identity:create_application_credential", true)

@@ -1,21 +1,20 @@
 //! What rules see of what a command asks for.
-ghost use Rattle.std.specs.Prelude.{◌≡◌, ◌++◌, [], Some, None, map, IfOk, OnOk, codes, option_map};
+ghost use Rattle.std.specs.Prelude.{◌≡◌, ◌++◌, Some, None, map, IfOk, OnOk, codes, option_map};
 ghost use Rattle.std.specs.Option.{option_copied};
 ghost use Rattle.ks_auth.specs.Answers.{rows_told};
-ghost use Rattle.ks_base.specs.declared.kinds.Kind.TheVariants as kinds;
-ghost use Rattle.ks_machine.specs.Targets.{field, filter_names, kind_of, object, object_of_path, of_actor, of_body, of_filter, of_grant, of_implication, of_member, of_subject, of_target, of_trust, parties, path_user, target_of};
+ghost use Rattle.ks_machine.specs.declared.row_kind.RowKind.TheVariants as kinds;
+ghost use Rattle.ks_machine.specs.Targets.{field, kind_of, made_kind, object, object_of_path, of_actor, of_body, of_filter, of_grant, of_implication, of_member, of_subject, of_target, of_trust, parties, path_user, target_of};
 ghost use Rattle.ks_checks.specs.Plans.{valid_of};
 ghost use Rattle.ks_rule.specs.Kinds.{value_in};
 
-use crate::catalog_kinds::catalog_kind;
 use crate::catalog_targets::{put_catalog_body, put_endpoint, put_region, put_service};
 use crate::fields::Fields;
 use crate::seen::Seen;
 use ks_auth::Tables;
-use ks_base::{Actor, FieldList, GrantRow, Id, ImplyRow, Kind, MemberRow, Memory, Target, Text};
+use ks_base::{Actor, FieldList, GrantRow, Id, ImplyRow, MemberRow, Memory, Target, Text};
 use ks_checks::Caller;
 use ks_checks::filters::value_in;
-use ks_machine::{Command, Made};
+use ks_machine::{Command, Made, RowKind};
 use ks_rule::Attributes;
 use std::alloc::Global;
 
@@ -47,25 +46,26 @@ fn put_target_of(
             put_subject(fields, subject)
         }
         Command::Create(made) => put_body(fields, made.get()),
-        Command::List(kind, filter) => put_filter(fields, names_of(*kind), &filter.fields),
+        Command::List(kind, filter) => put_filter(fields, kind.filter_names(), &filter.fields),
         Command::Get(kind, id) | Command::Delete(kind, id) => put_path(fields, tables, *kind, id),
         Command::Update(id, made) => put_path(fields, tables, kind_of(made.get()), id),
-        Command::GroupsOf(id) => put_path(fields, tables, Kind::User, id),
+        Command::GroupsOf(id) => put_path(fields, tables, RowKind::User, id),
         Command::CreateAppCred(user, _) | Command::ListAppCreds(user) => {
-            put_path(fields, tables, Kind::User, user)
+            put_path(fields, tables, RowKind::User, user)
         }
         Command::GetAppCred(user, _) | Command::DeleteAppCred(user, _) => put_user_id(fields, user),
-        Command::MembersOf(id) => put_object(fields, tables, Kind::Group, id),
-        Command::Implied(id) => put_object(fields, tables, Kind::Role, id),
+        Command::MembersOf(id) => put_object(fields, tables, RowKind::Group, id),
+        Command::Implied(id) => put_object(fields, tables, RowKind::Role, id),
         Command::CreateCatalog(asked) => put_catalog_body(fields, asked.get()),
         Command::ListCatalog(of, filter) => {
-            put_filter(fields, names_of(catalog_kind(*of)), &filter.fields)
+            let names = RowKind::of_catalog(*of).filter_names();
+            put_filter(fields, names, &filter.fields)
         }
         Command::GetCatalog(of, id) | Command::DeleteCatalog(of, id) => {
-            put_object(fields, tables, catalog_kind(*of), id)
+            put_object(fields, tables, RowKind::of_catalog(*of), id)
         }
         Command::UpdateCatalog(id, asked) => {
-            put_object(fields, tables, catalog_kind(asked.get().of), id)
+            put_object(fields, tables, RowKind::of_catalog(asked.get().of), id)
         }
         Command::Join(row) | Command::IsIn(row) | Command::Leave(row) => put_member(fields, row),
         Command::Imply(row)
@@ -109,15 +109,15 @@ fn put_subject(fields: &mut Fields, subject: Option<&Caller>) -> Result<(), Memo
 }
 
 /// The kind of what a body makes.
-fn kind_of(made: &Made) -> Kind
-    ensures { result ≡ kind_of made.now }
+pub(crate) fn kind_of(made: &Made) -> RowKind
+    ensures { result ≡ made_kind (kind_of made.now) }
 {
     match made {
-        Made::Domain { .. } => Kind::Domain,
-        Made::Project { .. } => Kind::Project,
-        Made::User { .. } => Kind::User,
-        Made::Group { .. } => Kind::Group,
-        Made::Role { .. } => Kind::Role,
+        Made::Domain { .. } => RowKind::Domain,
+        Made::Project { .. } => RowKind::Project,
+        Made::User { .. } => RowKind::User,
+        Made::Group { .. } => RowKind::Group,
+        Made::Role { .. } => RowKind::Role,
     }
 }
 
@@ -170,24 +170,6 @@ fn put_body(fields: &mut Fields, made: &Made) -> Result<(), Memory>
     }
 }
 
-/// The names of the filters of a listing.
-fn names_of(kind: Kind) -> &'static [&'static str]
-    ensures { map (λ name. name.now) result.now ≡ filter_names kind }
-{
-    match kind {
-        Kind::Domain => &["name", "enabled"],
-        Kind::Project => &["name", "domain_id", "parent_id", "enabled"],
-        Kind::User => &["name", "domain_id", "enabled"],
-        Kind::Group => &["name", "domain_id"],
-        Kind::Role => &["name"],
-        Kind::Implication | Kind::Grant | Kind::Member | Kind::Trust | Kind::Event => &[],
-        Kind::Region => &["parent_region_id"],
-        Kind::Service => &["type", "name"],
-        Kind::Endpoint => &["service_id", "region_id", "interface"],
-        Kind::AppCred | Kind::Secret => &[],
-    }
-}
-
 /// The filters of these names, each under its own.
 fn put_filter(
     fields: &mut Fields,
@@ -203,10 +185,10 @@ fn put_filter(
 }
 
 /// The object that a path names; where it is a user, its id too.
-fn put_path(fields: &mut Fields, tables: &Tables, kind: Kind, id: &Id) -> Result<(), Memory>
+fn put_path(fields: &mut Fields, tables: &Tables, kind: RowKind, id: &Id) -> Result<(), Memory>
     ensures { OnOk result (fields.new ≡ fields.old ++ object_of_path (rows_told tables.now) kind id.now) }
 {
-    if matches!(kind, Kind::User) {
+    if matches!(kind, RowKind::User) {
         put_path_user(fields, id)?;
     }
     put_object(fields, tables, kind, id)
@@ -221,20 +203,18 @@ fn put_path_user(fields: &mut Fields, id: &Id) -> Result<(), Memory>
 
 /// The object that a path names, where it stands.
 #[tactic(auto, unfolding(ks_machine::specs::Targets::object))]
-fn put_object(fields: &mut Fields, tables: &Tables, kind: Kind, id: &Id) -> Result<(), Memory>
+fn put_object(fields: &mut Fields, tables: &Tables, kind: RowKind, id: &Id) -> Result<(), Memory>
     ensures { OnOk result (fields.new ≡ fields.old ++ object (rows_told tables.now) kind id.now) }
 {
     match kind {
-        Kind::Domain => put_domain(fields, tables, id),
-        Kind::Project => put_project(fields, tables, id),
-        Kind::User => put_user(fields, tables, id),
-        Kind::Group => put_group(fields, tables, id),
-        Kind::Role => put_role(fields, tables, id),
-        Kind::Implication | Kind::Grant | Kind::Member | Kind::Trust | Kind::Event => Ok(()),
-        Kind::Region => put_region(fields, tables, id),
-        Kind::Service => put_service(fields, tables, id),
-        Kind::Endpoint => put_endpoint(fields, tables, id),
-        Kind::AppCred | Kind::Secret => Ok(()),
+        RowKind::Domain => put_domain(fields, tables, id),
+        RowKind::Project => put_project(fields, tables, id),
+        RowKind::User => put_user(fields, tables, id),
+        RowKind::Group => put_group(fields, tables, id),
+        RowKind::Role => put_role(fields, tables, id),
+        RowKind::Region => put_region(fields, tables, id),
+        RowKind::Service => put_service(fields, tables, id),
+        RowKind::Endpoint => put_endpoint(fields, tables, id),
     }
 }
 

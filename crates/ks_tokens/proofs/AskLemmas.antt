@@ -8,14 +8,14 @@ use Rattle.ks_machine.specs.declared.cause.Cause.{Cause}
 use Rattle.ks_machine.specs.declared.cause.Cause.TheVariants as cause
 use Rattle.ks_machine.specs.declared.reply.Reply.TheVariants as reply
 use Rattle.ks_machine.specs.declared.why.Why.{Why}
+use Rattle.ks_machine.specs.Admission.{caller_of, subject_of}
 use Rattle.ks_machine.specs.Attempts.{Attempt, Go, Lack, Lacks, Stop, everything}
 use Rattle.ks_machine.specs.Fronts.{Front, ◌⊑◌, after, answer, replay, reply_of}
 use Rattle.ks_machine.specs.Lawful.{IsLawful}
 use Rattle.ks_machine.specs.Moment.{moment_of}
 use Rattle.ks_machine.specs.Outcomes.{Outcome}
-use Rattle.ks_machine.specs.Room.{room_for}
 use Rattle.ks_machine.specs.States.{State, raised}
-use Rattle.ks_machine.specs.Steps.{as_caller_about, caller_of, checked, lacking_of, step_at, stepped, subject_of, told_subject}
+use Rattle.ks_machine.specs.Steps.{step_at, stepped, told_subject}
 use Rattle.ks_machine.specs.Validity.{Valid, opened, validity}
 use Rattle.ks_machine.proofs.AllFacts.{all_facts}
 use Rattle.ks_payload.specs.Readings.{payload_of}
@@ -23,7 +23,7 @@ use Rattle.ks_ring.specs.declared.held_key.HeldKey.{HeldKey}
 use Rattle.ks_tokens.specs.Laws.{AsksFor, EndedTokensAreNotFound, HasEnded, HasValidCaller}
 use Rattle.ks_tokens.specs.ValidTokens.{IsOpened, IsValid}
 use Rattle.ks_tokens.proofs.EndLemmas.{ended_tokens_stay_refused}
-use Rattle.ks_tokens.proofs.TellLemmas.{IsAbout, is_about, tokens_validate_exactly}
+use Rattle.ks_tokens.proofs.TellLemmas.{IsAbout, asked_about, checked_is, is_about, tokens_validate_exactly}
 use Rattle.ks_tokens.proofs.ValidLemmas.{opened_by_one, valid_goes, valid_is}
 
 -- keys open a text once
@@ -53,31 +53,19 @@ never_valid f g call asks token ended lawful on asked moment given later has is 
 
 -- where the caller's token is valid and the subject's is not
 
-about_stops : (S : State) (moment : ℕ) (call : Call) (late : Bool) (caller_text subject_text : Text) (caller : Valid) (why : Why)
+about_stops : (S : State) (moment : ℕ) (call : Call) (late : Bool) (action caller_text subject_text : Text) (caller : Valid) (why : Why)
     → call.caller ≡ Some caller_text → call.subject ≡ Some subject_text → validity everything S moment false caller_text ≡ Go caller → validity everything S moment late subject_text ≡ Stop why
-    → as_caller_about everything S moment call late (told_subject S) ≡ Stop (cause.SubjectToken why)
-unfolding as_caller_about caller_of subject_of
-about_stops S moment call late caller_text subject_text caller why has_caller has_subject caller_goes subject_stops =
+    → asked_about S moment call late action (told_subject S.rows) ≡ Stop (cause.SubjectToken why)
+unfolding caller_of subject_of
+about_stops S moment call late action caller_text subject_text caller why has_caller has_subject caller_goes subject_stops =
     rw (has_caller, has_subject, caller_goes, subject_stops) refl
 
-about_lacks : (S : State) (moment : ℕ) (call : Call) (late : Bool) (caller_text subject_text : Text) (caller : Valid) (lack : Lack)
+about_lacks : (S : State) (moment : ℕ) (call : Call) (late : Bool) (action caller_text subject_text : Text) (caller : Valid) (lack : Lack)
     → call.caller ≡ Some caller_text → call.subject ≡ Some subject_text → validity everything S moment false caller_text ≡ Go caller → validity everything S moment late subject_text ≡ Lacks lack
-    → as_caller_about everything S moment call late (told_subject S) ≡ Lacks lack
-unfolding as_caller_about caller_of subject_of
-about_lacks S moment call late caller_text subject_text caller lack has_caller has_subject caller_goes subject_lacks =
+    → asked_about S moment call late action (told_subject S.rows) ≡ Lacks lack
+unfolding caller_of subject_of
+about_lacks S moment call late action caller_text subject_text caller lack has_caller has_subject caller_goes subject_lacks =
     rw (has_caller, has_subject, caller_goes, subject_lacks) refl
-
-checked_stops : (S : State) (moment : ℕ) (call : Call) (late : Bool) (action text : Text) (why : Cause) → IsAbout S moment call call.command late action (told_subject S) → call.subject ≡ Some text
-    → as_caller_about everything S moment call late (told_subject S) ≡ Stop why → checked everything S moment call ≡ Stop why
-unfolding checked lacking_of room_for
-checked_stops S moment call late action text why about has stops =
-    rw (about.answers, stops, about.subject, about.draws, about.loads, about.lacks, has) refl
-
-checked_lacks : (S : State) (moment : ℕ) (call : Call) (late : Bool) (action text : Text) (lack : Lack) → IsAbout S moment call call.command late action (told_subject S) → call.subject ≡ Some text
-    → as_caller_about everything S moment call late (told_subject S) ≡ Lacks lack → checked everything S moment call ≡ Lacks lack
-unfolding checked lacking_of room_for
-checked_lacks S moment call late action text lack about has lacks =
-    rw (about.answers, lacks, about.subject, about.draws, about.loads, about.lacks, has) refl
 
 pub ended_tokens_are_not_found : EndedTokensAreNotFound
 unfolding answer step_at replay
@@ -89,7 +77,7 @@ ended_tokens_are_not_found f g call asks token ended lawful on asked = (never, �
     S : State
     S = raised (replay g) moment
 
-    about : IsAbout S moment asks asks.command asked.late asked.action (told_subject S)
+    about : IsAbout S moment asks asks.command asked.late asked.action (told_subject S.rows)
     about = is_about S moment asks asks.command asked.late asked.action asked.about
 
     never : (told : BodyOut) → answer g asks ≡ reply.Ok told → ⊥
@@ -102,9 +90,9 @@ ended_tokens_are_not_found f g call asks token ended lawful on asked = (never, �
         absurd (never_valid f g call asks token ended lawful on asked moment asked.text later asked.subject (valid_is S moment asked.late asked.text later is))
     by caller (Stop why) is =
         let goes = valid_goes S moment false caller.text caller.caller caller.is in
-        let stops = about_stops S moment asks asked.late caller.text asked.text caller.caller why caller.given asked.subject goes is in
-        (why, ap (λ (a : Attempt Cause Outcome). reply_of (stepped a)) (checked_stops S moment asks asked.late asked.action asked.text (cause.SubjectToken why) about asked.subject stops))
+        let stops = about_stops S moment asks asked.late asked.action caller.text asked.text caller.caller why caller.given asked.subject goes is in
+        (why, ap (λ (a : Attempt Cause Outcome). reply_of (stepped a)) (checked_is S moment asks asked.late asked.action asked.text (told_subject S.rows) (Stop (cause.SubjectToken why)) about asked.subject stops))
     by caller (Lacks lack) is =
         let goes = valid_goes S moment false caller.text caller.caller caller.is in
-        let lacks = about_lacks S moment asks asked.late caller.text asked.text caller.caller lack caller.given asked.subject goes is in
-        absurd (all_facts (replay g) moment asks lack (ap stepped (checked_lacks S moment asks asked.late asked.action asked.text lack about asked.subject lacks)))
+        let lacks = about_lacks S moment asks asked.late asked.action caller.text asked.text caller.caller lack caller.given asked.subject goes is in
+        absurd (all_facts (replay g) moment asks lack (ap stepped (checked_is S moment asks asked.late asked.action asked.text (told_subject S.rows) (Lacks lack) about asked.subject lacks)))

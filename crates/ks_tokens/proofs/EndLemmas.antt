@@ -17,12 +17,12 @@ use Rattle.ks_machine.specs.declared.command.Command.{Command}
 use Rattle.ks_machine.specs.declared.command.Command.TheVariants as command
 use Rattle.ks_machine.specs.Actions.{identity, requirements}
 use Rattle.ks_machine.specs.Attempts.{Attempt, Go, everything}
-use Rattle.ks_machine.specs.Changes.{apply, ended_by}
+use Rattle.ks_machine.specs.Changes.{apply, effect}
 use Rattle.ks_machine.specs.Fronts.{Front, ◌⊑◌, after, answer, change_of, replay, then}
 use Rattle.ks_machine.specs.Moment.{moment_of}
 use Rattle.ks_machine.specs.Outcomes.{Outcome}
 use Rattle.ks_machine.specs.States.{State, raised}
-use Rattle.ks_machine.specs.Steps.{answered, checked, revoked_subject, step_at, stepped}
+use Rattle.ks_machine.specs.Steps.{checked, own_checks, revoked_subject, step_at, stepped}
 use Rattle.ks_machine.specs.Validity.{Valid, held_lines, holder, validity}
 use Rattle.ks_machine.proofs.FrontLemmas.{changes_are_replayed}
 use Rattle.ks_machine.proofs.RefusedLemmas.{refused_ever_after}
@@ -34,11 +34,11 @@ use Rattle.ks_tokens.proofs.ValidLemmas.{valid_goes}
 -- the change of a call that ended a token
 
 about_revoking : (S : State) (moment : ℕ) (call : Call) (what : Command) → what ≡ command.RevokeToken → IsAbout S moment call what false (identity (codes "revoke_token")) revoked_subject
-unfolding answered requirements
+unfolding own_checks requirements
 about_revoking S moment call what is = subst (λ (c : Command). IsAbout S moment call c false (identity (codes "revoke_token")) revoked_subject) (sym is) of
   where
     of : IsAbout S moment call command.RevokeToken false (identity (codes "revoke_token")) revoked_subject
-    of = record { answers = refl; action_is = refl; subject = refl; draws = refl; loads = refl; lacks = refl }
+    of = record { own_is = λ who. refl; action_is = refl; subject = refl; late_is = refl; draws = refl; loads = refl; lacks = refl }
 
 one_token : (S : State) (moment : ℕ) (text other : Text) (a b : Valid) → Some text ≡ Some other → validity everything S moment false text ≡ Go a → validity everything S moment false other ≡ Go b → a ≡ b
 one_token S moment text other a b same first second =
@@ -63,7 +63,7 @@ ended_by_call f call token ended =
 
 revoked_by : (S : State) (moment issued : ℕ) (payload : Payload) → issued ≤ moment
     → is_revoked (apply S moment (change.RevokeToken payload.audit)).events (holder (apply S moment (change.RevokeToken payload.audit)).rows payload) issued ≡ true
-unfolding apply ended_by holder
+unfolding apply effect holder
 revoked_by S moment issued payload past =
     let event : EventRow = record { what = revoke.Audit payload.audit; moment = moment } in
     let rows = (apply S moment (change.RevokeToken payload.audit)).rows in

@@ -1,4 +1,4 @@
-use Rattle.ks_plan.proofs.DemandLemmas.{bytes_for_update, folder_for_load}
+use Rattle.ks_plan.proofs.AskedLemmas.{bytes_for_update, folder_for_load}
 use Rattle.ks_plan.proofs.calls.own_checks.Goals as goal
 
 pub update-requires : goal.update-requires

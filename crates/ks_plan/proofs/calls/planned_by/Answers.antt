@@ -1,7 +1,7 @@
 use Rattle.std.proofs.Common.{subst}
 use Rattle.ks_machine.specs.Actions.{Requirements}
 use Rattle.ks_checks.specs.Plans.{HasBytes}
-use Rattle.ks_plan.proofs.calls.by_demands.Goals as goal
+use Rattle.ks_plan.proofs.calls.planned_by.Goals as goal
 
 pub own_checks-requires-clause-bytes : goal.own_checks-requires-clause-bytes
 own_checks-requires-clause-bytes c =
