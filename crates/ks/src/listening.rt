@@ -4,27 +4,12 @@ ghost use Rattle.std.specs.Prelude.{◌<◌, IfOk, length};
 use ks_base::Memory;
 use ks_outside::Folder;
 use ks_pool::{Log, Pool, RealDesk};
-use ks_words::{Places, Words};
 use mio::net::TcpListener;
 use std::io;
 use std::io::ErrorKind;
 use std::net::{Net, ToSocketAddrs};
 use std::rt::Clock;
 use std::sync::Wait;
-
-/// What the command serves connections with, if it listens at an address.
-pub fn serving(command: &Words) -> Option<&Places> {
-    match command {
-        Words::Serve(places, _connections) => Some(places),
-        Words::Check => None,
-        Words::Talk(_) => None,
-        Words::Setup(_) => None,
-        Words::Rotate(_, _) => None,
-        Words::Password(_) => None,
-        Words::Drill(_, _) => None,
-        Words::Usage => None,
-    }
-}
 
 /// A listener at the first address of these that can be listened at, with the longest queue that the system allows.
 fn bind<R: Net>(rt: &R, address: &str) -> io::Result<TcpListener> {

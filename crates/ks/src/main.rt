@@ -9,9 +9,9 @@ mod book;
 mod listening;
 mod log_file;
 mod modes;
-mod named;
 mod opening_file;
 mod standard_streams;
+mod teller;
 mod threads;
 
 use book::{book_of, path_of_book};
@@ -21,16 +21,16 @@ use ks_outside::{Folder, RealSink, RealSource};
 use ks_pool::{Log, Pool, RealDesk};
 use ks_top::{Ended, run};
 use ks_words::{Words, read_words};
-use listening::{desks, listen, serving};
+use listening::{desks, listen};
 use log_file::open_log;
 use modes::may_open;
-use named::{Named, path_of};
 use opening_file::OpeningFile;
 use std::env;
 use std::fs::File;
 use std::io::ErrorKind;
 use std::process::ExitCode;
 use std::rt::Env;
+use teller::{Teller, path_of};
 use threads::can_run;
 
 /// The words behind the program's name.
@@ -78,7 +78,7 @@ fn out_of_threads<R: Eprint>(rt: &R, workers: u32) -> ExitCode {
 
 /// Says that there was no memory to begin.
 fn out_of_memory<R: Eprint>(rt: &R) -> ExitCode {
-    named::tell(rt, &Fault::Memory);
+    teller::tell(rt, &Fault::Memory);
     ExitCode::from(Fault::Memory.status())
 }
 
@@ -108,13 +108,13 @@ fn opened(rt: &HostRuntime, path: &str) -> Option<File> {
 
 fn main(rt: HostRuntime) -> ExitCode {
     if !standard_streams::hold() {
-        named::tell(&rt, &Fault::Write);
+        teller::tell(&rt, &Fault::Write);
         return ExitCode::from(Fault::Write.status());
     }
     let words = match words(&rt) {
         Ok(words) => words,
         Err(fault) => {
-            named::tell(&rt, &fault);
+            teller::tell(&rt, &fault);
             return ExitCode::from(fault.status());
         }
     };
@@ -124,7 +124,7 @@ fn main(rt: HostRuntime) -> ExitCode {
     let file = path_of(command.file());
     let folder = path_of(command.folder());
     let address = path_of(command.address());
-    let workers = match serving(&command) {
+    let workers = match command.serving() {
         Some(places) => places.workers,
         None => 1,
     };
@@ -144,7 +144,7 @@ fn main(rt: HostRuntime) -> ExitCode {
         Err(status) => return status,
     };
     let mut source = OpeningFile::new(opened);
-    let listening = match serving(&command) {
+    let listening = match command.serving() {
         Some(_) => {
             modes::tell(&rt, file, book.as_str(), folder);
             Some(listen(&rt, address, workers, log))
@@ -178,7 +178,7 @@ fn main(rt: HostRuntime) -> ExitCode {
         keeper,
     );
     if let Some(fault) = &fault {
-        let named = Named {
+        let teller = Teller {
             file,
             book: book.as_str(),
             folder,
@@ -188,8 +188,8 @@ fn main(rt: HostRuntime) -> ExitCode {
             is_open: state.is_some(),
         };
         // Where there is no memory for the place, the status stays, and the fault is told without it.
-        if named.tell(&rt, fault).is_err() {
-            named::tell(&rt, fault);
+        if teller.tell(&rt, fault).is_err() {
+            teller::tell(&rt, fault);
         }
     }
     ExitCode::from(status)

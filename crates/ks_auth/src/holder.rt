@@ -37,7 +37,7 @@ pub fn trust_named<'a>(tables: &Tables<'a>, payload: &Payload) -> Option<&'a Tru
 }
 
 /// The domain of the token's scope, or that of its scope's project.
-fn scope_domain(tables: &Tables, payload: &Payload) -> Option<Id>
+pub fn scope_domain(tables: &Tables, payload: &Payload) -> Option<Id>
     ensures { result ≡ scope_domain (rows_told tables.now) payload.now }
 {
     match (&payload.domain, &payload.project) {

@@ -16,6 +16,7 @@ mod verdict;
 
 pub use credential::cred_in_payload;
 pub use facts::Facts;
+pub use holder::scope_domain;
 pub use roles::{closure, has_cred_roles, is_system, roles_at, roles_to_give};
 pub use scope::{acts_as, is_domain_on, is_expired, is_project_on, is_user_on};
 pub use secrets::secret_of_draw;

@@ -16,11 +16,11 @@ use std::marker::Model;
 
 /// A target of a set.
 #[derive(Drop)]
-struct Place {
+struct TargetRow {
     target: Target,
 }
 
-impl Model for Place {
+impl Model for TargetRow {
     ghost use Rattle.ks_base.specs.declared.grants.Target.{Target};
 
     ghost Value = { Target };
@@ -28,7 +28,7 @@ impl Model for Place {
     ghost view = { λ place. place.target };
 }
 
-impl Ordered for Place {
+impl Ordered for TargetRow {
     ghost use Rattle.ks_base.specs.Orders.{target_cmp};
     ghost use Rattle.ks_base.specs.OrderLaws.{target_total, target_exact};
 
@@ -38,7 +38,7 @@ impl Ordered for Place {
 
     ghost exact = { target_exact };
 
-    fn compare(&self, other: &Place) -> Ordering {
+    fn compare(&self, other: &TargetRow) -> Ordering {
         self.target.compare(&other.target)
     }
 }
@@ -116,7 +116,7 @@ fn rows_ascend(tree: &Tree, id: &Id)
 
 /// The targets of the grants to these actors.
 #[tactic(auto, unfolding(crate::specs::Targets::with_actors))]
-fn places_of(alloc: Global, grants: &Grants, actors: &Actors) -> Result<RowSet<Place>, Memory>
+fn places_of(alloc: Global, grants: &Grants, actors: &Actors) -> Result<RowSet<TargetRow>, Memory>
     ensures { IfOk result (λ places. places ≡ with_actors grants.now (actors_in actors.now) []) }
 {
     let mut places = RowSet::new(alloc);
@@ -129,7 +129,7 @@ fn places_of(alloc: Global, grants: &Grants, actors: &Actors) -> Result<RowSet<P
 }
 
 /// Adds the targets of the grants to the actor.
-fn add_places(grants: &Grants, actor: &Actor, places: &mut RowSet<Place>) -> Result<(), Memory>
+fn add_places(grants: &Grants, actor: &Actor, places: &mut RowSet<TargetRow>) -> Result<(), Memory>
     ensures { OnOk result (places.new ≡ with_actor grants.now actor.now places.old) }
 {
     match grants.of_actor(actor) {
@@ -140,11 +140,11 @@ fn add_places(grants: &Grants, actor: &Actor, places: &mut RowSet<Place>) -> Res
 
 /// Adds the targets of these grants.
 #[tactic(auto, unfolding(crate::specs::Targets::with_targets))]
-fn add_targets(rows: &[Boxed<GrantRow>], places: &mut RowSet<Place>) -> Result<(), Memory>
+fn add_targets(rows: &[Boxed<GrantRow>], places: &mut RowSet<TargetRow>) -> Result<(), Memory>
     ensures { OnOk result (places.new ≡ with_targets rows.now places.old) }
 {
     for row in rows {
-        let _new = places.add(Place {
+        let _new = places.add(TargetRow {
             target: row.get().target,
         })?;
     }
@@ -152,7 +152,7 @@ fn add_targets(rows: &[Boxed<GrantRow>], places: &mut RowSet<Place>) -> Result<(
 }
 
 /// Those of the places that stand.
-fn standing(alloc: Global, tree: &Tree, places: &[Boxed<Place>]) -> Result<Vec<Target>, Memory>
+fn standing(alloc: Global, tree: &Tree, places: &[Boxed<TargetRow>]) -> Result<Vec<Target>, Memory>
     ensures { IfOk result (λ found. found.items ≡ filter (is_standing tree.now) places.now) }
 {
     let mut found = Vec::new(alloc);

@@ -11,8 +11,8 @@ use Rattle.std.proofs.lemmas.List.Sums.{fold-append, position_or_len_is, list_al
 use Rattle.std.proofs.lemmas.Bool.{and_from}
 use Rattle.httparse.specs.Grammar.{is_token_byte, is_token, is_uri_byte, is_value_byte, AllPass, IsToken, LineEnd, crlf, lf, print_end, print_blank, print_version, Field, IsField, print_field, RequestHead, IsRequestHead, print_request}
 use Rattle.httparse.proofs.GrammarLemmas.{print_request-append, cons-append}
-use Rattle.ks_http.specs.declared.lines.Place.{Place}
-use Rattle.ks_http.specs.declared.lines.Place.TheVariants.{Start, Fields, Refused}
+use Rattle.ks_http.specs.declared.lines.HeadPlace.{HeadPlace}
+use Rattle.ks_http.specs.declared.lines.HeadPlace.TheVariants.{Start, Fields, Refused}
 use Rattle.ks_http.specs.Lines.{behind_byte, behind_line, behind_first, behind_method, behind_parts, behind_field, behind_one, without_return, cut_at, is_word, is_version, is_known_version, is_name_and_value, is_field_line, reached}
 use Rattle.ks_http.proofs.ScanLemmas.{at, behind_other, behind_feed, clear_line}
 use Rattle.ks_http.proofs.Cuts.{cut_is}
@@ -69,13 +69,13 @@ return_dropped text =
     let n : length (text ++ 13 ∷ []) - 1 ≡ length text = omega (arith, length-append text (13 ∷ [])) in
     rw n (rw (get_or_at text 13 [] 0 (length text) refl) (take_at text (13 ∷ []) (length text) refl))
 
-behind_same : (place : Place) (line text : List ℕ) → without_return line ≡ without_return text → behind_line place line ≡ behind_line place text
+behind_same : (place : HeadPlace) (line text : List ℕ) → without_return line ≡ without_return text → behind_line place line ≡ behind_line place text
 unfolding behind_line
 behind_same Start line text e = rw e refl
 behind_same (Fields count) line text e = rw e refl
 behind_same (Refused cause) line text e = refl
 
-whole_line : (place : Place) (text : List ℕ) (end : LineEnd) → AllPass is_value_byte text
+whole_line : (place : HeadPlace) (text : List ℕ) (end : LineEnd) → AllPass is_value_byte text
     → fold behind_byte (at place []) (text ++ print_end end) ≡ at (behind_line place text) []
 whole_line place text lf all =
     fold-append behind_byte (at place []) text (10 ∷ [])

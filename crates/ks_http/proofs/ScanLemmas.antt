@@ -8,29 +8,29 @@ use Rattle.std.proofs.lemmas.Bool.{cases_lt}
 use Rattle.std.proofs.lemmas.Bool.Decides.{nat_tests}
 use Rattle.ks_base.specs.declared.limits.TheConstants.{HEAD_BYTES}
 use Rattle.ks_http.specs.declared.cause.HttpCause.{HttpCause}
-use Rattle.ks_http.specs.declared.lines.Place.{Place}
-use Rattle.ks_http.specs.declared.lines.Place.TheVariants.{Start, Fields, Refused}
+use Rattle.ks_http.specs.declared.lines.HeadPlace.{HeadPlace}
+use Rattle.ks_http.specs.declared.lines.HeadPlace.TheVariants.{Start, Fields, Refused}
 use Rattle.ks_http.specs.Lines.{Reached, start, behind_byte, behind_line, reached, cut_at, may_go_on, full_cause, cause_behind, settled_cause}
 use Rattle.ks_http.proofs.Cuts.{cut_some, cut_none}
 
-abbrev pub at : Place → List ℕ → Reached
+abbrev pub at : HeadPlace → List ℕ → Reached
 at place line = record { place = place; line = line }
 
-pub behind_other : (place : Place) (line : List ℕ) (b : ℕ) → (b == 10) ≡ false → behind_byte (at place line) b ≡ at place (line ++ b ∷ [])
+pub behind_other : (place : HeadPlace) (line : List ℕ) (b : ℕ) → (b == 10) ≡ false → behind_byte (at place line) b ≡ at place (line ++ b ∷ [])
 unfolding behind_byte
 behind_other place line b other = rw other refl
 
-pub behind_feed : (place : Place) (line : List ℕ) → behind_byte (at place line) 10 ≡ at (behind_line place line) []
+pub behind_feed : (place : HeadPlace) (line : List ℕ) → behind_byte (at place line) 10 ≡ at (behind_line place line) []
 unfolding behind_byte
 behind_feed place line = refl
 
-pub clear_line : (place : Place) (before line : List ℕ) → All (λ b. (b == 10) ≡ false) line → fold behind_byte (at place before) line ≡ at place (before ++ line)
+pub clear_line : (place : HeadPlace) (before line : List ℕ) → All (λ b. (b == 10) ≡ false) line → fold behind_byte (at place before) line ≡ at place (before ++ line)
 clear_line place before [] clear = ap (at place) (sym (append-nil before))
 clear_line place before (b ∷ line) clear =
     ap (λ r. fold behind_byte r line) (behind_other place before b (clear 0 0 (omega arith)))
     ∙ (clear_line place (before ++ b ∷ []) line (λ k d lt. clear (suc k) d (omega arith)) ∙ ap (at place) (append_assoc before (b ∷ []) line))
 
-pub line_more : (place : Place) (rest line behind : List ℕ) → cut_at 10 rest ≡ Some (line, behind)
+pub line_more : (place : HeadPlace) (rest line behind : List ℕ) → cut_at 10 rest ≡ Some (line, behind)
     → fold behind_byte (at place []) rest ≡ fold behind_byte (at (behind_line place line) []) behind
 line_more place rest line behind e =
     let c = cut_some 10 rest line behind e in
@@ -39,7 +39,7 @@ line_more place rest line behind e =
     ∙ (ap (λ r. fold behind_byte r (10 ∷ behind)) (clear_line place [] line c.clear)
     ∙ ap (λ r. fold behind_byte r behind) (behind_feed place line)))
 
-pub line_last : (place : Place) (rest : List ℕ) → cut_at 10 rest ≡ None → fold behind_byte (at place []) rest ≡ at place rest
+pub line_last : (place : HeadPlace) (rest : List ℕ) → cut_at 10 rest ≡ None → fold behind_byte (at place []) rest ≡ at place rest
 line_last place rest e = clear_line place [] rest (cut_none 10 rest e)
 
 refused_line : (cause : HttpCause) (line : List ℕ) → behind_line (Refused cause) line ≡ Refused cause
@@ -56,22 +56,22 @@ stays_refused cause r [] e = e
 stays_refused cause r (b ∷ bytes) e =
     stays_refused cause (behind_byte r b) bytes (ap (λ p. (behind_byte (at p r.line) b).place) e ∙ refused_byte cause r.line b (b == 10) refl)
 
-pub full_short : (count : ℕ) (place : Place) (line : List ℕ) → count < HEAD_BYTES → full_cause count place line ≡ None
+pub full_short : (count : ℕ) (place : HeadPlace) (line : List ℕ) → count < HEAD_BYTES → full_cause count place line ≡ None
 unfolding full_cause
 full_short count place line lt = let t : nat_lt count HEAD_BYTES ≡ true = grind (arith, nat_tests) in rw t refl
 
-pub short_refused : (count : ℕ) (place : Place) (line : List ℕ) (cause : HttpCause) → count < HEAD_BYTES → cause_behind count place line ≡ Some cause → place ≡ Refused cause
+pub short_refused : (count : ℕ) (place : HeadPlace) (line : List ℕ) (cause : HttpCause) → count < HEAD_BYTES → cause_behind count place line ≡ Some cause → place ≡ Refused cause
 unfolding cause_behind
 short_refused count Start line cause lt e = let n = full_short count Start line lt in cc
 short_refused count (Fields k) line cause lt e = let n = full_short count (Fields k) line lt in cc
 short_refused count (Refused c) line cause lt e = cc
 
-full_some : (place : Place) (line : List ℕ) (b : Bool) → may_go_on place line ≡ b → (full_cause HEAD_BYTES place line ≡ None → ⊥)
+full_some : (place : HeadPlace) (line : List ℕ) (b : Bool) → may_go_on place line ≡ b → (full_cause HEAD_BYTES place line ≡ None → ⊥)
 unfolding full_cause
 full_some place line true e n = let f = rw e at n in cc
 full_some place line false e n = let f = rw e at n in cc
 
-never_none : (place : Place) (line : List ℕ) → cause_behind HEAD_BYTES place line ≡ None → ⊥
+never_none : (place : HeadPlace) (line : List ℕ) → cause_behind HEAD_BYTES place line ≡ None → ⊥
 unfolding cause_behind
 never_none Start line n = full_some Start line (may_go_on Start line) refl n
 never_none (Fields k) line n = full_some (Fields k) line (may_go_on (Fields k) line) refl n

@@ -8,8 +8,8 @@ use Rattle.std.proofs.lemmas.List.Sums.{fold-append}
 use Rattle.httparse.specs.Grammar.{HasNoRequest, print_request}
 use Rattle.ks_base.specs.declared.limits.TheConstants.{HEAD_BYTES}
 use Rattle.ks_http.specs.declared.cause.HttpCause.{HttpCause}
-use Rattle.ks_http.specs.declared.lines.Place.{Place}
-use Rattle.ks_http.specs.declared.lines.Place.TheVariants.{Start, Fields, Refused}
+use Rattle.ks_http.specs.declared.lines.HeadPlace.{HeadPlace}
+use Rattle.ks_http.specs.declared.lines.HeadPlace.TheVariants.{Start, Fields, Refused}
 use Rattle.ks_http.specs.Lines.{Reached, start, behind_byte, reached, cause_behind, settled_cause, full_cause}
 use Rattle.ks_http.specs.Next.{HasNoHead, IsCut, in_head}
 use Rattle.ks_http.specs.steps.Buffers.{IsUndecided}
@@ -72,7 +72,7 @@ no_head_more front fresh none clear = λ head after begins.
     ]
 
 -- nor is one more line refused
-still_none : (count more : ℕ) (place : Place) (line longer : List ℕ) → cause_behind count place line ≡ None → more < HEAD_BYTES → cause_behind more place longer ≡ None
+still_none : (count more : ℕ) (place : HeadPlace) (line longer : List ℕ) → cause_behind count place line ≡ None → more < HEAD_BYTES → cause_behind more place longer ≡ None
 unfolding cause_behind
 still_none count more Start line longer none lt = full_short more Start longer lt
 still_none count more (Fields k) line longer none lt = full_short more (Fields k) longer lt

@@ -10,8 +10,8 @@ use Rattle.httparse.specs.Grammar.{is_token, is_uri_byte, is_value_byte}
 use Rattle.ks_base.specs.declared.limits.TheConstants.{HEAD_BYTES, HEAD_FIELDS}
 use Rattle.ks_http.specs.declared.cause.HttpCause.{HttpCause}
 use Rattle.ks_http.specs.declared.cause.HttpCause.TheVariants.{Malformed, HeadTooLarge, Version}
-use Rattle.ks_http.specs.declared.lines.Place.{Place}
-use Rattle.ks_http.specs.declared.lines.Place.TheVariants.{Start, Fields, Refused}
+use Rattle.ks_http.specs.declared.lines.HeadPlace.{HeadPlace}
+use Rattle.ks_http.specs.declared.lines.HeadPlace.TheVariants.{Start, Fields, Refused}
 
 -- what stands before a place and behind it
 abbrev pub sides : List ℕ → ℕ → List ℕ × List ℕ
@@ -41,7 +41,7 @@ unfoldable pub is_known_version : List ℕ → Bool
 is_known_version text = bytes_eq text (codes "HTTP/1.0") || bytes_eq text (codes "HTTP/1.1")
 
 -- behind a first line of these three parts
-unfoldable pub behind_parts : List ℕ → List ℕ → List ℕ → Place
+unfoldable pub behind_parts : List ℕ → List ℕ → List ℕ → HeadPlace
 behind_parts method target version =
     if is_word method && (is_word target && is_version version)
     then (if is_known_version version
@@ -49,17 +49,17 @@ behind_parts method target version =
     else Refused Version)
     else Refused Malformed
 
-unfoldable pub behind_method : List ℕ → Option (List ℕ × List ℕ) → Place
+unfoldable pub behind_method : List ℕ → Option (List ℕ × List ℕ) → HeadPlace
 behind_method method None = Refused Malformed
 behind_method method (Some cut) = behind_parts method cut.0 cut.1
 
 -- behind a first line of one part
-unfoldable pub behind_one : List ℕ → Place
+unfoldable pub behind_one : List ℕ → HeadPlace
 behind_one [] = Start
 behind_one (b ∷ line) = Refused Malformed
 
 -- request-line = method SP target SP version; empty lines may stand before it
-unfoldable pub behind_first : List ℕ → Option (List ℕ × List ℕ) → Place
+unfoldable pub behind_first : List ℕ → Option (List ℕ × List ℕ) → HeadPlace
 behind_first line None = behind_one line
 behind_first line (Some cut) = behind_method cut.0 (cut_at 32 cut.1)
 
@@ -72,21 +72,21 @@ unfoldable pub is_field_line : List ℕ → Bool
 is_field_line line = is_name_and_value (cut_at 58 line)
 
 -- behind one more field line; a head has 64 at most
-unfoldable pub behind_field : ℕ → List ℕ → Place
+unfoldable pub behind_field : ℕ → List ℕ → HeadPlace
 behind_field count line =
     if is_field_line line
     then (if nat_lt count HEAD_FIELDS then Fields (count + 1) else Refused HeadTooLarge)
     else Refused Malformed
 
 -- behind one more line, which is given without its line feed
-unfoldable pub behind_line : Place → List ℕ → Place
+unfoldable pub behind_line : HeadPlace → List ℕ → HeadPlace
 behind_line Start line = behind_first (without_return line) (cut_at 32 (without_return line))
 behind_line (Fields count) line = behind_field count (without_return line)
 behind_line (Refused cause) line = Refused cause
 
 -- the place behind the last line feed, and the line that has begun there
 pub record Reached : Type 0 where
-  pub place : Place
+  pub place : HeadPlace
   pub line : List ℕ
 
 abbrev pub start : Reached
@@ -120,19 +120,20 @@ is_begun_first line (Some cut) = is_token cut.0 && is_begun_target cut.1 (cut_at
 unfoldable pub is_begun_field : List ℕ → Bool
 is_begun_field line = is_blank (without_return line) || (is_token line || is_field_line (without_return line))
 
-unfoldable pub may_go_on : Place → List ℕ → Bool
+-- a line may still become one of a head
+unfoldable pub may_go_on : HeadPlace → List ℕ → Bool
 may_go_on Start line = is_begun_first line (cut_at 32 line)
 may_go_on (Fields count) line = is_begun_field line
 may_go_on (Refused cause) line = false
 
 -- so many bytes that end no head: as many as a head may have, or more are awaited
-unfoldable pub full_cause : ℕ → Place → List ℕ → Option HttpCause
+unfoldable pub full_cause : ℕ → HeadPlace → List ℕ → Option HttpCause
 full_cause count place line =
     if nat_lt count HEAD_BYTES then None
     else if may_go_on place line then Some HeadTooLarge
     else Some Malformed
 
-unfoldable pub cause_behind : ℕ → Place → List ℕ → Option HttpCause
+unfoldable pub cause_behind : ℕ → HeadPlace → List ℕ → Option HttpCause
 cause_behind count (Refused cause) line = Some cause
 cause_behind count Start line = full_cause count Start line
 cause_behind count (Fields fields) line = full_cause count (Fields fields) line

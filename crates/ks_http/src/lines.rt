@@ -10,7 +10,7 @@ use ks_base::limits::HEAD_FIELDS;
 
 /// Where the lines of a head have come to.
 #[derive(Clone, Copy)]
-pub enum Place {
+pub enum HeadPlace {
     /// Before the first line, behind any number of empty ones.
     Start,
     /// Behind the first line and so many fields.
@@ -115,49 +115,49 @@ pub fn is_utf8(text: &[u8]) -> bool
 }
 
 #[tactic(auto, unfolding(crate::specs::Lines::behind_parts))]
-fn behind_parts(method: &[u8], target: &[u8], version: &[u8]) -> Place
+fn behind_parts(method: &[u8], target: &[u8], version: &[u8]) -> HeadPlace
     ensures { result ≡ behind_parts method.now target.now version.now }
 {
     if !is_word(method) {
-        return Place::Refused(HttpCause::Malformed);
+        return HeadPlace::Refused(HttpCause::Malformed);
     }
     if !is_word(target) {
-        return Place::Refused(HttpCause::Malformed);
+        return HeadPlace::Refused(HttpCause::Malformed);
     }
     if !is_version(version) {
-        return Place::Refused(HttpCause::Malformed);
+        return HeadPlace::Refused(HttpCause::Malformed);
     }
     if !is_known_version(version) {
-        return Place::Refused(HttpCause::Version);
+        return HeadPlace::Refused(HttpCause::Version);
     }
     if !is_token(method) {
-        return Place::Refused(HttpCause::Malformed);
+        return HeadPlace::Refused(HttpCause::Malformed);
     }
     if !is_utf8(target) {
-        return Place::Refused(HttpCause::Malformed);
+        return HeadPlace::Refused(HttpCause::Malformed);
     }
-    Place::Fields(0)
+    HeadPlace::Fields(0)
 }
 
 #[tactic(auto, unfolding(crate::specs::Lines::behind_one))]
-fn behind_one(line: &[u8]) -> Place
+fn behind_one(line: &[u8]) -> HeadPlace
     ensures { result ≡ behind_one line.now }
 {
     match line {
-        [] => Place::Start,
-        _ => Place::Refused(HttpCause::Malformed),
+        [] => HeadPlace::Start,
+        _ => HeadPlace::Refused(HttpCause::Malformed),
     }
 }
 
 #[tactic(auto, unfolding(crate::specs::Lines::behind_first, crate::specs::Lines::behind_method))]
-fn behind_first(line: &[u8]) -> Place
+fn behind_first(line: &[u8]) -> HeadPlace
     ensures { result ≡ behind_first line.now (cut_at 32 line.now) }
 {
     let Some((method, rest)) = cut(line, b' ') else {
         return behind_one(line);
     };
     let Some((target, version)) = cut(rest, b' ') else {
-        return Place::Refused(HttpCause::Malformed);
+        return HeadPlace::Refused(HttpCause::Malformed);
     };
     behind_parts(method, target, version)
 }
@@ -176,30 +176,30 @@ fn is_field_line(line: &[u8]) -> bool
 }
 
 #[tactic(auto, unfolding(crate::specs::Lines::behind_field))]
-fn behind_field(count: usize, line: &[u8]) -> Place
+fn behind_field(count: usize, line: &[u8]) -> HeadPlace
     ensures { result ≡ behind_field count line.now }
 {
     if !is_field_line(line) {
-        return Place::Refused(HttpCause::Malformed);
+        return HeadPlace::Refused(HttpCause::Malformed);
     }
     if count >= HEAD_FIELDS {
-        return Place::Refused(HttpCause::HeadTooLarge);
+        return HeadPlace::Refused(HttpCause::HeadTooLarge);
     }
-    Place::Fields(count + 1)
+    HeadPlace::Fields(count + 1)
 }
 
-impl Place {
+impl HeadPlace {
     ghost use Rattle.ks_http.specs.Lines.{behind_line};
 
     /// Behind one more line, which is given without its line feed.
     #[tactic(auto, unfolding(crate::specs::Lines::behind_line))]
-    pub fn behind(self, line: &[u8]) -> Place
+    pub fn behind(self, line: &[u8]) -> HeadPlace
         ensures { result ≡ behind_line self line.now }
     {
         match self {
-            Place::Start => behind_first(without_return(line)),
-            Place::Fields(count) => behind_field(count, without_return(line)),
-            Place::Refused(_) => self,
+            HeadPlace::Start => behind_first(without_return(line)),
+            HeadPlace::Fields(count) => behind_field(count, without_return(line)),
+            HeadPlace::Refused(_) => self,
         }
     }
 }
@@ -272,12 +272,12 @@ fn is_begun_field(line: &[u8]) -> bool
 
 /// A line has begun that may go on to one that a head has at this place.
 #[tactic(auto, unfolding(crate::specs::Lines::may_go_on))]
-pub fn may_go_on(place: Place, line: &[u8]) -> bool
+pub fn may_go_on(place: HeadPlace, line: &[u8]) -> bool
     ensures { result ≡ may_go_on place line.now }
 {
     match place {
-        Place::Start => is_begun_first(line),
-        Place::Fields(_) => is_begun_field(line),
-        Place::Refused(_) => false,
+        HeadPlace::Start => is_begun_first(line),
+        HeadPlace::Fields(_) => is_begun_field(line),
+        HeadPlace::Refused(_) => false,
     }
 }

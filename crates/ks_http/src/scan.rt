@@ -3,13 +3,13 @@ ghost use Rattle.ks_base.specs.declared.limits.TheConstants.{HEAD_BYTES};
 ghost use Rattle.ks_http.specs.Lines.{reached, full_cause, cause_behind, settled_cause};
 
 use crate::cause::HttpCause;
-use crate::lines::{Place, cut, may_go_on};
+use crate::lines::{HeadPlace, cut, may_go_on};
 use ks_base::limits::HEAD_BYTES;
 
 /// Where the lines of some bytes have come to, and the line that has begun there.
 #[derive(Clone, Copy)]
 struct Begun<'a> {
-    place: Place,
+    place: HeadPlace,
     line: &'a [u8],
 }
 
@@ -17,7 +17,7 @@ fn reach(bytes: &[u8]) -> Begun<'_>
     ensures place { result.place ≡ (reached bytes.now).place }
     ensures line { result.line.now ≡ (reached bytes.now).line }
 {
-    let mut place = Place::Start;
+    let mut place = HeadPlace::Start;
     let mut rest = bytes;
     'lines: while let Some((line, behind)) = cut(rest, b'\n') {
         place = place.behind(line);
@@ -27,7 +27,7 @@ fn reach(bytes: &[u8]) -> Begun<'_>
 }
 
 #[tactic(auto, unfolding(crate::specs::Lines::full_cause))]
-fn full_cause(count: usize, place: Place, line: &[u8]) -> Option<HttpCause>
+fn full_cause(count: usize, place: HeadPlace, line: &[u8]) -> Option<HttpCause>
     ensures { result ≡ full_cause count place line.now }
 {
     if count < HEAD_BYTES {
@@ -40,12 +40,12 @@ fn full_cause(count: usize, place: Place, line: &[u8]) -> Option<HttpCause>
 }
 
 #[tactic(auto, unfolding(crate::specs::Lines::cause_behind))]
-fn cause_behind(count: usize, place: Place, line: &[u8]) -> Option<HttpCause>
+fn cause_behind(count: usize, place: HeadPlace, line: &[u8]) -> Option<HttpCause>
     ensures { result ≡ cause_behind count place line.now }
 {
     match place {
-        Place::Refused(cause) => Some(cause),
-        Place::Start | Place::Fields(_) => full_cause(count, place, line),
+        HeadPlace::Refused(cause) => Some(cause),
+        HeadPlace::Start | HeadPlace::Fields(_) => full_cause(count, place, line),
     }
 }
 

@@ -7,7 +7,7 @@ use ks_base::{DomainRow, GroupRow, Id, ProjectRow, RoleRow, Row, Text};
 use ks_written::WrittenUser;
 
 /// A row with a name that no other row of its domain has, or none at all where it lies in no domain.
-pub(crate) trait Named: Row {
+pub(crate) trait NameAndDomain: Row {
     ghost named: { Self → NamedRow };
 
     fn domain(&self) -> Option<Id>
@@ -17,7 +17,7 @@ pub(crate) trait Named: Row {
         ensures { result.now ≡ (named self.now).name };
 }
 
-impl Named for DomainRow {
+impl NameAndDomain for DomainRow {
     ghost named = { domain_named };
 
     fn domain(&self) -> Option<Id> {
@@ -29,7 +29,7 @@ impl Named for DomainRow {
     }
 }
 
-impl Named for ProjectRow {
+impl NameAndDomain for ProjectRow {
     ghost named = { project_named };
 
     fn domain(&self) -> Option<Id> {
@@ -41,7 +41,7 @@ impl Named for ProjectRow {
     }
 }
 
-impl Named for WrittenUser {
+impl NameAndDomain for WrittenUser {
     ghost named = { user_named };
 
     fn domain(&self) -> Option<Id> {
@@ -53,7 +53,7 @@ impl Named for WrittenUser {
     }
 }
 
-impl Named for GroupRow {
+impl NameAndDomain for GroupRow {
     ghost named = { group_named };
 
     fn domain(&self) -> Option<Id> {
@@ -65,7 +65,7 @@ impl Named for GroupRow {
     }
 }
 
-impl Named for RoleRow {
+impl NameAndDomain for RoleRow {
     ghost named = { role_named };
 
     fn domain(&self) -> Option<Id> {
@@ -83,7 +83,7 @@ fn has_id<R: Row>(row: &R, id: &Id) -> bool
     *row.id() == *id
 }
 
-fn in_one_domain<R: Named>(row: &R, other: &R) -> bool
+fn in_one_domain<R: NameAndDomain>(row: &R, other: &R) -> bool
     ensures { result ≡ in_one_domain (R.named row.now).domain (R.named other.now).domain }
 {
     match (row.domain(), other.domain()) {
@@ -93,7 +93,7 @@ fn in_one_domain<R: Named>(row: &R, other: &R) -> bool
     }
 }
 
-fn has_name<R: Named>(row: &R, other: &R) -> bool
+fn has_name<R: NameAndDomain>(row: &R, other: &R) -> bool
     ensures { result ≡ has_name R.named row.now other.now }
 {
     in_one_domain(row, other) && row.name() == other.name()
@@ -114,7 +114,7 @@ pub(crate) fn first_row<'a, R: Row>(rows: &'a [R], id: &Id) -> Option<&'a R>
     rows.iter().find(|row| has_id(*row, id))
 }
 
-fn name_place<R: Named>(rows: &[R], row: &R) -> Option<usize>
+fn name_place<R: NameAndDomain>(rows: &[R], row: &R) -> Option<usize>
     ensures place { result ≡ position (has_name R.named row.now) rows.now }
     ensures within { IfSome result (λ place. place < length rows.now) }
 {
@@ -134,7 +134,7 @@ fn next_with_id<R: Row>(rows: &[R], at: usize, id: &Id) -> Option<usize>
 }
 
 /// The place of the next row with the name of this one.
-fn next_with_name<R: Named>(rows: &[R], at: usize, row: &R) -> Option<usize>
+fn next_with_name<R: NameAndDomain>(rows: &[R], at: usize, row: &R) -> Option<usize>
     requires { at < length rows.now }
     ensures { result ≡ next_place (has_name R.named row.now) at rows.now }
 {
@@ -155,7 +155,7 @@ pub(crate) fn id_meeting<R: Row>(rows: &[R], id: &Id) -> Option<(usize, usize)>
 }
 
 /// The places of the row with the id, and of the next one with its name.
-pub(crate) fn name_meeting<R: Named>(rows: &[R], id: &Id) -> Option<(usize, usize)>
+pub(crate) fn name_meeting<R: NameAndDomain>(rows: &[R], id: &Id) -> Option<(usize, usize)>
     ensures { result ≡ name_meeting R.key R.named id.now rows.now }
 {
     let first = first_place(rows, id)?;

@@ -6,7 +6,7 @@ ghost use Rattle.ks_base.specs.Tree.{is_child_of};
 ghost use Rattle.ks_lines.specs.RowLines.{deep_line, disabled_line, full_line, id_line, ids_meeting, in_domain, name_at, name_line, name_line_in, name_unplaced, prohibited_line, ring_line, row_line};
 
 use crate::absent::{absent_line, is_child_of};
-use crate::named::{Named, first_place, first_row, id_meeting, name_meeting};
+use crate::named::{NameAndDomain, first_place, first_row, id_meeting, name_meeting};
 use crate::spot::{Field, id_quoted, list_name, located, quoted, row_path, spot_at};
 use itoa::Buffer;
 use ks_base::limits::{
@@ -94,7 +94,7 @@ fn name_unplaced(alloc: Global, kind: Kind, id: &Id) -> Result<String, Memory>
 }
 
 /// That the row at the later place has the name of this one, which stands at the first place.
-fn name_at<R: Named>(
+fn name_at<R: NameAndDomain>(
     alloc: Global,
     kind: Kind,
     row: &R,
@@ -124,7 +124,12 @@ fn name_at<R: Named>(
 }
 
 /// That two of the rows have the name of the one with the id.
-fn name_line_in<R: Named>(alloc: Global, kind: Kind, rows: &[R], id: &Id) -> Result<String, Memory>
+fn name_line_in<R: NameAndDomain>(
+    alloc: Global,
+    kind: Kind,
+    rows: &[R],
+    id: &Id,
+) -> Result<String, Memory>
     ensures { IfOk result (λ made. string_bytes made ≡ name_line_in R.key R.named kind id.now rows.now) }
 {
     let Some(row) = first_row(rows, id) else {

@@ -11,8 +11,8 @@ use Rattle.ks_machine.specs.declared.cause.Cause.{Cause}
 use Rattle.ks_machine.specs.declared.cause.Cause.TheVariants as cause
 use Rattle.ks_machine.specs.Login as machine
 use Rattle.ks_logins.specs.declared.bearers.Bearer.{Bearer}
-use Rattle.ks_logins.specs.declared.scopes.Place.{Place}
-use Rattle.ks_logins.specs.declared.scopes.Place.TheVariants as place
+use Rattle.ks_logins.specs.declared.scopes.TokenPlace.{TokenPlace}
+use Rattle.ks_logins.specs.declared.scopes.TokenPlace.TheVariants as place
 use Rattle.ks_logins.specs.declared.scopes.TokenScope.{TokenScope}
 
 abbrev pub shown_of : Bearer → machine.Shown
@@ -28,7 +28,8 @@ AreStanding users who = IsSome (user_of who.user users) × IfSome who.credential
 
 -- the fields of a place
 
-abbrev pub kind_at : Place → ℕ
+-- where its token is for
+abbrev pub kind_at : TokenPlace → ℕ
 kind_at place.Unscoped = 0
 kind_at (place.Domain id) = 1
 kind_at (place.Project id) = 2
@@ -36,7 +37,7 @@ kind_at (place.Trust trust id) = 3
 kind_at place.System = 4
 kind_at (place.AppCred cred id) = 5
 
-abbrev pub domain_at : Place → Option Id
+abbrev pub domain_at : TokenPlace → Option Id
 domain_at place.Unscoped = None
 domain_at (place.Domain id) = Some id
 domain_at (place.Project id) = None
@@ -44,7 +45,7 @@ domain_at (place.Trust trust id) = None
 domain_at place.System = None
 domain_at (place.AppCred cred id) = None
 
-abbrev pub project_at : Place → Option Id
+abbrev pub project_at : TokenPlace → Option Id
 project_at place.Unscoped = None
 project_at (place.Domain id) = None
 project_at (place.Project id) = Some id
@@ -52,7 +53,7 @@ project_at (place.Trust trust id) = Some id
 project_at place.System = None
 project_at (place.AppCred cred id) = Some id
 
-abbrev pub trust_at : Place → Option TrustRow
+abbrev pub trust_at : TokenPlace → Option TrustRow
 trust_at place.Unscoped = None
 trust_at (place.Domain id) = None
 trust_at (place.Project id) = None
@@ -60,7 +61,7 @@ trust_at (place.Trust trust id) = Some trust.now
 trust_at place.System = None
 trust_at (place.AppCred cred id) = None
 
-abbrev pub cred_at : Place → Option Id
+abbrev pub cred_at : TokenPlace → Option Id
 cred_at place.Unscoped = None
 cred_at (place.Domain id) = None
 cred_at (place.Project id) = None

@@ -14,7 +14,7 @@ ghost use Rattle.ks_logins.specs.Logins.{IsShown, scoped_of, shown_of, trust_at}
 ghost use Rattle.ks_checks.specs.Plans.{Plans, outcome_of};
 
 use crate::bearers::{Bearer, shown};
-use crate::scopes::{Place, TokenScope, scoped_by};
+use crate::scopes::{TokenPlace, TokenScope, scoped_by};
 use ks_auth::{Facts, Tables};
 use ks_base::{Boxed, Id, Memory, Text};
 use ks_checks::draws::{id_bytes, salt};
@@ -106,27 +106,27 @@ fn new_payload(shown: &Bearer, scope: &TokenScope, audit: [u8; 16]) -> Payload
 {
     let user = scope.user;
     match scope.place {
-        Place::Unscoped => payload_of(shown, user, audit, 0, None, None, None, None),
-        Place::Domain(id) => payload_of(shown, user, audit, 1, Some(id), None, None, None),
-        Place::Project(id) => payload_of(shown, user, audit, 2, None, Some(id), None, None),
-        Place::Trust(trust, id) => {
+        TokenPlace::Unscoped => payload_of(shown, user, audit, 0, None, None, None, None),
+        TokenPlace::Domain(id) => payload_of(shown, user, audit, 1, Some(id), None, None, None),
+        TokenPlace::Project(id) => payload_of(shown, user, audit, 2, None, Some(id), None, None),
+        TokenPlace::Trust(trust, id) => {
             payload_of(shown, user, audit, 3, None, Some(id), Some(trust.id), None)
         }
-        Place::System => payload_of(shown, user, audit, 4, None, None, None, None),
-        Place::AppCred(cred, id) => {
+        TokenPlace::System => payload_of(shown, user, audit, 4, None, None, None, None),
+        TokenPlace::AppCred(cred, id) => {
             payload_of(shown, user, audit, 5, None, Some(id), None, Some(cred))
         }
     }
 }
 
 /// The use that is taken of a trust whose uses are numbered.
-fn use_of(place: &Place) -> Option<Change>
+fn use_of(place: &TokenPlace) -> Option<Change>
     ensures { result ≡ use_of (trust_at place.now) }
 {
     match place {
-        Place::Trust(trust, _) => trust.remaining.map(|_| Change::UseTrust(trust.id)),
-        Place::Unscoped | Place::Domain(_) | Place::Project(_) => None,
-        Place::System | Place::AppCred(_, _) => None,
+        TokenPlace::Trust(trust, _) => trust.remaining.map(|_| Change::UseTrust(trust.id)),
+        TokenPlace::Unscoped | TokenPlace::Domain(_) | TokenPlace::Project(_) => None,
+        TokenPlace::System | TokenPlace::AppCred(_, _) => None,
     }
 }
 

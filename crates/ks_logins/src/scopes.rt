@@ -26,7 +26,7 @@ use std::alloc::Global;
 
 /// Where a token is for.
 #[derive(Clone, Copy)]
-pub enum Place<'a> {
+pub enum TokenPlace<'a> {
     Unscoped,
     Domain(Id),
     Project(Id),
@@ -42,7 +42,7 @@ pub enum Place<'a> {
 #[derive(Drop)]
 pub struct TokenScope<'a> {
     pub user: Id,
-    pub place: Place<'a>,
+    pub place: TokenPlace<'a>,
     pub roles: IdList,
 }
 
@@ -85,7 +85,7 @@ fn to_domain<'a>(
     let roles = with_roles(alloc, tables, user, &Target::Domain(domain))?;
     Ok(TokenScope {
         user: *user,
-        place: Place::Domain(domain),
+        place: TokenPlace::Domain(domain),
         roles,
     })
 }
@@ -120,7 +120,7 @@ fn to_project<'a>(
     let roles = with_roles(alloc, tables, user, &Target::Project(project))?;
     Ok(TokenScope {
         user: *user,
-        place: Place::Project(project),
+        place: TokenPlace::Project(project),
         roles,
     })
 }
@@ -135,7 +135,7 @@ fn to_system<'a>(alloc: Global, tables: &Tables<'a>, user: &Id) -> Result<TokenS
     let roles = with_roles(alloc, tables, user, &Target::System)?;
     Ok(TokenScope {
         user: *user,
-        place: Place::System,
+        place: TokenPlace::System,
         roles,
     })
 }
@@ -226,7 +226,7 @@ fn to_trust<'a>(
     let roles = closure(tables, &trust.roles)?;
     Ok(TokenScope {
         user: *acts_as(trust),
-        place: Place::Trust(trust, project),
+        place: TokenPlace::Trust(trust, project),
         roles,
     })
 }
@@ -247,7 +247,7 @@ fn scoped<'a>(
     match asked {
         ScopeIn::Nothing | ScopeIn::Unscoped => Ok(TokenScope {
             user: *user,
-            place: Place::Unscoped,
+            place: TokenPlace::Unscoped,
             roles: IdList::new(alloc),
         }),
         ScopeIn::Domain(named) => {
@@ -297,7 +297,7 @@ fn to_cred<'a>(
     let roles = closure(tables, &cred.roles)?;
     Ok(TokenScope {
         user: cred.user,
-        place: Place::AppCred(cred.id, project),
+        place: TokenPlace::AppCred(cred.id, project),
         roles,
     })
 }

@@ -12,7 +12,7 @@ use Rattle.ks_base.specs.Trees.{TreeState}
 use Rattle.ks_machine.specs.States.{State}
 use Rattle.ks_machine.specs.declared.settings.OpenFault.{OpenFault}
 use Rattle.ks_machine.specs.declared.settings.OpenFault.TheVariants as fault
-use Rattle.ks_opening.specs.declared.opened.Opened.{Opened}
+use Rattle.ks_opening.specs.declared.opened.OpenedTables.{OpenedTables}
 
 -- the rows of the tables
 abbrev pub rows_in : TreeState → PeopleState → RolesState → List GrantRow → List TrustRow → CatalogState → AppCredsState → FactorState → Rows
@@ -38,7 +38,7 @@ abbrev pub no_factors : FactorState
 no_factors = record { secrets = []; rules = [] }
 
 -- the state before any change: no trust, no application credential and no second factor stands, and nothing is revoked
-abbrev pub state_of : Opened → State
+abbrev pub state_of : OpenedTables → State
 state_of opened = record {
   settings = opened.settings;
   rules = opened.rules;

@@ -6,7 +6,7 @@ ghost use Rattle.ks_opening.specs.steps.Filled.{IsFilled, keys_fault, rows_of, w
 ghost use Rattle.ks_policy.specs.Openings.{plain};
 ghost use Rattle.ks_ring.specs.Rings.{loaded_unless, new_of, refusal_of};
 
-use crate::Opened;
+use crate::OpenedTables;
 use crate::limits::check_full;
 use crate::tables::{catalog_of, parties_of, rights_of};
 use ks_assign::Grants;
@@ -109,7 +109,7 @@ impl Filled {
     }
 
     /// What it opens with, under this ring of its keys.
-    pub(crate) fn with_ring(self, ring: Ring) -> Opened
+    pub(crate) fn with_ring(self, ring: Ring) -> OpenedTables
         ensures { result ≡ with_ring self ring }
     {
         let Filled {
@@ -122,7 +122,7 @@ impl Filled {
             grants,
             catalog,
         } = self;
-        Opened {
+        OpenedTables {
             settings,
             rules,
             ring,

@@ -11,4 +11,4 @@ mod opened;
 mod rules;
 mod tables;
 
-pub use opened::{Opened, open_tables};
+pub use opened::{OpenedTables, open_tables};

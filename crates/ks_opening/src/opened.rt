@@ -21,7 +21,7 @@ use std::alloc::Global;
 /// What a server opens with: its settings and rules, the ring of its keys, and its rows in their tables. No trust, no
 /// application credential and no second factor stands.
 #[derive(Drop)]
-pub struct Opened {
+pub struct OpenedTables {
     pub settings: Settings,
     pub rules: Rules,
     pub ring: Ring,
@@ -49,7 +49,7 @@ pub struct Opened {
 /// - keys that are no ring (`Ring`).
 ///
 /// Memory may end at any time (`Memory`).
-pub fn open_tables(alloc: Global, opening: Opening) -> Result<Opened, OpenFault>
+pub fn open_tables(alloc: Global, opening: Opening) -> Result<OpenedTables, OpenFault>
     ensures state { IfOk result (λ opened. state_of opened ≡ opened_state (plain opening)) }
     ensures fault { TellsFault (open_fault (plain opening)) result }
 {

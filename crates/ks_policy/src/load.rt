@@ -1,4 +1,5 @@
 ghost use Rattle.std.specs.Prelude.{◌≡◌, ◌≤◌, length, IfOk};
+ghost use Rattle.serde_json.specs.Data.{object, no_members};
 ghost use Rattle.serde_json.specs.View.{view, members_view};
 ghost use Rattle.ks_base.specs.Tables.{id_cmp, IsAscending};
 ghost use Rattle.ks_base.specs.declared.limits.TheConstants.{POLICY_RULES};
@@ -87,5 +88,15 @@ impl Rules {
             Some(at) => Err(PolicyFault::Cycle(table.name_at(at).copy()?)),
             None => unreachable!(),
         }
+    }
+
+    /// The rules of a policy that says nothing.
+    pub fn load_default(alloc: Global) -> Result<Rules, PolicyFault>
+        ensures { Loads (object no_members) result }
+    {
+        let policy = Value::Object(Map::new(alloc));
+        let loaded = Rules::load(alloc, &policy);
+        drop(policy);
+        loaded
     }
 }

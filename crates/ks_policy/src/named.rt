@@ -1,7 +1,7 @@
 ghost use Rattle.std.specs.Prelude.{◌≡◌};
 ghost use Rattle.ks_rule.specs.Trees.{tree_of};
 
-use crate::place::Named;
+use crate::place::HasName;
 use ks_base::Text;
 use ks_rule::Rule;
 use std::marker::Model;
@@ -45,7 +45,7 @@ impl NamedRule {
     }
 }
 
-impl Named for NamedRule {
+impl HasName for NamedRule {
     ghost naming = { λ row. row.name };
 
     fn name(&self) -> &Text {

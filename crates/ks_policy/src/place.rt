@@ -6,7 +6,7 @@ ghost use Rattle.ks_base.specs.Tables.{id_cmp, IsAscending};
 use ks_base::Text;
 
 /// A row with a name.
-pub trait Named {
+pub trait HasName {
     ghost use Rattle.std.specs.Prelude.{ℕ, List};
 
     ghost naming: { Self → List ℕ };
@@ -17,7 +17,7 @@ pub trait Named {
 }
 
 /// The place of the row with this name, or the one where it belongs.
-pub fn place<R: Named>(rows: &[R], name: &[u8]) -> Result<usize, usize>
+pub fn place<R: HasName>(rows: &[R], name: &[u8]) -> Result<usize, usize>
     requires { IsAscending id_cmp R.naming rows.now }
     ensures bound { IsSearchInRange result (length rows.now) }
     ensures place { IsPlace id_cmp R.naming name.now rows.now result }

@@ -5,7 +5,7 @@ ghost use Rattle.ks_rule.specs.Trees.{tree_of};
 ghost use Rattle.ks_machine.specs.Rules.{place_of, place_named, tree_at};
 
 use crate::named::NamedRule;
-use crate::place::{Named, place};
+use crate::place::{HasName, place};
 use ks_base::Text;
 use ks_rule::Rule;
 use std::marker::Model;

@@ -1,7 +1,7 @@
 ghost use Rattle.std.specs.Prelude.{◌≡◌, IfOk, OnOk};
 ghost use Rattle.ks_base.specs.Tables.{id_cmp, IsAscending, put_row};
 
-use crate::place::{Named, place};
+use crate::place::{HasName, place};
 use ks_base::{Memory, Text};
 use std::alloc::Global;
 
@@ -17,7 +17,7 @@ impl Drop for RuleText {
     }
 }
 
-impl Named for RuleText {
+impl HasName for RuleText {
     ghost naming = { λ row. row.name };
 
     fn name(&self) -> &Text {

@@ -37,7 +37,7 @@ impl fmt::Display for Line<'_> {
         write!(f, "{} {} ", answered.request, method_name(answered.method))?;
         write!(f, "{} ", Sent::path(answered.path.as_ref()))?;
         write!(f, "{} ", OrNothing(answered.status))?;
-        write!(f, "{} {} ", User(&answered.who), Place(&answered.who))?;
+        write!(f, "{} {} ", User(&answered.who), ScopeWord(&answered.who))?;
         write!(f, "{} ", seen.micros)?;
         write!(f, "{}", Sent::path(answered.cause.as_ref()))
     }
@@ -124,9 +124,9 @@ impl fmt::Display for User<'_> {
 
 /// Where the caller's token has its roles.
 #[derive(Clone, Copy)]
-struct Place<'a>(&'a Who);
+struct ScopeWord<'a>(&'a Who);
 
-impl fmt::Display for Place<'_> {
+impl fmt::Display for ScopeWord<'_> {
     fn fmt<W: fmt::Write>(&self, f: &mut fmt::Formatter<W>) -> fmt::Result {
         match self.0 {
             Who::Caller(_, Scope::Domain(id)) => write!(f, "domain:{}", id.as_str()),

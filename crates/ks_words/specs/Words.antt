@@ -183,27 +183,24 @@ folder_in (Password rounds) = None
 folder_in (Drill start count) = None
 folder_in Usage = None
 
+-- what a command serves connections with that listens at an address
+abbrev pub serving_in : Words → Option Places
+serving_in Check = None
+serving_in (Talk places) = None
+serving_in (Serve places connections) = Some places
+serving_in (Setup places) = None
+serving_in (Rotate places max) = None
+serving_in (Password rounds) = None
+serving_in (Drill start count) = None
+serving_in Usage = None
+
 -- the address to listen at that a command names
 abbrev pub address_in : Words → Option (List ℕ)
-address_in Check = None
-address_in (Talk places) = None
-address_in (Serve places connections) = places.address
-address_in (Setup places) = None
-address_in (Rotate places max) = None
-address_in (Password rounds) = None
-address_in (Drill start count) = None
-address_in Usage = None
+address_in words = option_and_then (λ places. places.address) (serving_in words)
 
 -- the path of the log of requests that a command names
 abbrev pub log_in : Words → Option (List ℕ)
-log_in Check = None
-log_in (Talk places) = None
-log_in (Serve places connections) = places.log
-log_in (Setup places) = None
-log_in (Rotate places max) = None
-log_in (Password rounds) = None
-log_in (Drill start count) = None
-log_in Usage = None
+log_in words = option_and_then (λ places. places.log) (serving_in words)
 
 abbrev pub rotated_with : Option (List ℕ) → Option ℕ → Words
 rotated_with folder None = Usage

@@ -1,5 +1,5 @@
 ghost use Rattle.std.specs.Prelude.{◌≡◌, IfOk, map, option_copied};
-ghost use Rattle.ks_words.specs.Words.{IsInRange, address_in, file_in, folder_in, log_in, words_of};
+ghost use Rattle.ks_words.specs.Words.{IsInRange, address_in, file_in, folder_in, log_in, serving_in, words_of};
 
 use crate::commands::{
     read_check, read_drill, read_password, read_rotate, read_serve, read_setup, read_talk,
@@ -94,12 +94,12 @@ impl Words {
         }
     }
 
-    /// The address to listen at, where the command names one.
-    pub fn address(&self) -> Option<&Text>
-        ensures { option_copied result ≡ address_in self.now }
+    /// What connections are served with, where the command listens at an address.
+    pub fn serving(&self) -> Option<&Places>
+        ensures { option_copied result ≡ serving_in self.now }
     {
         match self {
-            Words::Serve(places, _) => places.address.as_ref(),
+            Words::Serve(places, _) => Some(places),
             Words::Check => None,
             Words::Talk(_) => None,
             Words::Setup(_) => None,
@@ -110,20 +110,18 @@ impl Words {
         }
     }
 
+    /// The address to listen at, where the command names one.
+    pub fn address(&self) -> Option<&Text>
+        ensures { option_copied result ≡ address_in self.now }
+    {
+        self.serving()?.address.as_ref()
+    }
+
     /// The path of the log of requests, where the command names one.
     pub fn log(&self) -> Option<&Text>
         ensures { option_copied result ≡ log_in self.now }
     {
-        match self {
-            Words::Serve(places, _) => places.log.as_ref(),
-            Words::Check => None,
-            Words::Talk(_) => None,
-            Words::Setup(_) => None,
-            Words::Rotate(_, _) => None,
-            Words::Password(_) => None,
-            Words::Drill(_, _) => None,
-            Words::Usage => None,
-        }
+        self.serving()?.log.as_ref()
     }
 }
 

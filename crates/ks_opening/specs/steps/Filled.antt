@@ -9,7 +9,7 @@ use Rattle.ks_machine.specs.Opened.{rows_opened}
 use Rattle.ks_machine.specs.Openings.{PlainOpening}
 use Rattle.ks_ring.specs.Rings.{RingState, refusal_of}
 use Rattle.ks_opening.specs.declared.filled.Filled.{Filled}
-use Rattle.ks_opening.specs.declared.opened.Opened.{Opened}
+use Rattle.ks_opening.specs.declared.opened.OpenedTables.{OpenedTables}
 use Rattle.ks_opening.specs.Opened.{no_factors, rows_in}
 
 -- the rows of its tables; no trust, no application credential and no second factor stands
@@ -28,7 +28,7 @@ abbrev pub keys_fault : List (ℕ × Key) → Option OpenFault
 keys_fault keys = option_map (λ why. fault.Ring why) (refusal_of keys)
 
 -- what a server opens with, under a ring of its keys
-abbrev pub with_ring : Filled → RingState → Opened
+abbrev pub with_ring : Filled → RingState → OpenedTables
 with_ring filled ring = record {
   settings = filled.settings;
   rules = filled.rules;

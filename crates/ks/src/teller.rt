@@ -7,9 +7,9 @@ use ks_machine::OpenFault;
 use std::rt::Files;
 use std::{fs, io};
 
-/// What the words name: a fault is told behind the path of what it is about.
+/// Tells faults, each behind the path of what it is about, as the words name it.
 #[derive(Drop)]
-pub struct Named<'a> {
+pub struct Teller<'a> {
     pub file: &'a str,
     pub book: &'a str,
     pub folder: &'a str,
@@ -38,7 +38,7 @@ pub fn tell<R: Eprint>(rt: &R, fault: &Fault) {
     };
 }
 
-impl Named<'_> {
+impl Teller<'_> {
     /// Says in one line why a command did not end whole.
     pub fn tell<R: AllocGlobal + Files + Eprint>(
         &self,
