@@ -266,14 +266,16 @@ def last_of_many(name, reading, login, request, times):
 
 
 def anew(name, last):
-    """The lines of a table, each case with its last cell as it is worked out."""
+    """The lines of a table, each case with its last cell as it is worked out, and as it was where it stands for that."""
     lines, is_heading = [], True
     with open(path_of(name), encoding="utf-8") as file:
         for line in file:
             if is_case(line) and not is_heading:
-                front = line.rpartition("|")[0]
+                front, _, given = line.rstrip("\n").rpartition("|")
                 parts = [cell(part).decode("utf-8", "surrogateescape") for part in front.split("|")]
-                line = f"{front}| {spelled(last(*parts))}".rstrip() + "\n"
+                worked_out = last(*parts)
+                if cell(given) != worked_out:
+                    line = f"{front}| {spelled(worked_out)}".rstrip() + "\n"
             is_heading = is_heading and not is_case(line)
             lines.append(line)
     return lines

@@ -5,12 +5,31 @@ import re
 ESCAPE = re.compile(r"\\(?:r|n|(\d*)(x?)\{([^}]*)\})")
 # So many of one character are told by their number.
 RUN = re.compile(r"([^\\{}\r\n])\1{63,}")
+# What stands in brackets for the usual head of a response, and such a head.
+SHORT_HEAD = re.compile(r"<([0-9][^>]*)>")
+USUAL_HEAD = re.compile(
+    r"HTTP/1\.1 (?P<status>[\w ]+)\r\n(?:Content-Length: \d+\r\nContent-Type: application/json\r\n)?Vary: X-Auth-Token\r\n"
+    r"(?P<fields>(?:[^\r\n;>|\\]+\r\n)*)\r\n".encode())
+
+
+def usual_response(own, body):
+    """The bytes of a response with this body and the usual head, of which its status and its own fields are given."""
+    status, *fields = own.split("; ")
+    of_body = [f"Content-Length: {len(body)}", "Content-Type: application/json"] if body else []
+    return "\r\n".join(["HTTP/1.1 " + status, *of_body, "Vary: X-Auth-Token", *fields, "", ""]).encode() + body
 
 
 def cell(text):
     """The bytes that a cell of a table stands for."""
+    text = text.strip(" ")
+    head = SHORT_HEAD.match(text)
+    return usual_response(head[1], unescaped(text[head.end():])) if head else unescaped(text)
 
-    def escaped(match):
+
+def unescaped(text):
+    """The bytes that a text stands for."""
+
+    def one(match):
         if match[0] in ("\\r", "\\n"):
             return {"\\r": "\r", "\\n": "\n"}[match[0]]
         times, is_hex, body = match.groups()
@@ -18,11 +37,22 @@ def cell(text):
             body = bytes.fromhex(body).decode("utf-8", "surrogateescape")
         return body * int(times or 1)
 
-    return ESCAPE.sub(escaped, text.strip(" ")).encode("utf-8", "surrogateescape")
+    return ESCAPE.sub(one, text).encode("utf-8", "surrogateescape")
 
 
 def spelled(data):
-    """The text of a cell that stands for some bytes."""
+    """The text of a cell that stands for some bytes; a response's usual head is not spelled."""
+    head = USUAL_HEAD.match(data)
+    if head:
+        own = "; ".join([head["status"].decode(), *head["fields"].decode().split("\r\n")[:-1]])
+        body = data[head.end():]
+        if usual_response(own, body) == data:
+            return f"<{own}>" + escaped(body)
+    return escaped(data)
+
+
+def escaped(data):
+    """The text that stands for some bytes, each of which it spells."""
     text = data.decode("utf-8", "surrogateescape")
     text = re.sub(r"[\\|]|[^\r\n -~\u00a0-\uffff]", lambda match: "\\x{%s}" % match[0].encode("utf-8", "surrogateescape").hex(), text)
     text = RUN.sub(lambda match: "\\%d{%s}" % (len(match[0]), match[1]), text)

@@ -6,11 +6,11 @@ ghost use Rattle.ks_base.specs.declared.receipt.Drawn.{Drawn};
 ghost use Rattle.ks_base.specs.Rows.{user_of};
 ghost use Rattle.ks_machine.specs.Creations.{create, create_domain, create_group, create_project, create_role, create_user, domain_for, domain_of_caller, text_or_empty};
 ghost use Rattle.ks_machine.specs.States.{State};
-ghost use Rattle.ks_machine.specs.Validity.{project_domain, scope_domain};
+ghost use Rattle.ks_machine.specs.Validity.{project_domain};
 ghost use Rattle.ks_checks.specs.Plans.{Plans, valid_of};
 
 use crate::factors::put_told;
-use ks_auth::{Facts, Tables};
+use ks_auth::{Facts, Tables, scope_domain};
 use ks_base::{DomainRow, GroupRow, Id, Memory, ProjectRow, RoleRow, Text, UserRow};
 use ks_checks::checks::{row, standing_domain};
 use ks_checks::draws::made_id;
@@ -18,7 +18,6 @@ use ks_checks::passwords::derived_or;
 use ks_checks::puts::{put_domain, put_project};
 use ks_checks::{Caller, Halt, Plan};
 use ks_machine::{BodyOut, Change, Made, MfaIn, Row};
-use ks_payload::Payload;
 use std::alloc::Global;
 
 /// An equal text, or the empty one.
@@ -28,17 +27,6 @@ pub fn text_or_empty(alloc: Global, given: &Option<Text>) -> Result<Text, Memory
     match given {
         Some(text) => text.copy(),
         None => Text::of(alloc, ""),
-    }
-}
-
-/// The domain of the scope, or that of the project of the scope.
-fn scope_domain(tables: &Tables, payload: &Payload) -> Option<Id>
-    ensures { result ≡ scope_domain (rows_told tables.now) payload.now }
-{
-    match (&payload.domain, &payload.project) {
-        (Some(domain), _) => Some(*domain),
-        (None, Some(project)) => tables.tree.project(project).map(|row| row.domain),
-        (None, None) => None,
     }
 }
 

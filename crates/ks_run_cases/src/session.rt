@@ -3,7 +3,7 @@
 use crate::fails::Fails;
 use crate::names::{Names, expanded, with_length};
 use crate::run::{Outside, WHOLE};
-use crate::world::{Opening, World};
+use crate::world::{OpeningInput, World};
 use anyhow::{Context, Result, ensure};
 use ks_tables::Case;
 use std::alloc::Global;
@@ -25,7 +25,7 @@ struct Mark {
 
 /// A connection over an opening, as far as its requests were read.
 pub struct Session {
-    opening: Opening,
+    opening: OpeningInput,
     /// The folder beside the connection.
     place: String,
     pub fails: Fails,

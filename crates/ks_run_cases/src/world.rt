@@ -8,7 +8,7 @@ use std::fs;
 use std::rt::Files;
 
 /// What a server opens with.
-pub struct Opening {
+pub struct OpeningInput {
     pub file: String,
     pub folder: String,
     /// How many passwords are derived.
@@ -16,9 +16,9 @@ pub struct Opening {
     pub fails: Fails,
 }
 
-impl Drop for Opening {
+impl Drop for OpeningInput {
     fn drop(self) {
-        let Opening {
+        let OpeningInput {
             file: _,
             folder: _,
             passwords: _,
@@ -57,7 +57,7 @@ impl World {
     }
 
     /// The opening of this name, whose file is one of `data/` or stands in its cell.
-    pub fn opening<R: Files + AllocGlobal>(&self, rt: &R, name: &str) -> Result<Opening> {
+    pub fn opening<R: Files + AllocGlobal>(&self, rt: &R, name: &str) -> Result<OpeningInput> {
         let case = row_of(self.openings.as_slice(), name).context("no such opening")?;
         let cell = case.str(1)?;
         let file = if cell.ends_with(".json") {
@@ -65,7 +65,7 @@ impl World {
         } else {
             self.text(rt, cell)?
         };
-        Ok(Opening {
+        Ok(OpeningInput {
             file,
             folder: self.text(rt, case.str(2)?)?,
             passwords: case.str(3)?.parse::<u8>()?,

@@ -1,5 +1,6 @@
 //! The cells of a line, and the bytes that each stands for.
 
+use crate::responses::usual_response;
 use anyhow::{Context, Result, ensure};
 use std::alloc::{AllocError, Global};
 
@@ -16,8 +17,21 @@ pub fn read_cells(alloc: Global, line: &str) -> Result<Vec<Vec<u8>>> {
 }
 
 fn read_cell(alloc: Global, cell: &str) -> Result<Vec<u8>> {
+    match split_head(cell) {
+        Some((own, body)) => usual_response(alloc, own, read_text(alloc, body)?.as_slice()),
+        None => read_text(alloc, cell),
+    }
+}
+
+/// The status and the own fields of a response with the usual head, and its body; nothing of another cell.
+fn split_head(cell: &str) -> Option<(&str, &str)> {
+    let (own, body) = cell.strip_prefix('<')?.split_once('>')?;
+    matches!(own.as_bytes(), [b'0'..=b'9', ..]).then_some((own, body))
+}
+
+fn read_text(alloc: Global, text: &str) -> Result<Vec<u8>> {
     let mut bytes = Vec::new(alloc);
-    for (at, piece) in cell.split('\\').enumerate() {
+    for (at, piece) in text.split('\\').enumerate() {
         let plain = if at == 0 {
             piece
         } else {

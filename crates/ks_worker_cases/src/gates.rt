@@ -57,7 +57,7 @@ impl HoldingGate {
     }
 
     /// How often the place was reached.
-    pub fn reached(&self, place: Place) -> u64 {
+    fn reached(&self, place: Place) -> u64 {
         self.count(place).load(Ordering::SeqCst)
     }
 
@@ -82,6 +82,21 @@ impl HoldingGate {
         ensure!(
             self.gave_up.load(Ordering::SeqCst) == 0,
             "a worker waited in vain"
+        );
+        Ok(())
+    }
+
+    /// Refuses a case in which a worker gave up waiting, or the gate was not reached just so often before a hold and before
+    /// a derivation.
+    pub fn ensure_reached(&self, holds: u64, derivings: u64) -> Result<()> {
+        self.ensure_met()?;
+        let (held, derived) = (
+            self.reached(Place::BeforeHold),
+            self.reached(Place::Deriving),
+        );
+        ensure!(
+            held == holds && derived == derivings,
+            "the gate was reached {held} times before a hold and {derived} times before a derivation"
         );
         Ok(())
     }

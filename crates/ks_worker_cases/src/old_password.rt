@@ -37,7 +37,8 @@ pub fn try_case<N: First + Send + Sync, R: Threads + Wait + Sync>(
     let mut identity = turn.close(pass);
     let new_salt = salt_for(alloc, &mut identity, &held).context("no salt is asked for")?;
     ensure!(new_salt != old_salt, "the new salt is the old one");
-    judge_gate(&gate)
+    // The gate held the first derivation, and was reached as often as two derivations ask for.
+    gate.ensure_reached(3, 2)
 }
 
 /// bob changes his password and logs in with the new one, while the login with the old one is held.
@@ -59,20 +60,6 @@ fn change_meanwhile<N: First + Send + Sync, R: Threads + Wait + Sync>(
     let (pass, replies) = beside(alloc, rt, turn, pass, gate, held, &first, &second);
     judge(&replies)?;
     Ok(pass)
-}
-
-/// The gate held the first derivation, and was reached as often as two derivations ask for.
-fn judge_gate(gate: &HoldingGate) -> Result<()> {
-    gate.ensure_met()?;
-    let (holds, derivings) = (
-        gate.reached(Place::BeforeHold),
-        gate.reached(Place::Deriving),
-    );
-    ensure!(
-        holds == 3 && derivings == 2,
-        "the gate was reached {holds} times before a hold and {derivings} times before a derivation"
-    );
-    Ok(())
 }
 
 fn judge(replies: &Replies) -> Result<()> {
