@@ -1,11 +1,12 @@
 -- AES with a key of 128 bits, as FIPS 197 defines it: enciphering alone. A block is the list of its 16
 -- bytes as they come in. The standard's array holds them column by column, so byte 4 * c + r stands in
 -- row r and column c.
+-- Source: FIPS 197, 5.1 and 5.2.
 use Rattle.std.specs.Prelude.{◌≡◌, ℕ, zero, suc, ◌+◌, ◌*◌, ◌%◌, ◌^◌, ◌<◌, List, [], ◌∷◌, ◌++◌, map, length, slice_index, bit_xor}
 use Rattle.std.specs.Int.{bit_at}
 use Rattle.ks_aes_cbc.specs.Field.{times_x, product, inverse}
 
--- every one is a byte
+-- every one is a byte, a number below 256
 abbrev pub AreBytes : List ℕ → Type 0
 AreBytes bytes = (k : ℕ) → slice_index bytes k < 256
 
@@ -25,15 +26,15 @@ unfoldable pub affine_bits : ℕ → ℕ → ℕ
 affine_bits zero b = 0
 affine_bits (suc n) b = affine_bits n b + affine_bit b n * 2 ^ n
 
--- Section 5.1.1: the S-box, the affine map of the inverse.
+-- | Section 5.1.1: the S-box, the affine map of the inverse.
 unfoldable pub sbox : ℕ → ℕ
 sbox b = affine_bits 8 (inverse b)
 
--- SubBytes, section 5.1.1
+-- | SubBytes, section 5.1.1
 abbrev pub sub_bytes : List ℕ → List ℕ
 sub_bytes block = map sbox block
 
--- ShiftRows, section 5.1.2: row r is turned by r places to the left.
+-- | ShiftRows, section 5.1.2: row r is turned by r places to the left.
 abbrev pub shift_rows : List ℕ → List ℕ
 shift_rows block =
     map (slice_index block)
@@ -59,7 +60,7 @@ mix_column block c =
     circulant 2 3 1 1 (slice_index block (4 * c)) (slice_index block (4 * c + 1))
     (slice_index block (4 * c + 2)) (slice_index block (4 * c + 3))
 
--- MixColumns, section 5.1.3
+-- | MixColumns, section 5.1.3
 abbrev pub mix_columns : List ℕ → List ℕ
 mix_columns block = mix_column block 0 ++ (mix_column block 1 ++ (mix_column block 2 ++ mix_column block 3))
 

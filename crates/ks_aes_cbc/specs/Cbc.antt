@@ -1,4 +1,5 @@
 -- Cipher block chaining (NIST SP 800-38A, section 6.2) with AES, and the padding of RFC 5652, section 6.3.
+-- Source: RFC 5652, 6.3; SP 800-38A, 6.2.
 use Rattle.std.specs.Prelude.{ℕ, zero, suc, ◌-◌, ◌/◌, ◌%◌, Bool, List, [], ◌∷◌, ◌++◌, length, take, drop, replicate, Option, Some, None, option_map, if◌then◌else◌}
 use Rattle.std.specs.Str.{bytes_eq}
 use Rattle.ks_aes_cbc.specs.Aes.{aes, xor_bytes}

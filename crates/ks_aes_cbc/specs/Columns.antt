@@ -1,5 +1,6 @@
 -- A block as four words of 32 bits: a column of the standard's array each, whose highest byte is in row 0.
 -- Only private contracts speak of words.
+-- Source: FIPS 197, 3.4.
 use Rattle.std.specs.Prelude.{List, ◌++◌, ℕ, slice_index}
 use Rattle.std.specs.Int.{w32, to_be_bytes}
 

@@ -1,5 +1,6 @@
 -- The inverse cipher (FIPS 197, section 5.3), of which only private contracts speak: the public ones say
 -- what deciphering finds by the cipher alone.
+-- Source: FIPS 197, 5.3.
 use Rattle.std.specs.Prelude.{ℕ, zero, suc, ◌+◌, ◌-◌, ◌*◌, List, [], ◌∷◌, ◌++◌, map, slice_index, take, drop}
 use Rattle.ks_aes_cbc.specs.declared.tables.TheConstants.{INVERSE_SBOX}
 use Rattle.ks_aes_cbc.specs.Aes.{circulant, xor_bytes, round_key}

@@ -1,4 +1,5 @@
 -- What a key that is ready to seal and open holds.
+-- Source: FIPS 197, 5.3.5.
 use Rattle.std.specs.Prelude.{◌≡◌, ℕ, ◌-◌, ◌<◌, List, []}
 use Rattle.std.specs.List.{slice_index_or}
 use Rattle.ks_aes_cbc.specs.Aes.{IsBlock, round_key}

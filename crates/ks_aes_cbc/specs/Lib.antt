@@ -1,3 +1,4 @@
+-- AES-128 in CBC.
 pub mod Field
 pub mod Aes
 pub mod Cbc

@@ -34,7 +34,8 @@ pub record Tells (tables : Tables) (S : State) : Type 0 where
   pub rows : S.rows ≡ rows_told tables
   pub events : Stands tables.revoked.now (record { life = tables.revoked.now.life; high = tables.revoked.now.high; events = S.events })
 
--- a verdict is that of the lines of validity, or names that a fact is lacking; of want of memory nothing is said
+-- a validation answers as the plain machine does of each such state: a verdict is that of the lines of validity, or names that a fact is
+-- lacking; of want of memory nothing is said
 abbrev pub IsVerdict : Attempt Why Valid → Result Verdict Memory → Type 0
 IsVerdict lines (Ok (verdict.Valid payload issued roles)) = lines ≡ Go (record { payload = payload; issued = issued; roles = roles })
 IsVerdict lines (Ok (verdict.Refused why)) = lines ≡ Stop why

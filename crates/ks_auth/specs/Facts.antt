@@ -12,6 +12,7 @@ use Rattle.ks_machine.specs.Derivations.{Derivation}
 use Rattle.ks_ring.specs.Rings.{same_key}
 use Rattle.ks_ring.specs.declared.held_key.HeldKey.{HeldKey}
 
+-- | which facts were told
 pub record FactsState : Type 0 where
   pub opened : List Opening
   pub derived : List Derivation
@@ -29,7 +30,7 @@ is_derived password salt rounds fact = bytes_eq fact.password password && (bytes
 abbrev pub has_derived : Text → List ℕ → ℕ → List Derivation → Bool
 has_derived password salt rounds facts = list_any (is_derived password salt rounds) facts
 
--- those about the text of one token
+-- the facts about the text of one token
 abbrev pub about : Text → FactsState → FactsState
 about text facts = record { opened = filter (λ fact. bytes_eq fact.text text) facts.opened; derived = [] }
 

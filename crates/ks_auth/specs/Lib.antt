@@ -1,3 +1,4 @@
+-- Validation over tables and facts.
 pub mod Facts
 pub mod Answers
 pub mod Lines

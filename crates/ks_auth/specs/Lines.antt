@@ -18,13 +18,13 @@ use Rattle.ks_ring.specs.declared.held_key.HeldKey.{HeldKey}
 use Rattle.ks_auth.specs.declared.opening.Halt.{Halt}
 use Rattle.ks_auth.specs.declared.opening.Halt.TheVariants as halt
 
--- what the token holds
+-- the lines that facts, payload and time decide: what the token holds
 unfoldable pub token_held : Known → List HeldKey → ℕ → ℕ → Bool → Text → Attempt Why ReadToken
 token_held known keys life moment late text = do
   answer ← opens known keys text
   decided (token_lines life moment late answer)
 
--- what a token is that holds this payload
+-- | those that revocations and rows decide: what a token is that holds this payload
 unfoldable pub row_lines : Rows → List EventRow → ℕ → Payload → ℕ → Attempt Why Valid
 row_lines rows events moment payload issued = do
   _ ← need (not (is_revoked events (holder rows payload) issued)) why.Revoked
@@ -40,7 +40,7 @@ abbrev pub IsStopped : {A : Type 0} → Attempt Why A → Halt → Type 0
 IsStopped lines (halt.Refused why) = lines ≡ Stop why
 IsStopped lines halt.Needs = (keys : List HeldKey) × (lines ≡ Lacks (Keys keys))
 
--- a payload and when it was issued, or what stands in the way
+-- an answer to them: a payload and when it was issued, or what stands in the way
 abbrev pub IsHeld : Attempt Why ReadToken → Result (Payload × ℕ) Halt → Type 0
 IsHeld lines (Ok (payload, issued)) = (plain : List ℕ) × (lines ≡ Go (record { payload = payload; issued = issued; plain = plain }))
 IsHeld lines (Err stop) = IsStopped lines stop

@@ -1,5 +1,5 @@
--- Application credentials (Identity API v3, application credentials): their rows in the order of their ids, and why a
--- change of them is refused, the first cause that applies.
+-- Application credentials: their rows in the order of their ids, and why a change of them is refused, the first cause that applies.
+-- Source: Identity API v3, application credentials; own limits.
 use Rattle.std.specs.Prelude.{nat_le, Bool, not, ◌&&◌, List, [], ◌∷◌, length, map, filter, find, Option, is_some, is_none, option_map}
 use Rattle.ks_base.specs.declared.app_creds.AppCredRow.{AppCredRow}
 use Rattle.ks_base.specs.declared.faults.RowFault.{RowFault}
@@ -10,20 +10,23 @@ use Rattle.ks_base.specs.Refusals.{fault_if, first_of}
 use Rattle.ks_base.specs.Rows.{Id, Text, same, has_id}
 use Rattle.ks_base.specs.Tables.{id_cmp, find_row, put_row, drop_row}
 
+-- | application credentials as a list
 abbrev pub AppCredsState : Type 0
 AppCredsState = List AppCredRow
 
--- the credential of an id
+-- the credential of an id, if one stands
 abbrev pub cred_of : Id → AppCredsState → Option AppCredRow
 cred_of id creds = find_row id_cmp (λ row. row.id) id creds
 
--- names are unique among the credentials of a user
+-- | a credential has this user and this name, which is unique among those of a user
 abbrev pub is_cred_named : Id → Text → AppCredRow → Bool
 is_cred_named user name row = same row.user user && same row.name name
 
+-- the credential of a user and a name, if one stands
 abbrev pub cred_named : Id → Text → AppCredsState → Option AppCredRow
 cred_named user name creds = find (is_cred_named user name) creds
 
+-- | a credential is of a user, on a project, or lists a role
 abbrev pub is_of_user : Id → AppCredRow → Bool
 is_of_user user row = same row.user user
 
@@ -67,6 +70,7 @@ cred_id_taken creds id = fault_if (is_some (cred_of id creds)) (fault.IdTaken id
 abbrev pub cred_absent : AppCredsState → Id → Option RowFault
 cred_absent creds id = fault_if (is_none (cred_of id creds)) (fault.Absent kind.AppCred id)
 
+-- the first cause that refuses a new credential (its user has one of this name, table full, id taken), and the end of one (absent)
 unfoldable pub add_cred_fault : AppCredsState → AppCredRow → Option RowFault
 add_cred_fault creds row = first_of (cred_name_taken creds row ∷ creds_full creds ∷ cred_id_taken creds row.id ∷ [])
 

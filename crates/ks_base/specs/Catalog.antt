@@ -1,4 +1,5 @@
 -- The service catalog (Identity API v3, regions, services and endpoints): its rows in the order of their ids.
+-- Source: Identity API v3, the service catalog.
 use Rattle.std.specs.Prelude.{◌≡◌, Bool, false, not, List, Option, Some, None, filter, option_map, codes, IfSome}
 use Rattle.ks_base.specs.declared.catalog.CatalogKind.{CatalogKind}
 use Rattle.ks_base.specs.declared.catalog.CatalogKind.TheVariants as kind
@@ -12,6 +13,7 @@ use Rattle.ks_base.specs.declared.catalog.ServiceRow.{ServiceRow}
 use Rattle.ks_base.specs.Rows.{Id, Text, same}
 use Rattle.ks_base.specs.Tables.{id_cmp, find_row, put_row, drop_row}
 
+-- | regions, services and endpoints as lists
 pub record CatalogState : Type 0 where
   pub regions : List RegionRow
   pub services : List ServiceRow
@@ -23,7 +25,7 @@ interface_word interface.Public = codes "public"
 interface_word interface.Internal = codes "internal"
 interface_word interface.Admin = codes "admin"
 
--- the rows of an id
+-- the row of a kind with an id, if one stands
 abbrev pub region_of : Id → List RegionRow → Option RegionRow
 region_of id regions = find_row id_cmp (λ row. row.id) id regions
 
@@ -38,15 +40,16 @@ row_of kind.Region id state = option_map (λ region. row.Region region) (region_
 row_of kind.Service id state = option_map (λ service. row.Service service) (service_of id state.services)
 row_of kind.Endpoint id state = option_map (λ endpoint. row.Endpoint endpoint) (endpoint_of id state.endpoints)
 
--- an id is given, and it is this one
+-- | an id is given, and it is this one
 abbrev pub names_id : Id → Option Id → Bool
 names_id id None = false
 names_id id (Some other) = same other id
 
--- a region lies right below its parent
+-- | a region lies right below its parent
 abbrev pub is_below : Id → RegionRow → Bool
 is_below parent region = names_id parent region.parent
 
+-- | an endpoint lies in a region, or is one of a service
 abbrev pub is_in_region : Id → EndpointRow → Bool
 is_in_region region endpoint = names_id region endpoint.region
 
@@ -80,9 +83,11 @@ without_service id state = record {
   endpoints = filter (λ endpoint. not (is_of_service id endpoint)) state.endpoints;
 }
 
+-- an endpoint goes alone
 abbrev pub without_endpoint : Id → CatalogState → CatalogState
 without_endpoint id state = record state { endpoints = drop_row id_cmp (λ r. r.id) id state.endpoints }
 
+-- the same of a row of any kind
 abbrev pub with_row : CatalogRow → CatalogState → CatalogState
 with_row (row.Region region) state = with_region region state
 with_row (row.Service service) state = with_service service state

@@ -1,4 +1,5 @@
 -- Why a change of the catalog is refused (Identity API v3, regions, services and endpoints): the first cause that applies.
+-- Source: Identity API v3, the service catalog; own limits.
 use Rattle.std.specs.Prelude.{nat_le, [], ◌∷◌, length, find, Option, Some, None, is_some, is_none, option_map}
 use Rattle.ks_base.specs.declared.kinds.Kind.TheVariants as kind
 use Rattle.ks_base.specs.declared.catalog.CatalogFault.{CatalogFault}
@@ -15,6 +16,7 @@ use Rattle.ks_base.specs.Limits.{limit}
 use Rattle.ks_base.specs.Refusals.{fault_if, first_of}
 use Rattle.ks_base.specs.Rows.{Id}
 
+-- no row of the kind has the id
 abbrev pub region_absent : CatalogState → Id → Option CatalogFault
 region_absent state id = fault_if (is_none (region_of id state.regions)) (fault.Absent kind.Region id)
 
@@ -24,17 +26,18 @@ service_absent state id = fault_if (is_none (service_of id state.services)) (fau
 abbrev pub endpoint_absent : CatalogState → Id → Option CatalogFault
 endpoint_absent state id = fault_if (is_none (endpoint_of id state.endpoints)) (fault.Absent kind.Endpoint id)
 
--- a region that is named stands
+-- | a region is named and does not stand
 abbrev pub named_region_absent : CatalogState → Option Id → Option CatalogFault
 named_region_absent state None = None
 named_region_absent state (Some id) = region_absent state id
 
--- the lowest region right below it, else the lowest endpoint in it
+-- | the lowest region right below it, else the lowest endpoint in it
 abbrev pub has_children : CatalogState → Id → Option CatalogFault
 has_children state id = first_of (
     option_map (λ child. fault.HasChildren child.id) (find (is_below id) state.regions) ∷
     option_map (λ endpoint. fault.HasChildren endpoint.id) (find (is_in_region id) state.endpoints) ∷ [])
 
+-- no more rows of the kind have room, or one has the id
 abbrev pub regions_full : CatalogState → Option CatalogFault
 regions_full state = fault_if (nat_le (limit kind.Region) (length state.regions)) (fault.Full kind.Region)
 
@@ -53,6 +56,7 @@ service_id_taken state id = fault_if (is_some (service_of id state.services)) (f
 abbrev pub endpoint_id_taken : CatalogState → Id → Option CatalogFault
 endpoint_id_taken state id = fault_if (is_some (endpoint_of id state.endpoints)) (fault.IdTaken id)
 
+-- the first cause that refuses a new row: a parent, a service or a region that it names is absent, the table is full, the id is taken
 unfoldable pub add_region_fault : CatalogState → RegionRow → Option CatalogFault
 add_region_fault state row = first_of (named_region_absent state row.parent ∷ regions_full state ∷ region_id_taken state row.id ∷ [])
 
@@ -64,6 +68,7 @@ add_endpoint_fault state row = first_of (
     service_absent state row.service ∷ named_region_absent state row.region ∷ endpoints_full state ∷
     endpoint_id_taken state row.id ∷ [])
 
+-- the first that refuses a changed row: it is absent, and then what it names
 unfoldable pub set_region_fault : CatalogState → RegionRow → Option CatalogFault
 set_region_fault state row = first_of (region_absent state row.id ∷ named_region_absent state row.parent ∷ [])
 
@@ -74,6 +79,7 @@ unfoldable pub set_endpoint_fault : CatalogState → EndpointRow → Option Cata
 set_endpoint_fault state row = first_of (
     endpoint_absent state row.id ∷ service_absent state row.service ∷ named_region_absent state row.region ∷ [])
 
+-- the first that refuses the end of a row: it is absent, and a region or an endpoint lies in the region
 unfoldable pub drop_region_fault : CatalogState → Id → Option CatalogFault
 drop_region_fault state id = first_of (region_absent state id ∷ has_children state id ∷ [])
 

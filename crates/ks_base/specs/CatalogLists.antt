@@ -1,4 +1,5 @@
 -- Which rows of the catalog a listing has (Identity API v3, regions, services and endpoints).
+-- Source: Identity API v3, the service catalog.
 use Rattle.std.specs.Prelude.{Bool, ◌&&◌, List, codes, filter, map}
 use Rattle.ks_base.specs.declared.catalog.CatalogKind.{CatalogKind}
 use Rattle.ks_base.specs.declared.catalog.CatalogKind.TheVariants as kind
@@ -9,6 +10,7 @@ use Rattle.ks_base.specs.Catalog.{CatalogState, interface_word}
 use Rattle.ks_base.specs.Filters.{Fields, has_id, has_text}
 use Rattle.ks_base.specs.Rows.{Id}
 
+-- a row agrees with all that a filter gives of it
 abbrev pub is_region_listed : Fields → RegionRow → Bool
 is_region_listed fields row = has_id fields (codes "parent_region_id") row.parent
 

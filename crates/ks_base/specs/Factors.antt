@@ -1,5 +1,6 @@
 -- Second factors of users: secrets from which codes are made (RFC 6238), and rules of the methods that a user has to
 -- log in by. Both stand in the order of ids.
+-- Source: Identity API v3, credentials of type `totp`; own limits.
 use Rattle.std.specs.Prelude.{nat_le, Bool, not, List, [], ◌∷◌, length, filter, map, Option, is_some, is_none}
 use Rattle.ks_base.specs.declared.factors.MfaRow.{MfaRow}
 use Rattle.ks_base.specs.declared.factors.SecretRow.{SecretRow}
@@ -11,11 +12,12 @@ use Rattle.ks_base.specs.Refusals.{fault_if, first_of}
 use Rattle.ks_base.specs.Rows.{Id, same}
 use Rattle.ks_base.specs.Tables.{id_cmp, find_row, put_row, drop_row}
 
+-- | the secrets of codes and the rules of methods, as lists
 pub record FactorState : Type 0 where
   pub secrets : List SecretRow
   pub rules : List MfaRow
 
--- the rows of an id
+-- the secret of an id, the rules of a user; a secret is a user's
 abbrev pub secret_of : Id → List SecretRow → Option SecretRow
 secret_of id secrets = find_row id_cmp (λ row. row.id) id secrets
 
@@ -25,7 +27,7 @@ rules_of user rules = find_row id_cmp (λ row. row.user) user rules
 abbrev pub is_secret_of : Id → SecretRow → Bool
 is_secret_of user row = same row.user user
 
--- the list that is shown
+-- the ids of all secrets
 abbrev pub secret_ids : FactorState → List Id
 secret_ids state = map (λ row. row.id) state.secrets
 
@@ -56,6 +58,7 @@ secret_id_taken state id = fault_if (is_some (secret_of id state.secrets)) (faul
 abbrev pub secret_absent : FactorState → Id → Option RowFault
 secret_absent state id = fault_if (is_none (secret_of id state.secrets)) (fault.Absent kind.Secret id)
 
+-- the first cause that refuses a new secret (table full, id taken), and the end of one (absent)
 unfoldable pub add_secret_fault : FactorState → SecretRow → Option RowFault
 add_secret_fault state row = first_of (secrets_full state ∷ secret_id_taken state row.id ∷ [])
 

@@ -7,7 +7,7 @@ use Rattle.ks_base.specs.Rows.{Id, Text}
 abbrev pub Fields : Type 0
 Fields = List (Text × Text)
 
--- the first value under this name
+-- the first value of a listing's filter under this name
 unfoldable pub value_in : Fields → Text → Option Text
 value_in fields name = option_map (λ field. field.1) (find (λ field. bytes_eq field.0 name) fields)
 
@@ -15,7 +15,7 @@ value_in fields name = option_map (λ field. field.1) (find (λ field. bytes_eq 
 abbrev pub has_text : Fields → Text → Text → Bool
 has_text fields name value = option_map_or (bytes_eq value) (value_in fields name) true
 
--- the same of a value that may not be there
+-- nothing is given under this name, or this id, which a row without one has not
 abbrev pub has_id : Fields → Text → Option Id → Bool
 has_id fields name None = is_none (value_in fields name)
 has_id fields name (Some id) = has_text fields name id

@@ -6,10 +6,11 @@ use Rattle.ks_base.specs.declared.limits.TheConstants.{ID_BYTES}
 abbrev pub is_between : ℕ → ℕ → ℕ → Bool
 is_between low high b = nat_le low b && nat_le b high
 
--- 0-9, A-Z, a-z, _ and -
+-- | one of the bytes of an id: 0-9, A-Z, a-z, _ and -
 abbrev pub is_id_byte : ℕ → Bool
 is_id_byte b = is_between 48 57 b || (is_between 65 90 b || (is_between 97 122 b || ((b == 95) || (b == 45))))
 
+-- 1 to 64 of these bytes
 abbrev pub IsId : List ℕ → Type 0
 IsId text = (0 < length text) × (length text ≤ ID_BYTES) × (list_all is_id_byte text ≡ true)
 

@@ -1,3 +1,4 @@
+-- Rows and tables. What every layer speaks of. `IdFields.antt` and `OrderLaws.antt` hold proofs that types need, and no meaning.
 pub mod AppCreds
 pub mod Catalog
 pub mod CatalogFaults

@@ -19,10 +19,12 @@ abbrev pub actor_rank : Actor → ℕ
 actor_rank (actors.User id) = 0
 actor_rank (actors.Group id) = 1
 
+-- the id of an actor
 abbrev pub actor_id : Actor → List ℕ
 actor_id (actors.User id) = id
 actor_id (actors.Group id) = id
 
+-- users come before groups, each by id
 abbrev pub actor_cmp : Actor → Actor → Ordering
 actor_cmp = then_cmp (on actor_rank nat_cmp) (on actor_id id_cmp)
 
@@ -32,7 +34,7 @@ target_rank targets.System = 0
 target_rank (targets.Domain id) = 1
 target_rank (targets.Project id) = 2
 
--- the system has no id
+-- the id of a target, which the system has not
 abbrev pub target_id : Target → Option (List ℕ)
 target_id targets.System = None
 target_id (targets.Domain id) = Some id
@@ -42,6 +44,7 @@ target_id (targets.Project id) = Some id
 abbrev pub target_bytes : Target → List ℕ
 target_bytes at = option_map_or (λ id. id) (target_id at) []
 
+-- the system comes before domains and these before projects, each by id
 abbrev pub target_cmp : Target → Target → Ordering
 target_cmp = then_cmp (on target_rank nat_cmp) (on target_bytes id_cmp)
 
@@ -49,6 +52,7 @@ target_cmp = then_cmp (on target_rank nat_cmp) (on target_bytes id_cmp)
 abbrev pub site_of : GrantRow → GrantSite
 site_of row = record { actor = row.actor; target = row.target; inherited = row.inherited }
 
+-- | the order of these, which goes first in that of grants
 abbrev pub site_cmp : GrantSite → GrantSite → Ordering
 site_cmp = then_cmp (then_cmp (on (λ site. site.actor) actor_cmp) (on (λ site. site.target) target_cmp)) (on (λ site. site.inherited) bool_cmp)
 
@@ -56,11 +60,11 @@ site_cmp = then_cmp (then_cmp (on (λ site. site.actor) actor_cmp) (on (λ site.
 abbrev pub grant_cmp : GrantRow → GrantRow → Ordering
 grant_cmp = then_cmp (then_cmp (then_cmp (on (λ row. row.actor) actor_cmp) (on (λ row. row.target) target_cmp)) (on (λ row. row.inherited) bool_cmp)) (on (λ row. row.role) id_cmp)
 
--- by group, then by user
+-- | by group, then by user
 abbrev pub member_cmp : MemberRow → MemberRow → Ordering
 member_cmp = then_cmp (on (λ row. row.group) id_cmp) (on (λ row. row.user) id_cmp)
 
--- by user, then by group
+-- | by user, then by group: the order of memberships as their users see them
 abbrev pub by_user_cmp : ByUser → ByUser → Ordering
 by_user_cmp = then_cmp (on (λ side. side.row.user) id_cmp) (on (λ side. side.row.group) id_cmp)
 

@@ -1,4 +1,5 @@
 -- Users and groups as lists of rows in the order of their ids, and memberships by group and then by user.
+-- Source: Identity API v3, users and groups.
 use Rattle.std.specs.Prelude.{Bool, not, ◌&&◌, List, map, filter, Option}
 use Rattle.ks_base.specs.declared.users.UserRow.{UserRow}
 use Rattle.ks_base.specs.declared.users.MemberRow.{MemberRow}
@@ -7,6 +8,7 @@ use Rattle.ks_base.specs.Rows.{Id, Text, same}
 use Rattle.ks_base.specs.Orders.{member_cmp}
 use Rattle.ks_base.specs.Tables.{id_cmp, find_row, put_row, drop_row}
 
+-- | users, groups and memberships as lists
 pub record PeopleState : Type 0 where
   pub users : List UserRow
   pub groups : List GroupRow
@@ -16,16 +18,18 @@ pub record PeopleState : Type 0 where
 abbrev pub is_user_named : Id → Text → UserRow → Bool
 is_user_named domain name row = same row.domain domain && same row.name name
 
--- and apart from these among its groups
+-- | and apart from these among its groups
 abbrev pub is_group_named : Id → Text → GroupRow → Bool
 is_group_named domain name row = same row.domain domain && same row.name name
 
+-- | a row of a domain
 abbrev pub is_user_in : Id → UserRow → Bool
 is_user_in domain row = same row.domain domain
 
 abbrev pub is_group_in : Id → GroupRow → Bool
 is_group_in domain row = same row.domain domain
 
+-- | a membership of a user, of a group
 abbrev pub is_of_user : Id → MemberRow → Bool
 is_of_user user row = same row.user user
 
@@ -36,7 +40,7 @@ is_of_group group row = same row.group group
 abbrev pub member_of : MemberRow → List MemberRow → Option MemberRow
 member_of row members = find_row member_cmp (λ next. next) row members
 
--- the lists that are shown
+-- the ids of a domain's users and groups, of a user's groups, of a group's users
 abbrev pub users_of : Id → PeopleState → List Id
 users_of domain state = map (λ row. row.id) (filter (is_user_in domain) state.users)
 
@@ -73,5 +77,6 @@ without_group id state = record state {
   members = filter (λ row. not (is_of_group id row)) state.members;
 }
 
+-- the state without a membership
 abbrev pub without_member : MemberRow → PeopleState → PeopleState
 without_member row state = record state { members = drop_row member_cmp (λ r. r) row state.members }

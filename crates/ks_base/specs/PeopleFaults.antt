@@ -1,4 +1,5 @@
--- Why a change of users, groups and memberships is refused (Identity API v3): the first cause that applies.
+-- Why a change of users, groups and memberships is refused: the first cause that applies.
+-- Source: Identity API v3, users and groups.
 use Rattle.std.specs.Prelude.{nat_le, Bool, not, ◌&&◌, [], ◌∷◌, length, find, Option, is_some, is_none}
 use Rattle.std.specs.Option.{option_map}
 use Rattle.ks_base.specs.declared.kinds.Kind.TheVariants as kind
@@ -12,6 +13,7 @@ use Rattle.ks_base.specs.Refusals.{fault_if, first_of}
 use Rattle.ks_base.specs.Rows.{Id, same, user_of, group_of}
 use Rattle.ks_base.specs.People.{PeopleState, is_user_named, is_group_named, member_of}
 
+-- no user, or no group, has the id
 abbrev pub user_absent : PeopleState → Id → Option RowFault
 user_absent state id = fault_if (is_none (user_of id state.users)) (fault.Absent kind.User id)
 
@@ -22,6 +24,7 @@ group_absent state id = fault_if (is_none (group_of id state.groups)) (fault.Abs
 abbrev pub member_absent : PeopleState → MemberRow → Option RowFault
 member_absent state row = fault_if (is_none (member_of row state.members)) (fault.Absent kind.Member row.user)
 
+-- a user, or a group, of the domain has the name
 abbrev pub user_name_taken : PeopleState → UserRow → Option RowFault
 user_name_taken state row = option_map (λ holder. fault.NameTaken holder.id) (find (is_user_named row.domain row.name) state.users)
 
@@ -57,6 +60,8 @@ user_id_taken state id = fault_if (is_some (user_of id state.users)) (fault.IdTa
 abbrev pub group_id_taken : PeopleState → Id → Option RowFault
 group_id_taken state id = fault_if (is_some (group_of id state.groups)) (fault.IdTaken id)
 
+-- the first cause that refuses a new user or group (name taken, table full, id taken), a changed one (absent, another has the name), the
+-- end of one (absent)
 unfoldable pub add_user_fault : PeopleState → UserRow → Option RowFault
 add_user_fault state row = first_of (user_name_taken state row ∷ users_full state ∷ user_id_taken state row.id ∷ [])
 
@@ -75,6 +80,8 @@ set_group_fault state row = first_of (group_absent state row.id ∷ other_group_
 unfoldable pub drop_group_fault : PeopleState → Id → Option RowFault
 drop_group_fault state id = first_of (group_absent state id ∷ [])
 
+-- the same of a membership: the group is absent, the user is absent, the table is full and the membership does not stand; and of its end:
+-- one of the two is absent, or the membership is
 unfoldable pub join_group_fault : PeopleState → MemberRow → Option RowFault
 join_group_fault state row = first_of (
     group_absent state row.group ∷ user_absent state row.user ∷ members_full state row ∷ [])

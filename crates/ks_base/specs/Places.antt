@@ -16,6 +16,7 @@ IsGapAt cmp key k rows zero = AllByRecursion (λ row. cmp (key row) k ≡ Greate
 IsGapAt cmp key k [] (suc i) = ⊥
 IsGapAt cmp key k (row ∷ rows) (suc i) = (cmp (key row) k ≡ Less) × IsGapAt cmp key k rows i
 
+-- where a search among ascending rows ends: at the row with the key, or where it belongs
 abbrev pub IsPlace : {K X : Type 0} → (K → K → Ordering) → (X → K) → K → List X → Result ℕ ℕ → Type 0
 IsPlace cmp key k rows (Ok i) = IsFoundAt cmp key k rows i
 IsPlace cmp key k rows (Err i) = IsGapAt cmp key k rows i

@@ -1,10 +1,11 @@
 -- The first cause that applies, and what a refusal leaves.
 use Rattle.std.specs.Prelude.{◌≡◌, ◌⊎◌, Bool, List, [], ◌∷◌, Option, Some, None, Result, Ok, Err, if◌then◌else◌}
 
+-- a fault where it applies
 abbrev pub fault_if : {F : Type 0} → Bool → F → Option F
 fault_if applies fault = if applies then Some fault else None
 
--- the first that applies
+-- | the first that applies
 abbrev pub first_of : {F : Type 0} → List (Option F) → Option F
 first_of [] = None
 first_of (None ∷ faults) = first_of faults

@@ -1,4 +1,5 @@
--- Which events revoke a token (OS-REVOKE, narrowed).
+-- Which events revoke a token.
+-- Source: OS-REVOKE, narrowed.
 use Rattle.std.specs.Prelude.{ℕ, ◌+◌, nat_le, Bool, false, ◌&&◌, ◌||◌, List, filter, Option, Some, None}
 use Rattle.std.specs.Str.{bytes_eq}
 use Rattle.std.specs.List.{list_any}
@@ -13,7 +14,7 @@ abbrev pub has : Option Id → Id → Bool
 has None id = false
 has (Some other) id = same other id
 
--- the thing that an event names is the token's audit id, its user, trustor or trustee, its project, its
+-- | the thing that an event names is the token's audit id, its user, trustor or trustee, its project, its
 -- trust, or the domain of its user or of its scope
 abbrev pub names : Revoke → Holder → Bool
 names (revoke.Audit audit) holder = bytes_eq audit holder.audit

@@ -1,4 +1,5 @@
 -- Roles in the order of their ids, and implications in the order in which they are shown.
+-- Source: Identity API v3, roles and implied roles.
 use Rattle.std.specs.Prelude.{Bool, not, ◌||◌, List, map, filter, is_some}
 use Rattle.ks_base.specs.declared.rows.RoleRow.{RoleRow}
 use Rattle.ks_base.specs.declared.grants.ImplyRow.{ImplyRow}
@@ -6,6 +7,7 @@ use Rattle.ks_base.specs.Rows.{Id, Text, same}
 use Rattle.ks_base.specs.Orders.{imply_cmp}
 use Rattle.ks_base.specs.Tables.{id_cmp, find_row, put_row, drop_row}
 
+-- | roles and implications as lists
 pub record RolesState : Type 0 where
   pub roles : List RoleRow
   pub implications : List ImplyRow
@@ -14,6 +16,7 @@ pub record RolesState : Type 0 where
 abbrev pub is_named : Text → RoleRow → Bool
 is_named name row = same row.name name
 
+-- | an implication names a role
 abbrev pub names_role : Id → ImplyRow → Bool
 names_role id row = same row.prior id || same row.implied id
 
@@ -25,6 +28,7 @@ is_of_prior prior row = same row.prior prior
 abbrev pub implied_ids : Id → List ImplyRow → List Id
 implied_ids prior implications = map (λ row. row.implied) (filter (is_of_prior prior) implications)
 
+-- an implication stands
 abbrev pub is_implication : ImplyRow → List ImplyRow → Bool
 is_implication row implications = is_some (find_row imply_cmp (λ next. next) row implications)
 
@@ -39,6 +43,7 @@ without_role id state = record {
   implications = filter (λ row. not (names_role id row)) state.implications;
 }
 
+-- the state with an implication, and without it
 abbrev pub with_implication : ImplyRow → RolesState → RolesState
 with_implication row state = record state { implications = put_row imply_cmp (λ next. next) row state.implications }
 

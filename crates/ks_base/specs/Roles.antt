@@ -1,4 +1,5 @@
 -- Which roles a user has where (Identity API v3, role assignments and implied roles; OS-INHERIT).
+-- Source: Identity API v3, implied roles and role assignments; OS-INHERIT.
 use Rattle.std.specs.Prelude.{◌≡◌, Bool, true, false, List, [], ◌∷◌}
 use Rattle.ks_base.specs.declared.users.MemberRow.{MemberRow}
 use Rattle.ks_base.specs.declared.rows.ProjectRow.{ProjectRow}
@@ -47,7 +48,7 @@ Reaches projects true target.System (target.Project project) = ⊥
 Reaches projects true granted (target.Domain domain) = ⊥
 Reaches projects true granted target.System = ⊥
 
--- a role is effective for a user on a target
+-- a role is effective for a user on a target where such a grant stands and a walk leads from its role
 pub record Effective (rows : Rows) (user : Id) (wanted : Target) (role : Id) : Type 0 where
   pub grant : GrantRow
   pub stands : Among rows.grants grant

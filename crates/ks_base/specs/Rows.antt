@@ -1,5 +1,6 @@
--- The rows of a state as lists (Identity API v3), and how they are found. Each list stands in the order of
--- its ids; grants, memberships and implications in the order in which they are shown.
+-- The rows of a state as lists, and how they are found. Each list stands in the order of its ids; grants, memberships and implications in
+-- the order in which they are shown.
+-- Source: Identity API v3.
 use Rattle.std.specs.Prelude.{ℕ, Bool, List, Option}
 use Rattle.std.specs.List.{list_any}
 use Rattle.std.specs.Str.{bytes_eq}
@@ -20,7 +21,7 @@ use Rattle.ks_base.specs.declared.catalog.ServiceRow.{ServiceRow}
 use Rattle.ks_base.specs.declared.catalog.EndpointRow.{EndpointRow}
 use Rattle.ks_base.specs.Tables.{id_cmp, find_row}
 
--- ids and texts as contracts see them
+-- ids and texts as contracts see them: their bytes; two that are the same; an id is one of a list
 abbrev pub Id : Type 0
 Id = List ℕ
 
@@ -33,7 +34,7 @@ same a b = bytes_eq a b
 abbrev pub has_id : List Id → Id → Bool
 has_id ids id = list_any (λ other. same other id) ids
 
--- the lists of rows of a state
+-- the rows of a state: a list for each table, in the order of its ids, or of the rows themselves where they are their own key
 pub record Rows : Type 0 where
   pub domains : List DomainRow
   pub projects : List ProjectRow
@@ -52,7 +53,7 @@ pub record Rows : Type 0 where
   -- the methods that users have to log in by
   pub factor_rules : List MfaRow
 
--- the rows of an id
+-- the row with an id, if one stands
 abbrev pub domain_of : Id → List DomainRow → Option DomainRow
 domain_of id domains = find_row id_cmp (λ row. row.id) id domains
 

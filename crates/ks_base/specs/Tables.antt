@@ -14,10 +14,12 @@ id_cmp = slice_cmp nat_cmp
 abbrev pub AreAbove : {K X : Type 0} → (K → K → Ordering) → (X → K) → K → List X → Type 0
 AreAbove cmp key low = AllByRecursion (λ row. cmp low (key row) ≡ Less)
 
+-- the keys of rows ascend, each once
 abbrev pub IsAscending : {K X : Type 0} → (K → K → Ordering) → (X → K) → List X → Type 0
 IsAscending cmp key [] = Unit {0}
 IsAscending cmp key (row ∷ rows) = AreAbove cmp key (key row) rows × IsAscending cmp key rows
 
+-- a row has this key
 abbrev pub has_key : {K X : Type 0} → (K → K → Ordering) → (X → K) → K → X → Bool
 has_key cmp key k row = is_eq (cmp (key row) k)
 

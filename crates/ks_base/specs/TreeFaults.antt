@@ -1,4 +1,5 @@
--- Why a change of the trees is refused (Identity API v3, domains and projects): the first cause that applies.
+-- Why a change of the trees is refused: the first cause that applies.
+-- Source: Identity API v3, domains and projects; own limits.
 use Rattle.std.specs.Prelude.{ℕ, ◌+◌, nat_lt, nat_le, Bool, false, not, ◌&&◌, if◌then◌else◌, List, [], ◌∷◌, length, find, Option, Some, None, is_some, is_none}
 use Rattle.std.specs.List.{list_any}
 use Rattle.std.specs.Option.{option_map}
@@ -28,13 +29,15 @@ parent_wrong row (Some parent) = fault_if (not (same parent.domain row.domain)) 
 abbrev pub no_parent : TreeState → ProjectRow → Option TreeFault
 no_parent state row = if is_top row then None else parent_wrong row (project_of row.parent state.projects)
 
--- a top project lies 1 below its domain
+-- | a top project lies 1 below its domain
 abbrev pub level : List ProjectRow → ProjectRow → ℕ
 level projects row = length (above projects row) + 1
 
+-- | more than 5 is too deep
 abbrev pub is_too_deep : TreeState → ProjectRow → Bool
 is_too_deep state row = nat_lt LEVELS (level state.projects row)
 
+-- a cause that applies, with what it names
 abbrev pub too_deep : TreeState → ProjectRow → Option TreeFault
 too_deep state row = fault_if (is_too_deep state row) fault.TooDeep
 
@@ -51,10 +54,11 @@ is_enabled_below projects id row = row.enabled && lies_below projects id row
 abbrev pub enabled_below : TreeState → Id → Option TreeFault
 enabled_below state id = option_map (λ row. fault.EnabledBelow row.id) (find (is_enabled_below state.projects id) state.projects)
 
--- the nearest disabled project above one
+-- | the nearest disabled project above one
 abbrev pub first_disabled : TreeState → ProjectRow → Option ProjectRow
 first_disabled state row = find (λ ancestor. not ancestor.enabled) (above state.projects row)
 
+-- the causes
 abbrev pub disabled_above : TreeState → ProjectRow → Option TreeFault
 disabled_above state row = option_map (λ ancestor. fault.DisabledAbove ancestor.id) (first_disabled state row)
 
@@ -93,15 +97,19 @@ domain_id_taken state id = fault_if (is_some (domain_of id state.domains)) (faul
 abbrev pub project_id_taken : TreeState → Id → Option TreeFault
 project_id_taken state id = fault_if (is_some (project_of id state.projects)) (fault.IdTaken id)
 
+-- the first cause that refuses a new domain: name taken, table full, id taken
 unfoldable pub add_domain_fault : TreeState → DomainRow → Option TreeFault
 add_domain_fault state row = first_of (
     domain_name_taken state row ∷ domains_full state ∷ domain_id_taken state row.id ∷ [])
 
+-- the first cause that refuses a new project: the domain is absent, the parent is absent or in another domain, it lies too deep, a project
+-- above it is disabled, the name is taken, the table is full, the id is taken
 unfoldable pub add_project_fault : TreeState → ProjectRow → Option TreeFault
 add_project_fault state row = first_of (
     domain_absent state row.domain ∷ no_parent state row ∷ too_deep state row ∷ disabled_above state row ∷
     project_name_taken state row ∷ projects_full state ∷ project_id_taken state row.id ∷ [])
 
+-- the first that refuses a changed one: another has the name
 unfoldable pub set_domain_fault : TreeState → DomainRow → Option TreeFault
 set_domain_fault state row = first_of (other_domain_named state row ∷ [])
 
@@ -120,11 +128,14 @@ disable_fault state row = if disables (project_of row.id state.projects) row the
 unfoldable pub enable_fault : TreeState → ProjectRow → Option TreeFault
 enable_fault state row = if enables (project_of row.id state.projects) row then disabled_above state row else None
 
+-- the first that refuses a changed one: it is disabled above an enabled one, or enabled below a disabled one, or another has the name
 unfoldable pub set_project_fault : TreeState → ProjectRow → Option TreeFault
 set_project_fault state row = first_of (disable_fault state row ∷ enable_fault state row ∷ other_project_named state row ∷ [])
 
+-- the first that refuses the end of one: absent, still enabled
 unfoldable pub drop_domain_fault : TreeState → Id → Option TreeFault
 drop_domain_fault state id = first_of (domain_absent state id ∷ enabled_domain (domain_of id state.domains) ∷ [])
 
+-- the first that refuses the end of one: absent, or projects lie below it
 unfoldable pub drop_project_fault : TreeState → Id → Option TreeFault
 drop_project_fault state id = first_of (project_absent state id ∷ has_children state id ∷ [])

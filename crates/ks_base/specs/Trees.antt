@@ -1,10 +1,12 @@
 -- The trees of domains and projects as lists of rows, each in the order of its ids.
+-- Source: Identity API v3, domains and projects.
 use Rattle.std.specs.Prelude.{Bool, not, ◌&&◌, List, map, filter}
 use Rattle.ks_base.specs.declared.rows.DomainRow.{DomainRow}
 use Rattle.ks_base.specs.declared.rows.ProjectRow.{ProjectRow}
 use Rattle.ks_base.specs.Rows.{Id, Text, same}
 use Rattle.ks_base.specs.Tables.{id_cmp, put_row, drop_row}
 
+-- | domains and projects as lists
 pub record TreeState : Type 0 where
   pub domains : List DomainRow
   pub projects : List ProjectRow
@@ -17,12 +19,15 @@ is_domain_named name row = same row.name name
 abbrev pub is_project_named : Id → Text → ProjectRow → Bool
 is_project_named domain name row = same row.domain domain && same row.name name
 
+-- | a project of a domain
 abbrev pub lies_in : Id → ProjectRow → Bool
 lies_in domain row = same row.domain domain
 
+-- the ids of the projects of a domain
 abbrev pub projects_of : Id → TreeState → List Id
 projects_of domain state = map (λ row. row.id) (filter (lies_in domain) state.projects)
 
+-- the ids of all domains
 abbrev pub domain_ids : TreeState → List Id
 domain_ids state = map (λ row. row.id) state.domains
 

@@ -1,4 +1,5 @@
--- Chains of trusts, and when a trust is made, used and ended (OS-TRUST).
+-- Chains of trusts, and when a trust is made, used and ended.
+-- Source: OS-TRUST.
 use Rattle.std.specs.Prelude.{◌≡◌, ℕ, zero, suc, ◌+◌, ◌-◌, ◌<◌, ◌==◌, ◌⊎◌, nat_lt, nat_le, Bool, true, false, not, ◌&&◌, ◌||◌, if◌then◌else◌, List, [], ◌∷◌, length, filter, find, map, Option, Some, None, IfSome, IsSome, IsSomeAnd}
 use Rattle.std.specs.List.{list_any}
 use Rattle.std.specs.Option.{option_map, option_map_or}
@@ -36,7 +37,7 @@ pub record LeadsTo (trusts : List TrustRow) (trust : TrustRow) (first : Id) : Ty
   pub is_first : top.parent ≡ None
   pub trustor_is : top.trustor ≡ first
 
--- the parent of a trust stands, has its project, and a higher count
+-- the parent of a trust, if it names one, stands, has its project, and a higher count
 pub record IsChained (trusts : List TrustRow) (trust : TrustRow) : Type 0 where
   pub stands : IsSome trust.parent → IsSome (parent_trust trusts trust.parent)
   pub below : (parent : TrustRow) → parent_trust trusts trust.parent ≡ Some parent → (trust.project ≡ parent.project) × (trust.count < parent.count)
@@ -61,6 +62,7 @@ unfoldable pub last_trustor : TrustRow → List TrustRow → Id
 last_trustor trust [] = trust.trustor
 last_trustor trust (parent ∷ above) = last_trustor parent above
 
+-- the first trustor, computed
 abbrev pub first_trustor : List TrustRow → TrustRow → Id
 first_trustor trusts trust = last_trustor trust (lineage trusts trust)
 
@@ -70,7 +72,7 @@ first_of_new trusts trust = option_map_or (first_trustor trusts) (parent_trust t
 
 -- trusts that go
 
--- a revocation of a user, a project or a trust names trusts; one of a token or a domain names none
+-- | a revocation of a user, a project or a trust names trusts; one of a token or a domain names none
 abbrev pub names_trust : Revoke → TrustRow → Bool
 names_trust (revoke.Audit audit) trust = false
 names_trust (revoke.User id) trust = same trust.trustor id || same trust.trustee id
@@ -78,10 +80,11 @@ names_trust (revoke.Project id) trust = same trust.project id
 names_trust (revoke.Domain id) trust = false
 names_trust (revoke.Trust id) trust = same trust.id id
 
+-- | a trust has a role
 abbrev pub has_role : Id → TrustRow → Bool
 has_role role trust = has_id trust.roles role
 
--- a trust goes where it is touched, or one above it is
+-- a trust goes where it is touched, or one above it is; those that go, and those that are left
 abbrev pub goes : List TrustRow → (TrustRow → Bool) → TrustRow → Bool
 goes trusts touched trust = list_any touched (trust ∷ lineage trusts trust)
 
@@ -93,7 +96,7 @@ trusts_left trusts touched = filter (λ trust. not (goes trusts touched trust)) 
 
 -- making
 
--- a new trust has its parent's project, and a count that follows from the parent's: one less, or 0
+-- | a new trust has its parent's project and, where the parent has a count left, one less or 0
 abbrev pub Follows : TrustRow → TrustRow → Type 0
 Follows trust parent = (trust.project ≡ parent.project) × (0 < parent.count → (trust.count + 1 ≡ parent.count) ⊎ (trust.count ≡ 0))
 
@@ -101,7 +104,7 @@ Follows trust parent = (trust.project ≡ parent.project) × (0 < parent.count �
 abbrev pub FollowsParent : List TrustRow → TrustRow → Type 0
 FollowsParent trusts trust = IfSome trust.parent (λ id. IsSomeAnd (trust_of id trusts) (Follows trust))
 
--- the expiry is not above the moment
+-- the moment of an expiry has come, where there is one
 abbrev pub is_expired : Option ℕ → ℕ → Bool
 is_expired None moment = false
 is_expired (Some expires) moment = nat_le expires moment
@@ -134,7 +137,9 @@ abbrev pub parent_fault : TrustRow → Option TrustRow → Option TrustFault
 parent_fault trust None = None
 parent_fault trust (Some parent) = under_fault parent trust
 
--- the first cause for which a trust is not made, where these are the first trustor's roles
+-- the first cause for which a trust is not made, where these are the first trustor's roles: under a parent no count is left, a role is not
+-- the parent's, it impersonates and the parent does not, it has uses of its own, it expires later; then the first trustor lacks a role, it
+-- has expired, the table is full, the id is taken
 unfoldable pub creation_fault : List TrustRow → List Id → ℕ → TrustRow → Option TrustFault
 creation_fault trusts held moment trust = first_of (
     parent_fault trust (parent_trust trusts trust.parent) ∷
@@ -156,7 +161,7 @@ found_use_fault id trustee moment (Some trust) = first_of (
     fault_if (is_expired trust.expires moment) fault.Expired ∷
     fault_if (is_spent trust.remaining) fault.Spent ∷ [])
 
--- the first cause for which a trust is not used
+-- the first cause for which a trust is not used: absent, another's, expired, no use left
 abbrev pub use_fault : List TrustRow → Id → Id → ℕ → Option TrustFault
 use_fault trusts id trustee moment = found_use_fault id trustee moment (trust_of id trusts)
 

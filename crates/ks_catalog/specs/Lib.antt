@@ -1,3 +1,5 @@
+-- What a project sees of the service catalog.
+
 -- What the public contracts mean. Of `steps` only private clauses speak.
 pub mod Urls
 pub mod ProjectCatalog

@@ -1,5 +1,6 @@
--- The URLs of endpoints, with places for the id of a project (Identity API v3, the service catalog): $(project_id)s,
--- %(project_id)s, $(tenant_id)s and %(tenant_id)s. All other text stands for itself.
+-- The URLs of endpoints, with places for the id of a project: $(project_id)s, %(project_id)s, $(tenant_id)s and %(tenant_id)s. All other
+-- text stands for itself.
+-- Source: Identity API v3, the service catalog; no other substitutions.
 use Rattle.std.specs.Prelude.{ℕ, zero, suc, Bool, false, ◌||◌, ◌==◌, if◌then◌else◌, nat_eq, List, [], ◌∷◌, ◌++◌, length, find, Option, Some, None, is_some, option_map, codes}
 use Rattle.std.specs.List.{starts_with}
 use Rattle.std.specs.Option.{option_map_or}
@@ -28,9 +29,11 @@ filled_behind zero id (b ∷ bytes) =
     option_map_or (λ left. id ++ filled_behind left id bytes) (place_length b bytes) (b ∷ filled_behind zero id bytes)
 filled_behind (suc left) id (b ∷ bytes) = filled_behind left id bytes
 
+-- | a URL with the project's id in each place (`$` or `%`, and behind it `(project_id)s` or `(tenant_id)s`) and all other text as it is
 abbrev pub filled : Id → Text → Text
 filled id url = filled_behind zero id url
 
+-- | a place stands in it
 unfoldable pub has_place : Text → Bool
 has_place [] = false
 has_place (b ∷ bytes) = is_some (place_length b bytes) || has_place bytes

@@ -8,6 +8,7 @@ use Rattle.ks_machine.specs.Outcomes.{Outcome}
 use Rattle.ks_machine.specs.Tables.{unless_tree}
 use Rattle.ks_machine.specs.TrustCommands.{unless_trust}
 
+-- what the tree, or the table of trusts, allows is done
 abbrev pub after_tree : Option TreeFault → Outcome → Attempt Cause Outcome
 after_tree fault outcome = unless_tree fault >>= (λ _. Go outcome)
 

@@ -1,3 +1,4 @@
+-- Plans, and checks that commands share.
 pub mod Checked
 pub mod Plans
 pub mod Tokens

@@ -20,13 +20,14 @@ outcome_of plan = record { told = plan.told; change = plan.change }
 abbrev pub valid_of : Caller → Valid
 valid_of caller = record { payload = caller.payload; issued = caller.issued; roles = caller.roles }
 
--- what a first check lacks names one of the three
+-- | what the first check without its fact lacks, of which exactly one of three is named
 abbrev pub Names : Needs → Lack → Type 0
 Names needs (Keys keys) = (needs.keys ≡ keys) × (needs.stored ≡ None) × (needs.fresh ≡ None)
 Names needs (Stored salt rounds) = (needs.keys ≡ []) × (needs.stored ≡ Some (salt, rounds)) × (needs.fresh ≡ None)
 Names needs (Fresh salt rounds) = (needs.keys ≡ []) × (needs.stored ≡ None) × (needs.fresh ≡ Some (salt, rounds))
 
--- an answer of the code is what the definition's checks say; of want of memory nothing is said
+-- an answer of the code is what the definition's checks say, exactly: its value, the first check that fails, or what the first check
+-- without its fact lacks; of want of memory nothing is said
 abbrev pub Gives : {X Y : Type 0} → (X → Y) → Result X Halt → Attempt Cause Y → Type 0
 Gives view (Ok x) said = said ≡ Go (view x)
 Gives view (Err (halt.Refused cause)) said = said ≡ Stop cause

@@ -36,7 +36,7 @@ abbrev pub answer_line : Result ReadToken Why → List ℕ
 answer_line (Ok held) = codes "valid " ++ (encode_lower held.plain ++ codes "\n")
 answer_line (Err why) = codes "refused " ++ (name_of why ++ codes "\n")
 
--- the one key is tried, and then the lines of the token's validity that need no tables
+-- the line that answers a token: the one key is tried, and then the lines of the token's validity that need no tables
 abbrev pub answer_of : Key → ℕ → List ℕ → List ℕ
 answer_of key moment token = answer_line (token_lines life moment false (first_opened (key ∷ []) token))
 
@@ -75,5 +75,6 @@ steps_of place (line ∷ lines) = go_on (step_of place line) place.lines (λ nex
 abbrev pub check_from : CheckPlace → List ℕ → Checked
 check_from place text = steps_of place (lines_of text)
 
+-- | what `check` writes for an input, and how it ends
 abbrev pub check_of : List ℕ → Checked
 check_of input = check_from (record { lines = 0; key = None; moment = 0 }) input

@@ -9,7 +9,7 @@ use Rattle.ks_commands.specs.declared.fault.Fault.TheVariants as fault
 use Rattle.ks_commands.specs.Check.{check_of, Whole, BadLine}
 use Rattle.ks_commands.specs.Lines.{AreWhole, line_feeds}
 
--- a check that a fault of the outside or want of memory cut short: what was written is the front of
+-- | a check that a fault of the outside or want of memory cut short: what was written is the front of
 -- the output for the bytes that were read
 pub record IsCutShort (input before : List ℕ) (left written : Option (List ℕ)) : Type 0 where
   pub read : List ℕ
@@ -20,7 +20,7 @@ pub record IsCutShort (input before : List ℕ) (left written : Option (List ℕ
   pub written_is : written ≡ Some (before ++ so_far)
   pub front : Begins so_far (check_of read).output
 
--- of an input whose line n is bad no more was read than the whole lines before it, of that line's beginning so many bytes as a line may
+-- | of an input whose line n is bad no more was read than the whole lines before it, of that line's beginning so many bytes as a line may
 -- have, and one piece
 pub record ReadsToLine (n : ℕ) (input : List ℕ) (left : Option (List ℕ)) : Type 0 where
   pub lines : List ℕ

@@ -10,7 +10,7 @@ use Rattle.ks_keyfiles.specs.Rotations.{IsRotating, rotated, rotation_fault}
 use Rattle.ks_commands.specs.declared.fault.Fault.{Fault}
 use Rattle.ks_commands.specs.declared.fault.Fault.TheVariants as fault
 
--- the key of 32 bytes: the first 16 sign, and the others encipher
+-- | the key of 32 bytes: the first 16 sign, and the others encipher
 abbrev pub key_from : List ℕ → Key
 key_from bytes = record { signing = take 16 bytes; encryption = drop 16 bytes }
 
@@ -26,7 +26,7 @@ unfoldable pub indices_text : List ℕ → List ℕ
 indices_text [] = []
 indices_text (index ∷ indices) = 32 ∷ (decimal index ++ indices_text indices)
 
--- the line that says which indices a folder has
+-- | the line that says which indices a folder has
 abbrev pub keys_line : List ℕ → List ℕ
 keys_line indices = codes "keys" ++ (indices_text indices ++ codes "\n")
 
@@ -51,7 +51,8 @@ MayHaveDrawn count random now = (now ≡ Some random) ⊎ HasDrawn count random 
 abbrev pub HasBegun : List ℕ → List ℕ → Option (List ℕ) → Type 0
 HasBegun line before now = (part : List ℕ) × Begins part line × (now ≡ Some (before ++ part))
 
--- how a setup ends, of a folder with these files, where the desk has these random bytes
+-- | how a setup ends, of a folder with these files, where the desk has these random bytes: what was drawn, what stands in the folder, and
+-- what was written
 abbrev pub EndsSetup : List ℕ → List KeyFile → List ℕ → Outside → Result (Unit {0}) Fault → Type 0
 EndsSetup random files before now (Ok done) =
     HasDrawn 64 random now.random × (setup_fault files ≡ None) × (now.files ≡ Some (set_up (staged_from random) (primary_from random)))
@@ -82,7 +83,7 @@ EndsSetup random files before now (Err (fault.Keeper why)) = ⊥
 EndsSetup random files before now (Err fault.OtherOpening) = ⊥
 EndsSetup random files before now (Err (fault.BadEntry n)) = ⊥
 
--- how a rotation ends that is to leave at most `max` keys
+-- | how a rotation ends that is to leave at most `max` keys
 abbrev pub EndsRotation : ℕ → List ℕ → List KeyFile → List ℕ → Outside → Result (Unit {0}) Fault → Type 0
 EndsRotation max random files before now (Ok done) =
     HasDrawn 32 random now.random × (rotation_fault (indices_of files) ≡ None) × (now.files ≡ Some (rotated (staged_from random) max files))

@@ -3,7 +3,7 @@ use Rattle.std.specs.Prelude.{◌≡◌, ◌⊎◌, ℕ, ◌+◌, ◌-◌, ◌*�
 use Rattle.std.specs.List.{list_all, onto_first, position}
 use Rattle.std.specs.Option.{option_and_then, option_map}
 
--- a line feed ends a line, and the last line may lack it
+-- | a line feed ends a line, and the last line may lack it
 unfoldable pub lines_of : List ℕ → List (List ℕ)
 lines_of [] = []
 lines_of (b ∷ bytes) = if b == 10 then [] ∷ lines_of bytes else onto_first b (lines_of bytes)
@@ -12,11 +12,11 @@ lines_of (b ∷ bytes) = if b == 10 then [] ∷ lines_of bytes else onto_first b
 abbrev pub IsInLine : List ℕ → Type 0
 IsInLine line = list_all (λ b. not (b == 10)) line ≡ true
 
--- how many lines end in a text
+-- | how many lines end in a text
 abbrev pub line_feeds : List ℕ → ℕ
 line_feeds text = length (filter (λ b. b == 10) text)
 
--- whole lines alone: there are none, or the last one has its line feed
+-- | whole lines alone: there are none, or the last one has its line feed
 abbrev pub AreWhole : List ℕ → Type 0
 AreWhole text = (text ≡ []) ⊎ ((before : List ℕ) × (text ≡ before ++ 10 ∷ []))
 
@@ -31,7 +31,7 @@ unfoldable pub with_digits : ℕ → List ℕ → Option ℕ
 with_digits n [] = Some n
 with_digits n (b ∷ bytes) = option_and_then (λ m. with_digits m bytes) (with_digit n b)
 
--- a decimal of at most 2^64 - 1, with no sign and no leading zero
+-- | a decimal below 2^64, with no sign and no leading zero
 abbrev pub number_of : List ℕ → Option ℕ
 number_of [] = None
 number_of (b ∷ []) = with_digits 0 (b ∷ [])

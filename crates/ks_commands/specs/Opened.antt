@@ -28,11 +28,11 @@ use Rattle.ks_commands.specs.declared.checker.TheConstants.{PIECE}
 use Rattle.ks_commands.specs.declared.fault.Fault.{Fault}
 use Rattle.ks_commands.specs.declared.fault.Fault.TheVariants as fault
 
--- this is the text of the file, where the file tells it
+-- | this is the text of the file, where the file tells it
 abbrev pub IsText : List ℕ → StreamState → Type 0
 IsText text file = (told : List ℕ) → file.left ≡ Some told → told ≡ text
 
--- of a file no more was read than an opening file may have, and a piece
+-- of a file no more was read than an opening file may have, 16 MiB, and a piece
 pub record ReadsFile (told : List ℕ) (left : Option (List ℕ)) : Type 0 where
   pub text : List ℕ
   pub rest : List ℕ
@@ -46,7 +46,7 @@ AreHeld (Ok true) dir held = AreFolderKeys held × ((files : List KeyFile) → d
 AreHeld (Ok false) dir held = held ≡ []
 AreHeld (Err reason) dir held = ⊥
 
--- what a server opens with
+-- | what a server opens with, from this text, these keys and the bytes that the desk gave
 pub record IsOpening {Link : Type 0} (file : StreamState) (dir : DirState) (desk after : DeskState Link) (opening : PlainOpening) : Type 0 where
   pub text : List ℕ
   pub held : List (ℕ × Key)
@@ -89,7 +89,8 @@ pub record RefusesState {Link : Type 0} (file : StreamState) (dir : DirState) (o
   pub opened : IsOpening file dir old new opening
   pub refused : open_fault opening ≡ Some reason
 
--- why a server does not open, and what is left of the desk; of want of memory the desk alone is said
+-- | why a server does not open, and what is left of the desk: the file's form is refused, or its policy or keys, or there are no random
+-- bytes; the folder that it wants failed, or is refused; what the file says is refused; of want of memory the desk alone is said
 abbrev pub StopsOpening : {Link : Type 0} → StreamState → DirState → DeskState Link → DeskState Link → Fault → Type 0
 StopsOpening file dir old new fault.Read = new ≡ old
 StopsOpening file dir old new fault.Memory = (drawn : List ℕ) × Drew old new drawn 0
@@ -124,12 +125,12 @@ StopsOpening file dir old new (fault.BadEntry n) = ⊥
 abbrev pub HoldsHeader : Kept → Header → Type 0
 HoldsHeader kept header = (bytes : List ℕ) × (kept.header ≡ Some bytes) × IsHeader bytes header
 
--- a keeper gave this header, whose file is the one that was read
+-- | a keeper gave this header, whose file is the one that was read
 pub record IsGiven {K : Type 0} (keeping : Keeping K) (file : StreamState) (old new : K) (header : Header) : Type 0 where
   pub is_text : IsText header.opening file
   pub told : keeping.whole new → HoldsHeader (keeping.kept old) header
 
--- why a server does not begin with what its keeper holds
+-- | why a server does not begin with what its keeper holds
 abbrev pub StopsRestoring : {K : Type 0} → Keeping K → K → K → Header → Fault → Type 0
 StopsRestoring keeping old new header fault.Memory = Unit {0}
 StopsRestoring keeping old new header (fault.Opening (refusal.Shape reason)) = AnswersHeader header (Err (refusal.Shape reason))
@@ -154,8 +155,8 @@ StopsRestoring keeping old new header fault.Folder = ⊥
 StopsRestoring keeping old new header (fault.Keys reason) = ⊥
 StopsRestoring keeping old new header fault.Desk = ⊥
 
--- what a keeper gave as its header is none, or is that of another file than the one that was read, unless that is longer than an opening file
--- may be
+-- | what a keeper gave as its header is none, or is that of another file than the one that was read, unless that is longer than an opening
+-- file may be
 pub record IsOther {K : Type 0} (keeping : Keeping K) (file : StreamState) (old new : K) : Type 0 where
   pub bytes : List ℕ
   pub told : keeping.whole new → (keeping.kept old).header ≡ Some bytes

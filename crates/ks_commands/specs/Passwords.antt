@@ -19,7 +19,7 @@ first_line_of (b ∷ bytes) = if b == 10 then [] else b ∷ first_line_of bytes
 abbrev pub password_in : List ℕ → Option (List ℕ)
 password_in line = if is_in_range 1 PASSWORD_BYTES (length line) && is_utf8 line then Some line else None
 
--- the password that an input gives: its first line, without the line feed
+-- | the password that an input gives: its first line of 1 to 4,096 bytes in UTF-8, without the line feed
 abbrev pub password_of : List ℕ → Option (List ℕ)
 password_of input = password_in (first_line_of input)
 
@@ -27,7 +27,7 @@ password_of input = password_in (first_line_of input)
 abbrev pub record_line : ℕ → List ℕ → List ℕ → List ℕ
 record_line rounds password salt = record_text (derived_row rounds password salt) ++ 10 ∷ []
 
--- the password that the input gives was derived by so many rounds with 16 bytes that the desk gave, and this is the line
+-- | the password that the input gives was derived by so many rounds with 16 bytes that the desk gave, and this is the line
 pub record HasRecord {Link : Type 0} (rounds : ℕ) (input : List ℕ) (old new : DeskState Link) (line : List ℕ) : Type 0 where
   pub password : List ℕ
   pub given : password_of input ≡ Some password
@@ -40,7 +40,7 @@ pub record HasRecord {Link : Type 0} (rounds : ℕ) (input : List ℕ) (old new 
 abbrev pub DrawsOnce : {Link : Type 0} → DeskState Link → DeskState Link → Type 0
 DrawsOnce old new = (drawn : List ℕ) × (failed : ℕ) × (length drawn + 16 * failed ≤ 16) × Drew old new drawn failed
 
--- of an input no more was read than a password may have, and as much again
+-- of an input no more was read than a password may have, and as much again: 8,192 bytes at most
 pub record ReadsFront (input : List ℕ) (left : Option (List ℕ)) : Type 0 where
   pub front : List ℕ
   pub rest : List ℕ
@@ -48,7 +48,7 @@ pub record ReadsFront (input : List ℕ) (left : Option (List ℕ)) : Type 0 whe
   pub short : length front ≤ PASSWORD_BYTES + PASSWORD_BYTES
   pub left_is : left ≡ Some rest
 
--- how a password of this input becomes a record, and what then is written behind what was there before
+-- | how a password of this input becomes a record, and what then is written behind what was there before
 abbrev pub EndsPassword : {Link : Type 0} → ℕ → List ℕ → List ℕ → DeskState Link → DeskState Link → Option (List ℕ) → Result (Unit {0}) Fault → Type 0
 EndsPassword rounds input before old new written (Ok done) =
     (line : List ℕ) × HasRecord rounds input old new line × (written ≡ Some (before ++ line))

@@ -189,7 +189,7 @@ ending caller login = do
 unfoldable pub ending_if : Option Text → ℕ → ℕ → Reply → Script (Unit {0})
 ending_if caller start i login = if nat_lt (role_number start i) 3 then ending caller login else done tt
 
--- the same of the logins of members that are numbered from i
+-- the tokens of those members with some roles are ended, who are numbered from i
 unfoldable pub endings : Option Text → ℕ → ℕ → List Reply → Script (Unit {0})
 endings caller start i [] = done tt
 endings caller start i (login ∷ logins) = do
@@ -204,7 +204,7 @@ checks caller (login ∷ logins) = do
   more ← checks caller logins
   done (check ∷ more)
 
--- the line of a drill, from the replies to its logins and to its validations
+-- the line that counts the replies, to its logins and to its validations
 unfoldable pub line : ℕ → ℕ → List Reply → List Reply → Text
 line start count logins found = concat (
     codes "drill " ∷ decimal start ∷ codes " " ∷ decimal count ∷
@@ -213,6 +213,7 @@ line start count logins found = concat (
     codes " refused " ∷ decimal (count_by is_unknown found) ∷
     codes " roles " ∷ decimal (sum_by roles_in found) ∷ codes "\n" ∷ [])
 
+-- | the script: members are made and log in, the tokens of those with some roles are ended, and each token is validated
 unfoldable pub drill : ℕ → ℕ → Script Text
 drill start count = do
   login ← asks (log_in root root root) None None
@@ -225,11 +226,11 @@ drill start count = do
 abbrev pub opened : List NamedRule → Stage
 opened rules = record { front = first_front (drill_opening rules); calls = 0 }
 
--- the line of a drill on it
+-- | the line of a drill on it
 unfoldable pub drill_of : List NamedRule → ℕ → ℕ → Text
 drill_of rules start count = (drill start count (opened rules)).1
 
--- these are the rules of the default policy: those of a policy file that names none
+-- | these are the rules of the default policy: those of a policy file that names none
 abbrev pub AreDefault : List NamedRule → Type 0
 AreDefault rules = Reads (object no_members) rules
 

@@ -1,3 +1,4 @@
+-- A long script of calls.
 pub mod Openings
 pub mod Scripts
 pub mod Drill

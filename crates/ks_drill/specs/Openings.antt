@@ -16,7 +16,7 @@ use Rattle.ks_hmac.specs.Pbkdf2.{pbkdf2_of}
 use Rattle.ks_machine.specs.declared.settings.Settings.{Settings}
 use Rattle.ks_machine.specs.Openings.{NamedRule, PlainOpening}
 
--- a word with a number behind it, as `p0`
+-- | a word with a number behind it, as `p0`
 abbrev pub numbered : Text → ℕ → Text
 numbered word number = word ++ decimal number
 
@@ -84,7 +84,8 @@ ring_link number = record { prior = role_id number; implied = role_id ((number +
 abbrev pub root_grant : GrantRow
 root_grant = record { actor = actor.User root; target = target.Project root; inherited = false; role = admin }
 
--- with these rules
+-- | what a drill opens with, by these rules: a domain, a project with its administrator, and sixteen roles of which each implies the next,
+-- in a ring
 unfoldable pub drill_opening : List NamedRule → PlainOpening
 drill_opening rules = record {
   settings = drill_settings;

@@ -13,7 +13,7 @@ use Rattle.ks_machine.specs.Actions.{requirements}
 use Rattle.ks_machine.specs.Fit.{AreFields}
 use Rattle.ks_machine.specs.Fronts.{Front, after, answer}
 
--- a machine after some calls: its front, and how many calls there were
+-- | a machine after some calls: its front, and how many calls there were
 pub record Stage : Type 0 where
   pub front : Front
   pub calls : ℕ
@@ -22,7 +22,7 @@ pub record Stage : Type 0 where
 abbrev pub bare : Front → Front
 bare front = record front { kept = 0 }
 
--- what is done from a stage on: the stage that it leaves, and what came of it
+-- | what is done from a stage on: the stage that it leaves, and what came of it
 abbrev pub Script : Type 0 → Type 0
 Script A = Stage → Stage × A
 
@@ -43,6 +43,7 @@ reading = 1000000
 unfoldable pub draw_of : ℕ → Drawn
 draw_of number = Bytes (concat (replicate 8 (to_be_bytes w64 number)))
 
+-- the call of a number, which it has as its random bytes
 abbrev pub call_of : ℕ → Command → Option Text → Option Text → Call
 call_of number command caller subject = record {
   command = command;
@@ -53,7 +54,7 @@ call_of number command caller subject = record {
   folder = folder.Unused;
 }
 
--- the next call, which is numbered from 1: the plain machine's reply, and its front after that
+-- | the next call, which is numbered from 1: the plain machine's reply, and its front after that
 unfoldable pub asks : Command → Option Text → Option Text → Script Reply
 asks command caller subject = λ stage. (
   record { front = after stage.front (call_of (stage.calls + 1) command caller subject); calls = stage.calls + 1 },

@@ -14,7 +14,7 @@ use Rattle.ks_effective.specs.Reach.{sites}
 abbrev pub roles_at : List GrantRow → GrantSite → List Id
 roles_at rows site = map (λ row. row.role) (filter (λ row. is_eq (site_cmp (site_of row) site)) rows)
 
--- of the grants of one actor
+-- the roles of the grants that stand at these sites
 abbrev pub roles_over : List GrantRow → List GrantSite → List Id
 roles_over rows found = flat_map (roles_at rows) found
 

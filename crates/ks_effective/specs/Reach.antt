@@ -1,4 +1,5 @@
--- Where the grants of an actor stand that reach a target (OS-INHERIT).
+-- Where the grants of an actor stand that reach a target.
+-- Source: OS-INHERIT.
 use Rattle.std.specs.Prelude.{true, false, List, [], ◌∷◌, ◌++◌, map, Option, Some, None}
 use Rattle.ks_base.specs.declared.grants.Actor.{Actor}
 use Rattle.ks_base.specs.declared.grants.GrantSite.{GrantSite}
@@ -21,7 +22,8 @@ on_domain actor (Some domain) = inherited actor (target.Domain domain) ∷ []
 abbrev pub on_projects : Actor → List Id → List GrantSite
 on_projects actor projects = map (λ id. inherited actor (target.Project id)) projects
 
--- on the target itself a grant is not inherited; on a project's domain and on its ancestors it is
+-- where the grants of an actor stand that reach a target: on the target itself and not inherited, or inherited on the project's domain and
+-- on each of its ancestors
 abbrev pub sites : Actor → Reach → List GrantSite
 sites actor reach.System = direct actor target.System ∷ []
 sites actor (reach.Domain id) = direct actor (target.Domain id) ∷ []

@@ -6,7 +6,8 @@ use Rattle.ks_base.specs.Trees.{TreeState}
 use Rattle.ks_base.specs.People.{PeopleState}
 use Rattle.ks_base.specs.RoleLists.{RolesState}
 
--- without trusts, the catalog, application credentials and factors, on which effective roles do not depend
+-- the four tables as the rows of one state, without trusts, the catalog, application credentials and factors, on which effective roles do
+-- not depend
 abbrev pub rows_of : TreeState → PeopleState → RolesState → List GrantRow → Rows
 rows_of tree people roles grants = record {
   domains = tree.domains;

@@ -1,4 +1,5 @@
 -- The targets at which a user may have roles.
+-- Source: Identity API v3, role assignments.
 use Rattle.std.specs.Prelude.{◌≡◌, Bool, true, false, List, [], ◌∷◌, ◌++◌, map, filter, is_some}
 use Rattle.std.specs.List.{list_any}
 use Rattle.ks_base.specs.declared.grants.Actor.{Actor}
@@ -15,7 +16,7 @@ use Rattle.ks_base.specs.Tables.{put_row}
 use Rattle.ks_base.specs.Trees.{TreeState}
 use Rattle.ks_effective.specs.State.{rows_of}
 
--- all targets: the system, then domains, then projects, each by id
+-- | all targets: the system, then domains, then projects, each by id
 abbrev pub targets : TreeState → List Target
 targets tree = target.System ∷ map (λ row. target.Domain row.id) tree.domains ++ map (λ row. target.Project row.id) tree.projects
 

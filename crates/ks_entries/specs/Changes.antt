@@ -10,7 +10,7 @@ use Rattle.ks_spelling.specs.Variants.{Variant, Part, variant, part, there, InPl
 use Rattle.ks_spelling.specs.Values.{id_code}
 use Rattle.ks_spelling.specs.Rows.{app_cred_code, mfa_code, secret_code, domain_code, project_code, user_code, group_code, role_code, trust_code, member_code, imply_code, grant_code, key_code, region_code, service_code, endpoint_code}
 
--- the place of each variant, and what it holds
+-- | the place of each variant of a change, and what it holds; the variants by their places; a change as bytes
 abbrev pub change_parts : Change → Part Change
 change_parts (changes.PutDomain x) = part 0 domain_code changes.PutDomain x
 change_parts (changes.PutProject x) = part 1 project_code changes.PutProject x
@@ -125,7 +125,7 @@ change_there (changes.PutUserWith x y) rest fits = there 32 (both user_code mfa_
 unfoldable pub change_code : Code Change
 change_code = one_of change_parts change_table change_in_place change_there
 
--- an entry: its number, its moment, its change
+-- | an entry: its number and its moment in 8 bytes each, and its change
 unfoldable pub entry_code : Code Entry
 entry_code = made (both number64 (both number64 change_code)) (record {
   make = λ p. record { number = p.0; moment = p.1.0; change = p.1.1 };

@@ -7,7 +7,7 @@ use Rattle.ks_spelling.specs.Values.{bytes_code}
 use Rattle.ks_spelling.specs.Rows.{key_code}
 use Rattle.ks_entries.specs.declared.header.Header.{Header}
 
--- the bytes of the opening file, the keys of the folder by their indices, the salts of the users with a password
+-- | the bytes of the opening file, the keys of the folder by their indices, the salts of the users with a password
 unfoldable pub header_code : Code Header
 header_code = made (both bytes_code (both (listed number32 (both number32 key_code)) (listed number32 (fixed 16)))) (record {
   make = λ p. record { opening = p.0; keys = p.1.0; salts = p.1.1 };

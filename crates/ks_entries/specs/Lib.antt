@@ -1,2 +1,3 @@
+-- Entries as bytes.
 pub mod Changes
 pub mod Headers

@@ -1,4 +1,5 @@
 -- Base64 with the alphabet that is safe in URLs (RFC 4648, section 5).
+-- Source: RFC 4648, 5.
 use Rattle.std.specs.Prelude.{◌≡◌, ℕ, ◌%◌, ◌⊎◌, ◌==◌, nat_lt, true, false, if◌then◌else◌, List, length, codes, Option, None}
 use Rattle.std.specs.List.{list_all}
 use Rattle.base64.specs.Engines.{url_safe, url_safe_no_pad}

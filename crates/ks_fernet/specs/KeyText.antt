@@ -1,4 +1,5 @@
 -- Fernet keys as texts: the 16 bytes that sign, and then the 16 that encipher.
+-- Source: Fernet specification.
 use Rattle.std.specs.Prelude.{◌≡◌, ℕ, ◌==◌, if◌then◌else◌, List, ◌++◌, length, take, drop, Option, Some, None}
 use Rattle.std.specs.Option.{option_and_then}
 use Rattle.ks_aes_cbc.specs.Aes.{AreBytes}

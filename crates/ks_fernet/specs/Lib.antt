@@ -1,3 +1,4 @@
+-- Fernet keys and tokens.
 pub mod Base64Url
 pub mod KeyText
 pub mod Opened

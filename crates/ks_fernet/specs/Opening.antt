@@ -1,4 +1,5 @@
 -- Sealing and opening, as the Fernet specification gives them.
+-- Source: Fernet specification.
 use Rattle.std.specs.Prelude.{◌≡◌, ◌≢◌, ◌⊎◌, ℕ, if◌then◌else◌, List, ◌∷◌, ◌++◌, Option, Some, None}
 use Rattle.std.specs.Int.{w64, to_be_bytes}
 use Rattle.std.specs.Str.{bytes_eq}
@@ -34,6 +35,7 @@ abbrev pub answer_to : Key → Option Envelope → OpenAnswer
 answer_to key None = NotText
 answer_to key (Some e) = answer_of key e
 
+-- what a key makes of a text: no token; not opened, for its mac is another or its padding is wrong; or its time and plain text
 unfoldable pub open_of : Key → List ℕ → OpenAnswer
 open_of key text = answer_to key (envelope_of text)
 
@@ -41,7 +43,7 @@ open_of key text = answer_to key (envelope_of text)
 abbrev pub IsSignedToken : Key → List ℕ → Envelope → Type 0
 IsSignedToken key text e = IsToken text e × (e.mac ≡ mac_of key e)
 
--- the text is a token that the key has signed, and it holds this plain text
+-- the text is a token that the key has signed, with this time and plain text
 abbrev pub Holds : Key → List ℕ → ℕ → List ℕ → Type 0
 Holds key text time plain =
     (e : Envelope) × IsSignedToken key text e × (e.time ≡ time) × (uncbc key.encryption e.iv e.ciphertext ≡ Some plain)

@@ -1,4 +1,5 @@
 -- Fernet tokens of version 0x80, as the Fernet specification gives them.
+-- Source: Fernet specification; own limit.
 use Rattle.std.specs.Prelude.{◌≡◌, ◌≢◌, ℕ, ◌-◌, ◌%◌, ◌^◌, ◌<◌, ◌≤◌, ◌==◌, ◌&&◌, nat_lt, nat_le, Bool, true, false, IsSome, if◌then◌else◌, List, ◌∷◌, ◌++◌, length, take, drop, slice_index, Option, Some, None}
 use Rattle.std.specs.Option.{option_and_then}
 use Rattle.std.specs.Int.{w64, to_be_bytes, from_be_bytes}
@@ -19,7 +20,7 @@ pub record IsTextOf (text bytes : List ℕ) : Type 0 where
   pub spelled : Spells text bytes
   pub are_bytes : AreBytes bytes
 
--- the text is a token of these parts
+-- the text is a token of these parts: at most 1,024 characters that spell 0x80, the time, the iv, a ciphertext of whole blocks and the mac
 pub record IsToken (text : List ℕ) (e : Envelope) : Type 0 where
   pub short : length text ≤ TOKEN_BYTES
   pub spelled : Spells text (token_bytes e)

@@ -1,1 +1,2 @@
+-- Whether a change fits what tables tell.
 pub mod Told

@@ -32,7 +32,7 @@ state_told tables = record {
 abbrev pub SaysFit : Tables → Bool → Change → Type 0
 SaysFit tables answer change = (moment : ℕ) → IsTrue answer ↔ Fits (state_told tables) moment change
 
--- the users, the project and the roles of a trust stand
+-- | the users, the project and the roles of a trust stand
 abbrev pub PartiesStand : Rows → TrustRow → Type 0
 PartiesStand rows trust =
     IsStanding (user_of trust.trustor rows.users) × IsStanding (user_of trust.trustee rows.users)

@@ -1,4 +1,5 @@
--- HMAC (RFC 2104) over SHA-256 (FIPS 180-4), on lists of bytes.
+-- HMAC over SHA-256, on lists of bytes.
+-- Source: RFC 2104; FIPS 180-4.
 use Rattle.std.specs.Prelude.{ℕ, ◌-◌, List, ◌++◌, length, replicate, map, nat_lt, if◌then◌else◌, bit_xor}
 use Rattle.sha2.specs.Sha256.{sha256}
 

@@ -1,4 +1,5 @@
--- PBKDF2 (RFC 8018, 5.2) with HMAC-SHA-256, for a key of one block of 32 bytes.
+-- PBKDF2 with HMAC-SHA-256, for a key of one block of 32 bytes.
+-- Source: RFC 8018, 5.2.
 use Rattle.std.specs.Prelude.{ℕ, zero, suc, List, [], ◌∷◌, ◌++◌, map, fold, bit_xor, slice_index}
 use Rattle.std.specs.List.{range_with_len}
 use Rattle.ks_hmac.specs.Hmac.{hmac_of}

@@ -1,5 +1,6 @@
 -- The fields of a head that say how a request is framed and who asks (RFC 9110, sections 5 and 7.6.1;
 -- RFC 9112, section 6). A field is given as its name and its value.
+-- Source: RFC 9110, 5 and 7.6.1; RFC 9112, 6 and 9.3.
 use Rattle.std.specs.Prelude.{ℕ, ◌+◌, ◌-◌, ◌*◌, ◌==◌, nat_le, Bool, false, not, ◌&&◌, ◌||◌, if◌then◌else◌, List, [], ◌∷◌, length, take, drop, codes}
 use Rattle.std.specs.List.{list_all, list_any, slice_split, fold}
 use Rattle.std.specs.Str.{str_eq_ignore_ascii_case}
@@ -17,7 +18,7 @@ unfoldable pub values_of : List ℕ → List Named → List (List ℕ)
 values_of name [] = []
 values_of name (field ∷ fields) = if has_name name field then field.1 ∷ values_of name fields else values_of name fields
 
--- Content-Length = 1*DIGIT
+-- decimal digits: Content-Length = 1*DIGIT
 unfoldable pub is_number : List ℕ → Bool
 is_number [] = false
 is_number (b ∷ value) = list_all is_ascii_digit (b ∷ value)

@@ -1,4 +1,5 @@
 -- What the head of a request says.
+-- Source: RFC 9112, 3.2 and 6; own limits.
 use Rattle.std.specs.Prelude.{ℕ, ◌==◌, nat_lt, Bool, if◌then◌else◌, List, [], ◌∷◌, length, map, slice_index, Option, Some, None, Result, Ok, Err, codes}
 use Rattle.std.specs.Str.{is_utf8, bytes_eq}
 use Rattle.httparse.specs.Grammar.{RequestHead}
@@ -67,6 +68,7 @@ announced (value ∷ other ∷ values) = Err Malformed
 unfoldable pub allowed : Bool → ℕ → Result ℕ HttpCause
 allowed chunked length = if chunked then Err Chunked else if nat_lt BODY_BYTES length then Err TooLarge else Ok length
 
+-- how long the fields say that the body is
 unfoldable pub body_length : List Named → Result ℕ HttpCause
 body_length fields = behind (allowed (is_chunked fields)) (announced (values_of (codes "Content-Length") fields))
 
@@ -94,7 +96,7 @@ abbrev pub with_path : List ℕ → List ℕ → ℕ → List Named → List ℕ
 with_path method target minor fields path =
     behind (with_auth method target minor fields path) (token_of (values_of (codes "X-Auth-Token") fields))
 
--- or why it is refused: the path, the tokens and the length of the body come in this order
+-- what the parts of a head say of its request, or why it is refused: the path, the tokens and the length of the body come in this order
 abbrev pub said_of : List ℕ → List ℕ → ℕ → List Named → Result Opening HttpCause
 said_of method target minor fields = behind (with_path method target minor fields) (path_text target)
 

@@ -1,3 +1,5 @@
+-- Requests and responses.
+
 -- What the public contracts mean, in the order in which it is read: the lines of a head and its fields, what
 -- the head says, the requests of a stream and what contracts see of their reader; then responses. Of `steps`
 -- only private clauses speak.

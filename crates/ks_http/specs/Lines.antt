@@ -1,5 +1,6 @@
 -- The lines of a request's head (RFC 9112, sections 2.2, 3 and 5), and what refuses bytes that begin
 -- with no whole head.
+-- Source: RFC 9112, 2.2, 3 and 5.
 use Rattle.std.specs.Prelude.{ℕ, ◌+◌, ◌-◌, ◌==◌, nat_lt, Bool, true, false, ◌&&◌, ◌||◌, if◌then◌else◌, List, [], ◌∷◌, ◌++◌, length, take, drop, slice_index, fold, Option, Some, None, codes}
 use Rattle.std.specs.List.{list_all, position, starts_with}
 use Rattle.std.specs.Str.{is_utf8, bytes_eq}

@@ -1,4 +1,5 @@
--- The requests of a stream of bytes (RFC 9112).
+-- The requests of a stream of bytes.
+-- Source: RFC 9112, 2 to 6, by the grammar of `httparse`, and 9.3; own limit.
 use Rattle.std.specs.Prelude.{◌≡◌, ◌≢◌, ◌≤◌, ◌<◌, ◌⊎◌, ◌+◌, ℕ, true, false, List, [], ◌∷◌, ◌++◌, length, take, drop, Option, Some, None, Result, Ok, Err, ⊤}
 use Rattle.httparse.specs.Grammar.{RequestHead, ReadsRequest, print_request}
 use Rattle.ks_base.specs.declared.limits.TheConstants.{CONNECTION_REQUESTS, HEAD_BYTES, HEAD_FIELDS}
@@ -14,7 +15,7 @@ use Rattle.ks_http.specs.declared.request.Request.{Request}
 use Rattle.ks_http.specs.Heads.{opening_of}
 use Rattle.ks_http.specs.Lines.{settled_cause}
 
--- the bytes are a head of at most 16,384 bytes and 64 fields, and then `after`
+-- | the bytes are a head of at most 16,384 bytes and 64 fields, and then `after`
 pub record BeginsWith (bytes : List ℕ) (head : RequestHead) (after : List ℕ) : Type 0 where
   pub reads : ReadsRequest bytes head after
   pub short : length (print_request head) ≤ HEAD_BYTES
@@ -41,7 +42,7 @@ request_of o body = record {
   close = o.close;
 }
 
--- the bytes are a request, and then `rest`
+-- | the bytes are a request, and then `rest`
 pub record IsFirst (bytes : List ℕ) (request : Request) (rest : List ℕ) : Type 0 where
   pub opening : Opening
   pub after : List ℕ
@@ -50,12 +51,12 @@ pub record IsFirst (bytes : List ℕ) (request : Request) (rest : List ℕ) : Ty
   pub request_is : request ≡ request_of opening (take opening.length after)
   pub rest_is : rest ≡ drop opening.length after
 
--- the bytes are refused, whatever follows them
+-- | the bytes are refused, whatever follows them
 pub data IsRefused (bytes : List ℕ) (cause : HttpCause) : Type 0 where
   headless : HasNoHead bytes → settled_cause bytes ≡ Some cause → IsRefused bytes cause
   by_head : (after : List ℕ) → Opens bytes (Err cause) after → IsRefused bytes cause
 
--- the bytes are the beginning of a request, at which the input ended
+-- | the bytes are the beginning of a request, at which the input ended
 pub data IsCut (bytes : List ℕ) : Type 0 where
   in_head : HasNoHead bytes → settled_cause bytes ≡ None → bytes ≢ [] → IsCut bytes
   in_body : (opening : Opening) (after : List ℕ) → Opens bytes (Ok opening) after → length after < opening.length → IsCut bytes
@@ -64,7 +65,7 @@ pub data IsCut (bytes : List ℕ) : Type 0 where
 abbrev pub IsUnfinished : List ℕ → Type 0
 IsUnfinished bytes = (bytes ≡ []) ⊎ IsCut bytes
 
--- a read failed: what was read of these bytes is nothing or the beginning of a request, and `left` is what follows it
+-- | a read failed: what was read of these bytes is nothing or the beginning of a request, and `left` is what follows it
 pub record IsBegun (bytes : List ℕ) (left : Option (List ℕ)) : Type 0 where
   pub read : List ℕ
   pub rest : List ℕ
@@ -72,7 +73,7 @@ pub record IsBegun (bytes : List ℕ) (left : Option (List ℕ)) : Type 0 where
   pub bytes_is : bytes ≡ read ++ rest
   pub begun : IsUnfinished read
 
--- why no request comes from these bytes, of which `left` is still unread
+-- | why no request comes from these bytes, of which `left` is still unread
 abbrev pub Ends : List ℕ → Option (List ℕ) → Ending → Type 0
 Ends bytes left ending.End = (bytes ≡ []) × (left ≡ Some [])
 Ends bytes left (ending.Bad cause) = IsRefused bytes cause ⊎ (IsCut bytes × (cause ≡ Malformed) × (left ≡ Some []))
@@ -84,7 +85,7 @@ abbrev pub Comes : List ℕ → List ℕ → Option (List ℕ) → Result Reques
 Comes bytes held left (Ok request) = (rest : List ℕ) × (left ≡ Some rest) × IsFirst bytes request (held ++ rest)
 Comes bytes held left (Err ending) = Ends bytes left ending
 
--- these bytes were read but for `left`, and before the last piece of them what had come wanted more
+-- | these bytes were read but for `left`, and before the last piece of them, of 4,096 bytes at most, what had come wanted more
 pub record ReadsWhile (wants : List ℕ → Type 0) (bytes : List ℕ) (left : Option (List ℕ)) : Type 0 where
   pub front : List ℕ
   pub piece : List ℕ
@@ -125,7 +126,7 @@ pub data Close : Type 0 where
   asked last ended : Close
   bad : HttpCause → Close
 
--- the requests of these bytes behind `count` others: up to and with the first that closes or the
+-- | the requests of these bytes behind `count` others: up to and with the first that closes or the
 -- 1,000,000th, and how they end
 pub data Requests : ℕ → List ℕ → List Request → Close → Type 0 where
   none : (count : ℕ) → Requests count [] [] ended

@@ -1,4 +1,5 @@
 -- The responses of HTTP/1.1 (RFC 9112, sections 3 to 6; RFC 9110, section 15).
+-- Source: RFC 9112, 3 to 6; RFC 9110, 15.
 use Rattle.std.specs.Prelude.{ℕ, ◌==◌, ◌||◌, if◌then◌else◌, false, List, [], ◌∷◌, ◌++◌, length, flat_map, codes, decimal}
 use Rattle.ks_http.specs.Fields.{Named}
 use Rattle.ks_http.specs.declared.response.Response.{Response}
@@ -41,11 +42,11 @@ field_lines fields = flat_map field_line fields
 unfoldable pub length_line : ℕ → List ℕ → List ℕ
 length_line status body = if status == 204 then [] else field_line (codes "Content-Length", decimal (length body))
 
--- the body, which neither a 204 nor an answer to HEAD has
+-- | the body, which neither a 204 nor an answer to HEAD has
 unfoldable pub content : Response → List ℕ
 content r = if (r.status == 204) || r.without_body then [] else r.body
 
--- what stands before the body
+-- what stands before the body: the status line, the body's length, the fields and an empty line
 abbrev pub head_of : Response → List ℕ
 head_of r = status_line r.status ++ (length_line r.status r.body ++ (field_lines r.fields ++ crlf))
 

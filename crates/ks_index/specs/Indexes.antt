@@ -40,6 +40,7 @@ full_cmp = then_cmp (on (λ full. full.0) name_cmp) (on (λ full. full.1) id_cmp
 abbrev pub full_name : {R : Type 0} → (R → List ℕ) → (R → List ℕ) → (R → List ℕ) → R → Name × List ℕ
 full_name home naming key row = ((naming row, home row), key row)
 
+-- a row has this home and this name
 abbrev pub is_named : {R : Type 0} → (R → List ℕ) → (R → List ℕ) → List ℕ → List ℕ → R → Bool
 is_named home naming wanted name row = same (home row) wanted && same (naming row) name
 

@@ -1,1 +1,2 @@
+-- Tables by name.
 pub mod Indexes

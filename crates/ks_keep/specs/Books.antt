@@ -11,7 +11,7 @@ use Rattle.ks_setup.specs.Headers.{GivesOpening}
 use Rattle.ks_state.specs.Shown.{Shown}
 use Rattle.ks_state.specs.Standing.{Stands}
 
--- the bytes spell a header that gives this opening
+-- | the bytes spell a header that gives this opening
 abbrev pub HeaderGives : List ℕ → PlainOpening → Type 0
 HeaderGives bytes opening = (header : Header) × IsHeader bytes header × GivesOpening header opening
 
@@ -19,16 +19,16 @@ HeaderGives bytes opening = (header : Header) × IsHeader bytes header × GivesO
 abbrev pub HasHeader : Kept → PlainOpening → Type 0
 HasHeader kept opening = (bytes : List ℕ) × (kept.header ≡ Some bytes) × HeaderGives bytes opening
 
--- the bytes at this number spell this entry
+-- | the bytes at this number spell this entry
 abbrev pub StandsAt : (ℕ → Option (List ℕ)) → ℕ → Entry → Type 0
 StandsAt at number entry = (bytes : List ℕ) × (at number ≡ Some bytes) × IsEntry bytes entry
 
--- these entries stand one after the other, from this number on
+-- | these entries stand one after the other, from this number on
 abbrev pub Stand : (ℕ → Option (List ℕ)) → ℕ → List Entry → Type 0
 Stand at number [] = Unit {0}
 Stand at number (entry ∷ entries) = StandsAt at number entry × Stand at (suc number) entries
 
--- these are the entries from 0 to the first number that has none
+-- | these are the entries from 0 to the first number that has none
 pub record AreKept (at : ℕ → Option (List ℕ)) (entries : List Entry) : Type 0 where
   pub stand : Stand at 0 entries
   pub end : at (length entries) ≡ None
@@ -50,7 +50,7 @@ Spell [] (entry ∷ next ∷ entries) = ⊥
 Spell (bytes ∷ more) [] = ⊥
 Spell (bytes ∷ more) (entry ∷ entries) = IsEntry bytes entry × Spell more entries
 
--- what contracts see of an identity with its keeper
+-- | what contracts see of an identity with its keeper
 pub record BookedState (K : Type 0) : Type 0 where
   pub shown : Shown
   pub keeper : K
@@ -63,7 +63,7 @@ pub record BookedState (K : Type 0) : Type 0 where
 abbrev pub seen_by : {K : Type 0} → (K → Kept) → (K → Type 0) → (K → ℕ) → Keeping K
 seen_by kept whole faults = record { kept = kept; whole = whole; faults = faults }
 
--- an identity with its keeper stands for a front
+-- | an identity with its keeper stands for a front: its changes that are not kept are spelled, and a whole keeper is a book of the front
 pub record StandsBooked {K : Type 0} (keeping : Keeping K) (b : BookedState K) (f : Front) : Type 0 where
   pub stands : Stands b.shown f
   pub kept : f.kept ≡ b.kept
@@ -78,5 +78,6 @@ pub record StandsSince {K : Type 0} (keeping : Keeping K) (holds : Type 0) (b : 
   pub stands : StandsBooked keeping b f
   pub since : keeping.whole b.keeper → holds
 
+-- | how many changes are kept
 abbrev pub kept_of : {K : Type 0} → BookedState K → ℕ
 kept_of b = b.kept

@@ -1,3 +1,4 @@
+-- An identity whose changes are kept.
 pub mod BookLaws
 pub mod Books
 pub mod Keeping

@@ -23,7 +23,7 @@ abbrev pub why_of : KeepFault → NotRead
 why_of keep_fault.Failed = why.Failed
 why_of keep_fault.Memory = why.Memory
 
--- the entries before it stand and can follow one after the other, and what stands here is no entry, or one that can't follow
+-- | the entries before it stand and can follow one after the other, and what stands here is no entry, or one that can't follow
 pub record IsBadEntry (at : ℕ → Option (List ℕ)) (opening : PlainOpening) (number : ℕ) : Type 0 where
   pub before : List Entry
   pub count : length before ≡ number
@@ -33,7 +33,7 @@ pub record IsBadEntry (at : ℕ → Option (List ℕ)) (opening : PlainOpening) 
   pub is : at number ≡ Some bytes
   pub bad : (entry : Entry) → IsEntry bytes entry → MayFollow (restored_front opening before) entry → ⊥
 
--- a keeper was read, and holds what it held
+-- | a keeper was read, and holds what it held
 pub record IsRead {K : Type 0} (keeping : Keeping K) (old new : K) : Type 0 where
   pub since : keeping.whole new → keeping.whole old
   pub same : keeping.whole new → keeping.kept new ≡ keeping.kept old
@@ -45,20 +45,21 @@ IsWhy keeping old opening new (why.BadEntry number) = keeping.whole new → IsBa
 IsWhy keeping old opening new why.Failed = Unit {0}
 IsWhy keeping old opening new why.Memory = Unit {0}
 
--- all entries of the keeper were made once more
+-- | all entries of the keeper were made once more, and it is a book of what they came to
 pub record AreRedone {K : Type 0} (keeping : Keeping K) (old : K) (opening : PlainOpening) (shown : Shown) (new : K) (past : Past) : Type 0 where
   pub keeper : IsRead keeping old new
   pub stands : StandsWithAllKept shown (restored_front opening (entries_of past))
   pub are_kept : keeping.whole new → AreKept (keeping.kept old).entries (entries_of past)
   pub book : keeping.whole new → IsBookOf (keeping.kept new) (restored_front opening (entries_of past))
 
--- they were not made once more, for this cause
+-- | they were not made once more, for this cause
 pub record AreNotRedone {K : Type 0} (keeping : Keeping K) (old : K) (opening : PlainOpening) (refused : NotRestored K) : Type 0 where
   pub keeper : IsRead keeping old refused.keeper
   pub counts : Counts (refused.why ≡ why.Failed) (keeping.faults old) (keeping.faults refused.keeper)
   pub why : IsWhy keeping old opening refused.keeper refused.why
 
--- the identity, the keeper and what was made once more; or the keeper with the cause
+-- the identity, the keeper and what was made once more; or the keeper with the cause: it failed, or the first entry is told that is none or
+-- can't follow those before it
 abbrev pub Restores : {K : Type 0} → Keeping K → K → PlainOpening → Result (Shown × K × Past) (NotRestored K) → Type 0
 Restores keeping old opening (Ok (shown, keeper, past)) = AreRedone keeping old opening shown keeper past
 Restores keeping old opening (Err refused) = AreNotRedone keeping old opening refused

@@ -2,7 +2,7 @@
 use Rattle.std.specs.Prelude.{◌≡◌, ℕ, ◌+◌, List, [], ◌∷◌, take}
 use Rattle.ks_keeper.specs.Keeper.{Kept, with_entry}
 
--- a keeper's contents, with these bytes put one after the other, from this number on
+-- | a keeper's contents, with these bytes put one after the other, from this number on
 abbrev pub with_entries : ℕ → List (List ℕ) → Kept → Kept
 with_entries number [] kept = kept
 with_entries number (bytes ∷ more) kept = with_entries (number + 1) more (with_entry number bytes kept)

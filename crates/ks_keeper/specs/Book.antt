@@ -1,4 +1,5 @@
 -- A book: a database with a table of entries and a table of the header.
+-- Source: SQLite, strict tables; own.
 use Rattle.std.specs.Prelude.{◌≡◌, ◌≢◌, ℕ, ℤ, pos, Bool, true, false, List, [], ◌∷◌, Option, Some, None, codes, refl, filter, option_map, nat_lt, ◌^◌, if◌then◌else◌, IsTrue}
 use Rattle.sqlite_value.specs.declared.value.Value.TheVariants.{Null, Int, Blob as Octets}
 use Rattle.sqlite_value.specs.declared.keys.Collation.TheVariants.{Binary}
@@ -49,10 +50,11 @@ table_of shelf = record {
   is_counted = false;
 }
 
+-- | the two tables, and nothing beside them
 abbrev pub book_schema : Schema
 book_schema = record { tables = table_of Entries ∷ table_of Header ∷ []; indexes = []; views = [] }
 
--- the statements that put bytes at a free number, that put them at any number, and that read a number
+-- | the statements that put bytes at a free number, that put them at any number, and that read a number
 abbrev pub insert_text : Shelf → List ℕ
 insert_text Entries = codes "INSERT INTO entry (id, body) VALUES (?1, ?2)"
 insert_text Header = codes "INSERT INTO header (id, body) VALUES (?1, ?2)"
@@ -91,38 +93,39 @@ HasOneNumber rows = (row : Row) × (rows ≡ row ∷ []) × (is_int (column row 
 abbrev pub found_at : Shelf → Trees → ℤ → Option (List ℕ)
 found_at shelf trees number = option_map (λ row. bytes (column row 2)) (only (rows_at shelf trees number))
 
--- a row has a number below 2^63
+-- | what the tables hold; a row has a number below 2^63
 abbrev pub kept_in : Trees → Kept
 kept_in trees = record {
   header = found_at Header trees (pos 0);
   entries = λ number. if nat_lt number (2 ^ 63) then found_at Entries trees (pos number) else None;
 }
 
--- the bytes were put at this number of this table, and all else is as it was
+-- | the bytes were put at this number of this table, and all else is as it was
 pub record IsPut (shelf : Shelf) (number : ℤ) (body : List ℕ) (old new : Trees) : Type 0 where
   pub there : rows_at shelf new number ≡ stored number body ∷ []
   pub apart : (other : ℤ) → other ≢ number → rows_at shelf new other ≡ rows_at shelf old other
   pub beside : (other : Shelf) → tree_of other ≢ tree_of shelf → new (tree_of other) ≡ old (tree_of other)
 
--- nobody else wrote the file so far, the disk gave back what was written, and no failure shut it
+-- | nobody else wrote the file so far, the disk gave back what was written, and no failure shut it
 abbrev pub IsWhole : State → Type 0
 IsWhole s = HasCleanDisk s × IsTrue s.is_open
 
--- the tables are those of a book, and each change is committed
+-- | the tables are those of a book, and each change is committed
 pub record IsSettled (s : State) : Type 0 where
   pub schema : s.now.schema ≡ book_schema
   pub settled : s.now ≡ s.committed
   pub alone : s.in_transaction ≡ false
 
+-- | a whole one is settled
 abbrev pub IsReady : State → Type 0
 IsReady s = IsWhole s → IsSettled s
 
--- what a call shows of a book afterwards, where that is still whole
+-- | what a call shows of a book afterwards, where that is still whole: it was whole before, and is settled
 pub record Moves (old new : State) : Type 0 where
   pub was_whole : IsWhole old
   pub settled : IsSettled new
 
--- what a book shows: the connection, the count of its faults, and what the connection was when the book was made
+-- | what a book shows: the connection, the count of its faults, and what the connection was when the book was made
 pub record BookState (S : Type 0) : Type 0 where
   pub held : Held S
   pub faults : ℕ
@@ -136,6 +139,7 @@ kept_by store book = kept_in (state store book.held).now.trees
 abbrev pub IsWholeBook : {S : Type 0} → Ghosts S → BookState S → Type 0
 IsWholeBook store book = IsWhole (state store book.held) × IsTidy (kept_in (state store book.first).now.trees)
 
+-- | the code of what a book shows
 abbrev pub book_code : {S : Type 0} → Coded S → Coded (BookState S)
 book_code {S} store = code_by (Held S × (ℕ × Held S)) (coded× (held_code store) (coded× coded_ℕ (held_code store))) (λ b. (b.held, (b.faults, b.first)))
     (λ p. record { held = p.0; faults = p.1.0; first = p.1.1 }) (λ _. refl)

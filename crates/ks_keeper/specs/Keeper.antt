@@ -19,12 +19,12 @@ pub record IsTidy (kept : Kept) : Type 0 where
   pub entries : (number later : ℕ) → kept.entries number ≡ None → number ≤ later → kept.entries later ≡ None
   pub header : kept.header ≡ None → (number : ℕ) → kept.entries number ≡ None
 
--- how a keeper is seen: what it holds, whether it is whole, and how many faults it counted
+-- | how a keeper is seen: what it holds, whether it is whole, and how many faults it counted
 pub record Keeping (K : Type 0) : Type 1 where
   pub kept : K → Kept
   pub whole : K → Type 0
   pub faults : K → ℕ
 
--- no header and no entries
+-- | no header and no entries
 abbrev pub nothing_kept : Kept
 nothing_kept = record { header = None; entries = λ _. None }

@@ -5,7 +5,7 @@ use Rattle.std.specs.Map.{lookup}
 use Rattle.std.specs.BTreeMap.{is_at}
 use Rattle.ks_keeper.specs.Keeper.{Kept}
 
--- the header, the entries with their numbers, the numbers of the calls that are to fail, counted from 1, and of
+-- | the header, the entries with their numbers, the numbers of the calls that are to fail, counted from 1, and of
 -- each whether its change is made, how many calls there were, the count of faults, and the header and the entries
 -- that it was made with
 pub record MemoryKeeperState : Type 0 where
@@ -17,10 +17,11 @@ pub record MemoryKeeperState : Type 0 where
   pub first_header : Option (List ℕ)
   pub first_entries : List (ℕ × List ℕ)
 
--- the entry with this number
+-- | the entry with this number
 abbrev pub entry_in : List (ℕ × List ℕ) → ℕ → Option (List ℕ)
 entry_in entries number = lookup (is_at (nat_cmp number)) entries
 
+-- what it holds
 abbrev pub told_kept : MemoryKeeperState → Kept
 told_kept keeper = record { header = keeper.header; entries = entry_in keeper.entries }
 

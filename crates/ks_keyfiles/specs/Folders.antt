@@ -1,5 +1,6 @@
 -- What the key files of a folder hold, each under the index of its key, as the administration guide of Keystone lays out a
 -- key repository.
+-- Source: Keystone's administration guide, Fernet keys; own.
 use Rattle.std.specs.Prelude.{◌≡◌, ℕ, ◌≤◌, ◌==◌, nat_le, nat_lt, if◌then◌else◌, List, [], ◌∷◌, length, Option, Some, None, map, Result, Ok, Err}
 use Rattle.ks_base.specs.declared.faults.KeysFault.{KeysFault}
 use Rattle.ks_base.specs.declared.faults.KeysFault.TheVariants.{Failed, NoKeys, BadKey, TooMany, AlreadySet, IndexEnd, Memory}
@@ -14,7 +15,7 @@ line_of [] = []
 line_of (byte ∷ []) = if byte == 10 then [] else byte ∷ []
 line_of (byte ∷ next ∷ more) = byte ∷ line_of (next ∷ more)
 
--- the key that a content is the text of, with at most one line feed behind it; a longer content is none
+-- | the key that a content is the text of, with at most one line feed behind it; a longer content is none
 unfoldable pub key_in_file : List ℕ → Option Key
 key_in_file content = if nat_le (length content) KEY_FILE_BYTES then key_of (line_of content) else None
 
@@ -28,7 +29,7 @@ unfoldable pub keys_in : List KeyFile → Result (List (ℕ × Key)) KeysFault
 keys_in [] = Ok []
 keys_in (file ∷ files) = with_key file.0 (key_in_file file.1) (keys_in files)
 
--- the keys of a folder by rising index, or the first of its causes
+-- the keys of a folder by rising index, or the first of: no file, more than 32, the lowest index whose file is no key
 unfoldable pub folder_of : List KeyFile → Result (List (ℕ × Key)) KeysFault
 folder_of files =
     if length files == 0 then Err NoKeys

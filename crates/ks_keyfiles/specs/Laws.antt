@@ -12,11 +12,11 @@ use Rattle.ks_keyfiles.specs.Rotations.{IsRotating, promoted, rotated, rotation_
 abbrev pub IsKeyFile : List ℕ → Key → Type 0
 IsKeyFile content key = (text : List ℕ) × IsKeyText text key × ((content ≡ text) ⊎ (content ≡ text ++ 10 ∷ []))
 
--- `key_in_file` finds a key exactly where the content is a text of it
+-- law: `key_in_file` finds a key exactly where the content is a text of it
 abbrev pub FindsEachKey : Type 0
 FindsEachKey = (content : List ℕ) (key : Key) → (key_in_file content ≡ Some key) ↔ IsKeyFile content key
 
--- and finds none exactly where it is a text of none
+-- law: and finds none exactly where it is a text of none
 abbrev pub FindsNoOther : Type 0
 FindsNoOther = (content : List ℕ) → (key_in_file content ≡ None) ↔ ((key : Key) → ¬ IsKeyFile content key)
 
@@ -24,7 +24,7 @@ FindsNoOther = (content : List ℕ) → (key_in_file content ≡ None) ↔ ((key
 abbrev pub IsKey : Key → Type 0
 IsKey key = (length key.signing ≡ 16) × (length key.encryption ≡ 16) × AreBytes key.signing × AreBytes key.encryption
 
--- a folder that was set up is read as the two keys
+-- law: a folder that was set up is read as the two keys
 abbrev pub ReadsWhatIsSetUp : Type 0
 ReadsWhatIsSetUp = (staged primary : Key) → IsKey staged → IsKey primary → folder_of (set_up staged primary) ≡ Ok ((0, staged) ∷ (1, primary) ∷ [])
 
@@ -36,12 +36,12 @@ MayRotate most files = (1 ≤ most) × AreIndices 0 (indices_of files) × (rotat
 abbrev pub newest : ℕ → List KeyFile → List KeyFile
 newest most files = drop (length files - most) files
 
--- a rotation leaves the new key, which is staged, and the newest of the others
+-- law: a rotation leaves the new key, which is staged, and the newest of the others
 abbrev pub LeavesTheNewest : Type 0
 LeavesTheNewest = (new : Key) (most : ℕ) (files : List KeyFile) → MayRotate most files →
     rotated new most files ≡ (0, key_text new) ∷ newest (most - 1) (promoted files)
 
--- wherever a rotation is interrupted, each file that the whole rotation leaves of those that stood stands under some index
+-- law: wherever a rotation is interrupted, each file that the whole rotation leaves of those that stood stands under some index
 abbrev pub LosesNoKey : Type 0
 LosesNoKey = (new : Key) (most : ℕ) (files now : List KeyFile) → MayRotate most files → IsRotating new most files (Some now) →
     (index : ℕ) (content : List ℕ) → 0 < index → content_at index (rotated new most files) ≡ Some content →

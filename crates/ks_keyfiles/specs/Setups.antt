@@ -1,5 +1,6 @@
 -- How the key files of an empty folder are made, as the administration guide of Keystone tells it of a key repository: the file 0 is
 -- staged, the one with the highest index is primary, and the others are secondary.
+-- Source: Keystone's administration guide, Fernet keys; own.
 use Rattle.std.specs.Prelude.{◌≡◌, ◌⊎◌, ℕ, List, [], ◌∷◌, ◌++◌, Option, Some, None, Result, Ok, Err}
 use Rattle.ks_base.specs.declared.faults.KeysFault.{KeysFault}
 use Rattle.ks_base.specs.declared.faults.KeysFault.TheVariants.{Failed, NoKeys, BadKey, TooMany, AlreadySet, IndexEnd, Memory}
@@ -7,11 +8,11 @@ use Rattle.ks_base.specs.declared.key.Key.{Key}
 use Rattle.ks_fernet.specs.Base64Url.{padded_text}
 use Rattle.ks_outside.specs.Files.{KeyFile, with_file}
 
--- the content of a new key file: the text of the key with its padding, and no line feed
+-- | the content of a new key file: the text of the key with its padding, and no line feed
 abbrev pub key_text : Key → List ℕ
 key_text key = padded_text (key.signing ++ key.encryption)
 
--- the folder is one of these
+-- | the folder is one of these
 abbrev pub IsOneOf : List (List KeyFile) → Option (List KeyFile) → Type 0
 IsOneOf [] now = ⊥
 IsOneOf (files ∷ more) now = (now ≡ Some files) ⊎ IsOneOf more now
@@ -20,7 +21,7 @@ IsOneOf (files ∷ more) now = (now ≡ Some files) ⊎ IsOneOf more now
 abbrev pub begun : Key → List KeyFile
 begun primary = with_file 1 (key_text primary) []
 
--- and then the staged one the index 0
+-- | the folder that a setup leaves: the primary key has the index 1, and then the staged one the index 0
 abbrev pub set_up : Key → Key → List KeyFile
 set_up staged primary = with_file 0 (key_text staged) (begun primary)
 
@@ -28,12 +29,12 @@ set_up staged primary = with_file 0 (key_text staged) (begun primary)
 abbrev pub setting : Key → Key → List (List KeyFile)
 setting staged primary = begun primary ∷ set_up staged primary ∷ []
 
--- the cause for which a folder is not set up
+-- | the cause for which a folder is not set up
 abbrev pub setup_fault : List KeyFile → Option KeysFault
 setup_fault [] = None
 setup_fault (file ∷ files) = Some AlreadySet
 
--- what a setup that was interrupted leaves: the folder as it was or, where that was empty, as after one of the writes
+-- | what a setup that was interrupted leaves: the folder as it was or, where that was empty, as after one of the writes
 abbrev pub IsSettingUp : Key → Key → List KeyFile → Option (List KeyFile) → Type 0
 IsSettingUp staged primary files now = (now ≡ Some files) ⊎ ((setup_fault files ≡ None) × IsOneOf (setting staged primary) now)
 

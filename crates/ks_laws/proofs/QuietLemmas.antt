@@ -47,7 +47,7 @@ use Rattle.ks_machine.specs.Updates.{update_domain, update_group, update_project
 use Rattle.ks_machine.specs.Validity.{Valid, held_lines}
 
 module _ (P : Lack → Type 0) where
-  -- tokens, rules and room
+  -- tokens and room
 
   pub asks_lines : (S : State) (moment : ℕ) (held : ReadToken) → Asks P (held_lines S moment held)
   unfolding held_lines

@@ -1,10 +1,11 @@
--- What is above a project, as a relation (Identity API v3, projects).
+-- What is above a project, as a relation.
+-- Source: Identity API v3, projects.
 use Rattle.std.specs.Prelude.{◌≡◌, true, false, List, [], ◌∷◌, Some}
 use Rattle.ks_base.specs.declared.rows.ProjectRow.{ProjectRow}
 use Rattle.ks_base.specs.Rows.{project_of}
 use Rattle.ks_base.specs.Tree.{is_top}
 
--- from a project up to a top project: each is the parent of the one before it, stands, and lies in the same domain
+-- | from a project up to a top project: each is the parent of the one before it, stands, and lies in the same domain
 abbrev pub IsAncestry : List ProjectRow → ProjectRow → List ProjectRow → Type 0
 IsAncestry projects project [] = is_top project ≡ true
 IsAncestry projects project (parent ∷ rows) =

@@ -28,12 +28,12 @@ use Rattle.ks_machine.specs.Told.{IsTellable}
 
 -- states
 
--- a change, if there is one, fits
+-- | a change, if there is one, fits
 abbrev pub FitsIf : State → ℕ → Option Change → Type 0
 FitsIf S moment None = Unit {0}
 FitsIf S moment (Some what) = Fits S moment what
 
--- with whatever facts, a step of an orderly state tells what can be told, and makes a change that fits and has room
+-- law: with whatever facts, a step of an orderly state tells what can be told, and makes a change that fits and has room
 abbrev pub StepsFit : Type 0
 StepsFit =
     (known : Known) (S : State) (moment : ℕ) (call : Call) (told : Reply) (change : Option Change)
@@ -41,7 +41,7 @@ StepsFit =
     → step_at known S moment call ≡ Replies told change
     → IsTellable told × FitsIf S moment change × (room_for S moment (event_limit call.command) change ≡ Go tt)
 
--- a change that fits leaves the state orderly, and so does the time
+-- law: a change that fits leaves the state orderly, and so does the time
 abbrev pub ChangesKeepOrderly : Type 0
 ChangesKeepOrderly =
     (S : State) (moment : ℕ) (change : Change) → IsOrderly S → moment ≤ S.high → Fits S moment change → IsOrderly (apply S moment change)
@@ -49,75 +49,78 @@ ChangesKeepOrderly =
 abbrev pub TimeKeepsOrderly : Type 0
 TimeKeepsOrderly = (S : State) (moment : ℕ) → IsOrderly S → S.high ≤ moment → IsOrderly (raised S moment)
 
+-- law: what an opening opens with is orderly
 abbrev pub OpenedIsOrderly : Type 0
 OpenedIsOrderly = (opening : PlainOpening) → IsOpeningInRange opening → open_fault opening ≡ None → IsOrderly (opened_state opening)
 
--- what a step of an orderly state lacks can be found out, with whatever facts it is taken
+-- law: what a step of an orderly state lacks can be found out, with whatever facts it is taken
 abbrev pub LacksAreInRange : Type 0
 LacksAreInRange =
     (known : Known) (S : State) (moment : ℕ) (call : Call) (lack : Lack)
     → IsOrderly S → Fit call → step_at known S moment call ≡ Needs lack → IsLack S call lack
 
--- a kept salt that it asks for has 16 bytes, where each that is kept has
+-- law: a kept salt that it asks for has 16 bytes, where each that is kept has
 abbrev pub KeptSaltsAreWhole : Type 0
 KeptSaltsAreWhole =
     (known : Known) (S : State) (moment : ℕ) (call : Call) (salt : List ℕ) (rounds : ℕ)
     → IsOrderly S → AreSalted S.rows → Fit call → step_at known S moment call ≡ Needs (Stored salt rounds) → length salt ≡ 16
 
--- what any step lacks is a fact of a token, a password or a secret of its call, and is not known
+-- law: what any step lacks is a fact of a token, a password or a secret of its call, and is not known
 abbrev pub LacksAreUnknown : Type 0
 LacksAreUnknown =
     (known : Known) (S : State) (moment : ℕ) (call : Call) (lack : Lack) → step_at known S moment call ≡ Needs lack → IsUnknown known call lack
 
 -- fronts
 
--- an accepted opening opens a lawful front
+-- law: an accepted opening opens a lawful front
 abbrev pub OpeningIsLawful : Type 0
 OpeningIsLawful = (opening : PlainOpening) → IsOpeningInRange opening → open_fault opening ≡ None → IsLawful (first_front opening)
 
--- the front after a call is as lawful as the one before, as long as the journal has room
+-- law: the front after a call is as lawful as the one before, as long as the journal has room
 abbrev pub LawfulGoesOn : Type 0
 LawfulGoesOn = (f : Front) (call : Call) → IsLawful f → Fit call → length f.changes < 2 ^ 58 → IsLawful (after f call)
 
--- so is the front at a later moment
+-- law: so is the front at a later moment
 abbrev pub MomentsKeepLawful : Type 0
 MomentsKeepLawful = (f : Front) (moment : ℕ) → IsLawful f → f.high ≤ moment → moment ≤ last_moment → IsLawful (then f moment None)
 
--- and each sound front from which a lawful one goes on
+-- law: and each sound front from which a lawful one goes on
 abbrev pub EarlierIsLawful : Type 0
 EarlierIsLawful = (f g : Front) → IsLawful g → f ⊑ g → IsSound f → IsLawful f
 
+-- law: a lawful front is sound, and its state orderly
 abbrev pub LawfulIsSound : Type 0
 LawfulIsSound = (f : Front) → IsLawful f → f.kept ≤ length f.changes → IsSound f
 
 abbrev pub LawfulIsOrderly : Type 0
 LawfulIsOrderly = (f : Front) → IsLawful f → IsOrderly (replay f)
 
--- each change is counted
+-- law: each change is counted
 abbrev pub CountsChanges : Type 0
 CountsChanges = (f : Front) → IsLawful f → (replay f).made ≡ length f.changes
 
--- no trust that counts its uses has a child, so that each use of what it gives is counted
+-- law: no trust that counts its uses has a child, so that each use of what it gives is counted
 abbrev pub CountedAreLast : Type 0
 CountedAreLast =
     (f : Front) (trust parent : TrustRow) → IsLawful f → Among (replay f).rows.trusts trust
     → parent_trust (replay f).rows.trusts trust.parent ≡ Some parent → parent.remaining ≡ None
 
+-- law: the replies of lawful fronts can be told
 abbrev pub RepliesAreTellable : Type 0
 RepliesAreTellable = (f : Front) (call : Call) → IsLawful f → Fit call → IsTellable (answer f call)
 
--- no answer stands for a fact that is lacking: it is what the step with all facts replies
+-- law: no answer stands for a fact that is lacking: it is what the step with all facts replies
 abbrev pub AnswersAreReplies : Type 0
 AnswersAreReplies =
     (f : Front) (call : Call) → step everything (replay f) call ≡ Replies (answer f call) (change_of (step everything (replay f) call))
 
--- what is computed as the projects above one is all of them, up to a top project
+-- law: what is computed as the projects above one is all of them, up to a top project
 abbrev pub ProjectsAreClimbed : Type 0
 ProjectsAreClimbed =
     (f : Front) (id : Id) (row : ProjectRow) → IsLawful f → project_of id (replay f).rows.projects ≡ Some row
     → IsAncestry (replay f).rows.projects row (above (replay f).rows.projects row)
 
--- and what is computed as the first trustor of a trust is the one to whom it leads
+-- law: and what is computed as the first trustor of a trust is the one to whom it leads
 abbrev pub TrustsLead : Type 0
 TrustsLead =
     (f : Front) (id : Id) (trust : TrustRow) → IsLawful f → trust_of id (replay f).rows.trusts ≡ Some trust

@@ -1,3 +1,4 @@
+-- What every lawful front keeps.
 pub mod Ancestries
 pub mod Orderly
 pub mod Lacking

@@ -1,4 +1,5 @@
 -- What holds of the state of every lawful front: rows have their ranges, and what they name stands.
+-- Source: own; OS-TRUST; Identity API v3, application credentials.
 use Rattle.std.specs.Prelude.{◌≡◌, ◌+◌, ◌*◌, ◌≤◌, List, length, IfSome}
 use Rattle.ks_base.specs.declared.app_creds.AppCredRow.{AppCredRow}
 use Rattle.ks_base.specs.declared.catalog.EndpointRow.{EndpointRow}
@@ -35,7 +36,7 @@ Each {X} P rows = (row : X) → Among rows row → P row
 abbrev pub DomainStands : List DomainRow → Id → Type 0
 DomainStands domains id = IsStanding (domain_of id domains)
 
--- domains and projects: in range, each project in a domain that stands and below projects that stand, up to a top project
+-- | domains and projects: in range, each project in a domain that stands and below projects that stand, up to a top project
 pub record AreTreesOrderly (domains : List DomainRow) (projects : List ProjectRow) : Type 0 where
   pub domains_range : Each IsDomainInRange domains
   pub range : Each IsProjectInRange projects
@@ -47,7 +48,7 @@ abbrev pub AreNamesUnique : List UserRow → Type 0
 AreNamesUnique users =
     (a b : UserRow) → Among users a → Among users b → a.domain ≡ b.domain → a.name ≡ b.name → a.id ≡ b.id
 
--- users and groups: in range, and each in a domain that stands
+-- | users and groups: in range, each in a domain that stands, and the names of users unique
 pub record ArePeopleOrderly (domains : List DomainRow) (users : List UserRow) (groups : List GroupRow) : Type 0 where
   pub users_range : Each IsUserInRange users
   pub groups_range : Each IsGroupInRange groups
@@ -64,29 +65,29 @@ pub record IsTrustHeld (trust : TrustRow) : Type 0 where
   pub count : trust.count ≤ REDELEGATIONS
   pub last : IsLastOf trust.count trust.remaining
 
--- trusts: in range, and each behind its parent, with a lower count
+-- | trusts: in range, each behind its parent, with a lower count, and none below one that counts its uses
 pub record AreTrustsOrderly (trusts : List TrustRow) : Type 0 where
   pub range : Each IsTrustHeld trusts
   pub chains : AreChained trusts
 
--- regions, services and endpoints: in range
+-- | regions, services and endpoints: in range
 pub record IsCatalogInRange (catalog : CatalogState) : Type 0 where
   pub regions : Each IsRegionInRange catalog.regions
   pub services : Each IsServiceInRange catalog.services
   pub endpoints : Each IsEndpointInRange catalog.endpoints
 
--- no two application credentials of a user have one name
+-- | no two application credentials of a user have one name
 abbrev pub AreCredNamesUnique : List AppCredRow → Type 0
 AreCredNamesUnique creds = (a b : AppCredRow) → Among creds a → Among creds b → a.user ≡ b.user → a.name ≡ b.name → a.id ≡ b.id
 
--- application credentials, secrets of codes, and rules of methods: in range
+-- | application credentials, secrets of codes, and rules of methods: in range
 pub record AreCredentialsOrderly (creds : List AppCredRow) (secrets : List SecretRow) (rules : List MfaRow) : Type 0 where
   pub app_creds : Each IsAppCredInRange creds
   pub names : AreCredNamesUnique creds
   pub secrets_range : Each (λ (row : SecretRow). IsTotpSecret row.secret) secrets
   pub rules_range : Each (λ (row : MfaRow). AreMfaRules row.rules) rules
 
--- what memberships, implications, grants, trusts, the catalog and what users log in by name stands
+-- | what memberships, implications, grants, trusts, the catalog and what users log in by name stands
 
 pub record IsMemberAnchored (rows : Rows) (row : MemberRow) : Type 0 where
   pub group : IsStanding (group_of row.group rows.groups)
@@ -139,7 +140,7 @@ pub record AreAnchored (rows : Rows) : Type 0 where
   pub catalog : IsCatalogAnchored (catalogs rows)
   pub credentials : AreCredentialsAnchored rows rows.app_creds rows.secrets rows.factor_rules
 
--- each list stands in its order, with no key twice
+-- | each list stands in its order, with no key twice
 pub record IsCatalogInOrder (catalog : CatalogState) : Type 0 where
   pub regions : IsAscending id_cmp (λ (row : RegionRow). row.id) catalog.regions
   pub services : IsAscending id_cmp (λ (row : ServiceRow). row.id) catalog.services
@@ -163,6 +164,7 @@ pub record AreInOrder (rows : Rows) : Type 0 where
   pub catalog : IsCatalogInOrder (catalogs rows)
   pub credentials : AreCredentialsInOrder rows.app_creds rows.secrets rows.factor_rules
 
+-- | the rows of all tables: these, and roles in range
 pub record AreRowsOrderly (rows : Rows) : Type 0 where
   pub trees : AreTreesOrderly rows.domains rows.projects
   pub people : ArePeopleOrderly rows.domains rows.users rows.groups
@@ -171,7 +173,8 @@ pub record AreRowsOrderly (rows : Rows) : Type 0 where
   pub catalog : IsCatalogInRange (catalogs rows)
   pub credentials : AreCredentialsOrderly rows.app_creds rows.secrets rows.factor_rules
 
--- and no revocation is later than the highest moment, and the opening and each change gave at most 32 numbers to keys
+-- | settings and rows in range; rows and lists as above; no revocation is later than the highest moment, and the opening and each change
+-- gave at most 32 numbers to keys
 pub record IsOrderly (S : State) : Type 0 where
   pub settings : IsSettings S.settings
   pub rows : AreRowsOrderly S.rows

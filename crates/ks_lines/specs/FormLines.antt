@@ -82,6 +82,7 @@ member_wanted (b ∷ path) =
 abbrev pub has_stop : List ℕ → Bool
 has_stop path = list_any (λ b. b == 46) path
 
+-- | what is wanted at a path: of the file itself, its members and their entries
 unfoldable pub wanted : List ℕ → List ℕ
 wanted path =
     if begins path (codes "settings.") then setting_wanted path else
@@ -101,12 +102,14 @@ abbrev pub range_line : List ℕ → List ℕ
 range_line [] = concat (codes "more than " ∷ decimal OPENING_BYTES ∷ codes " bytes" ∷ [])
 range_line (b ∷ path) = wanted_at (b ∷ path) (codes "out of its limits")
 
+-- | the line for a fault of the form
 unfoldable pub shape_line : ShapeFault → List ℕ
 shape_line fault.NotJson = concat (codes "not a JSON text of at most 127 levels" ∷ [])
 shape_line (fault.Missing path) = wanted_at path (codes "missing")
 shape_line (fault.Kind path) = wanted_at path (codes "of another type")
 shape_line (fault.Range path) = range_line path
 
+-- | the line for a fault of the policy
 unfoldable pub policy_line : PolicyFault → List ℕ
 policy_line policy.NotObject = concat (codes "policy: of another type; an object is wanted" ∷ [])
 policy_line (policy.NotText rule) = concat (codes "policy: the rule " ∷ quoted rule ∷ codes " is not a text" ∷ [])
@@ -114,6 +117,7 @@ policy_line (policy.Cycle rule) = concat (codes "policy: the rule " ∷ quoted r
 policy_line policy.TooMany = concat (codes "policy: more than 1024 rules, the default ones among them" ∷ [])
 policy_line policy.Memory = concat (codes "out of memory" ∷ [])
 
+-- the line for any fault before the rows: of the form, the policy or the keys
 unfoldable pub opening_line : OpeningFault → List ℕ
 opening_line (Shape fault) = shape_line fault
 opening_line (Policy fault) = policy_line fault

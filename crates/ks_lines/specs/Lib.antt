@@ -1,3 +1,4 @@
+-- Lines for a person.
 pub mod FormLines
 pub mod Meetings
 pub mod RowLines

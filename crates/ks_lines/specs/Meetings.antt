@@ -53,7 +53,7 @@ abbrev pub meeting : Option ℕ → (ℕ → Option ℕ) → Option (ℕ × ℕ)
 meeting None next = None
 meeting (Some first) next = option_map (λ later. (first, later)) (next first)
 
--- the first row with an id, and the next one
+-- | the places of the first two rows with an id
 abbrev pub id_meeting : {R : Type 0} → (R → Id) → Id → List R → Option (ℕ × ℕ)
 id_meeting key id rows = meeting (first_place key id rows) (λ first. next_place (has_id key id) first rows)
 
@@ -61,6 +61,6 @@ abbrev pub next_named : {R : Type 0} → (R → NamedRow) → Option R → List 
 next_named named None rows first = None
 next_named named (Some row) rows first = next_place (has_name named row) first rows
 
--- the row with an id, and the next one with its name
+-- | the place of the row with an id, and of the next one with its name, in its domain where it lies in one
 abbrev pub name_meeting : {R : Type 0} → (R → Id) → (R → NamedRow) → Id → List R → Option (ℕ × ℕ)
 name_meeting key named id rows = meeting (first_place key id rows) (next_named named (find (has_id key id) rows) rows)

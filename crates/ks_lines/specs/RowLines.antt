@@ -138,6 +138,7 @@ orphan_place orphan before [] = None
 orphan_place orphan before (row ∷ rows) =
     if orphan before row then Some (length before) else orphan_place orphan (before ++ row ∷ []) rows
 
+-- the line for such a row
 abbrev pub orphan_line : Spot → List ℕ → Id → List ℕ
 orphan_line spot said id = located (Some spot) (concat (said ∷ quoted id ∷ []))
 
@@ -145,12 +146,14 @@ abbrev pub orphan_or : Option Spot → List ℕ → Id → List ℕ → List ℕ
 orphan_or None said id other = other
 orphan_or (Some spot) said id other = orphan_line spot said id
 
+-- the first project below one that does not stand before it in its domain, and the first region below one that does not stand before it
 abbrev pub orphan_project : Written → Id → Option Spot
 orphan_project written id = spot_at kind.Project field.ParentId (orphan_place (is_orphan id) [] written.projects)
 
 abbrev pub orphan_region : Written → Id → Option Spot
 orphan_region written id = spot_at kind.Region field.ParentRegionId (orphan_place (is_region_orphan id) [] written.regions)
 
+-- the first row that names a row of the kind
 abbrev pub project_spot : Written → Id → Option Spot
 project_spot written id = spot_at kind.Grant field.Project (position (is_at_target (target.Project id)) written.assignments)
 
@@ -160,6 +163,7 @@ region_spot written id = spot_at kind.Endpoint field.RegionId (position (is_in_r
 abbrev pub service_spot : Written → Id → Option Spot
 service_spot written id = spot_at kind.Endpoint field.ServiceId (position (is_of_service id) written.endpoints)
 
+-- the line for a row that is named and absent
 abbrev pub absent_line : Written → Kind → Id → List ℕ
 absent_line written kind.Domain id = absent_at (domain_spot written id) kind.Domain id
 absent_line written kind.Project id =
@@ -201,7 +205,7 @@ ring_line load.Empty = concat (codes "keys: there is none" ∷ [])
 ring_line (load.Repeated index) = concat (codes "keys: two have the index " ∷ decimal index ∷ [])
 ring_line load.TooMany = concat (codes "keys: more than " ∷ decimal KEYS ∷ [])
 
--- the line for a fault of the rows that are written: the place of the row that has it, and what is wrong there
+-- | the line for a fault of the rows that are written: the place of the row that has it, and what is wrong there
 unfoldable pub row_line : Written → OpenFault → List ℕ
 row_line written (fault.IdRepeated kind id) = id_line kind id (ids_meeting written kind id)
 row_line written (fault.Name kind id) = name_line written kind id

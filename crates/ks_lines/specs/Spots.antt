@@ -1,4 +1,5 @@
 -- Places in an opening file, as a person reads them.
+-- Source: RFC 8259; own.
 use Rattle.std.specs.Prelude.{ℕ, List, [], ◌∷◌, Option, Some, None, option_map, codes, decimal}
 use Rattle.std.specs.List.{concat}
 use Rattle.serde_json.specs.Data.{string}
@@ -9,6 +10,7 @@ use Rattle.ks_lines.specs.declared.spot.Field.{Field}
 use Rattle.ks_lines.specs.declared.spot.Field.TheVariants as field
 use Rattle.ks_lines.specs.declared.spot.Spot.{Spot}
 
+-- | the names of lists, of their rows and of fields
 unfoldable pub list_name : Kind → List ℕ
 list_name kind.Domain = codes "domains"
 list_name kind.Project = codes "projects"
@@ -59,11 +61,11 @@ field_name field.ParentRegionId = codes "parent_region_id"
 field_name field.ServiceId = codes "service_id"
 field_name field.RegionId = codes "region_id"
 
--- between double quotes, as JSON writes a text
+-- | a text as JSON writes it, between double quotes
 abbrev pub quoted : List ℕ → List ℕ
 quoted text = compact_text (string text)
 
--- rows are counted from 0
+-- | the path of a row, which is counted from 0 in its list, and of a field of it
 abbrev pub row_path : Kind → ℕ → List ℕ
 row_path list row = concat (list_name list ∷ codes "[" ∷ decimal row ∷ codes "]" ∷ [])
 
@@ -74,7 +76,7 @@ spot_path spot = concat (row_path spot.list spot.row ∷ codes "." ∷ field_nam
 abbrev pub spot_at : Kind → Field → Option ℕ → Option Spot
 spot_at list field place = option_map (λ row. record { list = list; row = row; field = field }) place
 
--- what is said, behind the path of the place that it is said of
+-- | what is said, behind the path of the place that it is said of
 abbrev pub located : Option Spot → List ℕ → List ℕ
 located None said = concat (said ∷ [])
 located (Some spot) said = concat (spot_path spot ∷ codes ": " ∷ said ∷ [])

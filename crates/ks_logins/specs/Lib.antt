@@ -1,1 +1,2 @@
+-- Logins.
 pub mod Logins

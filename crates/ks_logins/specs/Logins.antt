@@ -15,6 +15,7 @@ use Rattle.ks_logins.specs.declared.scopes.TokenPlace.{TokenPlace}
 use Rattle.ks_logins.specs.declared.scopes.TokenPlace.TheVariants as place
 use Rattle.ks_logins.specs.declared.scopes.TokenScope.{TokenScope}
 
+-- what a login has shown, and whose it is
 abbrev pub shown_of : Bearer → machine.Shown
 shown_of shown = record { user = shown.user; methods = shown.methods; expires = shown.expires; chain = shown.chain; credential = option_copied shown.credential }
 

@@ -1,4 +1,5 @@
 -- What each command asks for: an action of a rule, random bytes, the folder of keys, a token that it is about.
+-- Source: Keystone's policies; own.
 use Rattle.std.specs.Prelude.{Bool, true, false, ◌++◌, Option, Some, None, codes}
 use Rattle.ks_base.specs.declared.grants.Actor.{Actor}
 use Rattle.ks_base.specs.declared.grants.Actor.TheVariants as actor
@@ -18,7 +19,7 @@ use Rattle.ks_machine.specs.declared.row_kind.RowKind.TheVariants as row_kind
 use Rattle.ks_machine.specs.Assignments.{user_lacking}
 use Rattle.ks_machine.specs.Targets.{catalog_kind, kind_of, made_kind}
 
--- a kind's word, and its plural
+-- a kind's word
 abbrev pub kind_word : Kind → Text
 kind_word kind.Domain = codes "domain"
 kind_word kind.Project = codes "project"
@@ -58,13 +59,13 @@ row_words kind = row_word kind ++ codes "s"
 abbrev pub made_word : MadeKind → Text
 made_word kind = row_word (made_kind kind)
 
--- the same of a kind of the catalog
 abbrev pub catalog_word : CatalogKind → Text
 catalog_word of = row_word (catalog_kind of)
 
 abbrev pub catalog_words : CatalogKind → Text
 catalog_words of = row_words (catalog_kind of)
 
+-- the name of an action
 abbrev pub identity : Text → Text
 identity name = codes "identity:" ++ name
 
@@ -75,8 +76,8 @@ grants_word word system_word who (target.Domain id) = word
 grants_word word system_word (actor.User id) target.System = system_word ++ codes "_for_user"
 grants_word word system_word (actor.Group id) target.System = system_word ++ codes "_for_group"
 
--- what a command asks for before its own checks: the action that a rule must allow, random bytes, the keys of the folder, a token that
--- it is about, and a field of its query that it lacks
+-- | what a command asks for before its own checks: the action that a rule must allow, random bytes, the keys of the folder, a token that
+-- it is about and whether that may have expired, and a field of its query that it lacks
 pub record Requirements : Type 0 where
   pub action : Option Text
   pub draws : Bool

@@ -1,4 +1,5 @@
--- Which actions the rules of a policy allow (oslo.policy).
+-- Which actions the rules of a policy allow.
+-- Source: oslo.policy.
 use Rattle.std.specs.Prelude.{ℕ, zero, suc, Bool, false, List, length}
 use Rattle.ks_rule.specs.declared.credentials.Credentials.{Credentials}
 use Rattle.ks_rule.specs.Kinds.{Fields}
@@ -12,6 +13,7 @@ unfoldable pub holds_in : ℕ → List NamedRule → Credentials → Fields → 
 holds_in zero rules creds target name = false
 holds_in (suc n) rules creds target name = truth (holds_in n rules creds target) (tree_named rules name) creds target
 
--- as many rounds as there are rules suffice, where no rule reaches itself
+-- whether the rule of an action holds: after no round none does, and after one more a name holds where its tree did before; as many rounds
+-- as there are rules suffice, where no rule reaches itself
 unfoldable pub allowed : List NamedRule → List ℕ → Credentials → Fields → Bool
 allowed rules action creds target = holds_in (length rules) rules creds target action

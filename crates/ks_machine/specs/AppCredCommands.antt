@@ -35,11 +35,11 @@ use Rattle.ks_machine.specs.Validity.{Valid, cred_kind}
 abbrev pub project_kind : ℕ
 project_kind = 2
 
--- the project of a token that is its user's own there: a trust's is another's
+-- | the project of a token that is its user's own there: a trust's is another's
 abbrev pub own_project : Payload → Option Id
 own_project payload = if payload.kind == project_kind || payload.kind == cred_kind then payload.project else None
 
--- the roles that a body names, else all those of the caller's token
+-- | the roles that a body names, else all those of the caller's token
 abbrev pub roles_given : Rows → Valid → Option (List Named) → Attempt Cause (List Id)
 roles_given rows caller None = Go caller.roles
 roles_given rows caller (Some names) = roles_asked rows (codes "application_credential.roles") names
@@ -51,7 +51,7 @@ role_held rows user project role = needs (is_effective rows user (target.Project
 abbrev pub secret_of_draw : Drawn → Option Text → Text
 secret_of_draw drawn given = unwrap_or given (encode_of url_safe_no_pad (drop 32 (bytes_in drawn)))
 
--- the row, whose secret is still to be derived
+-- | the row, whose secret is still to be derived
 abbrev pub new_cred : Id → Id → Id → AppCredBody → List Id → PasswordRow → AppCredRow
 new_cred id user project asked roles secret = record {
   id = id;
@@ -68,10 +68,11 @@ new_cred id user project asked roles secret = record {
 abbrev pub underived : PasswordRow
 underived = record { salt = []; rounds = 0; digest = [] }
 
+-- | what is told of an application credential: itself, and its roles with their names
 abbrev pub told_cred : Rows → AppCredRow → Row
 told_cred rows cred = row.AppCred cred (titled_roles rows cred.roles)
 
--- the fact of the secret is asked for before room is tested
+-- a new application credential: the fact of its secret is asked for before room is tested
 unfoldable pub create_app_cred : Known → State → ℕ → Drawn → Valid → Id → AppCredBody → Attempt Cause Outcome
 create_app_cred known S moment drawn caller user asked = do
   _ ← unrestricted S.rows caller
@@ -92,6 +93,7 @@ create_app_cred known S moment drawn caller user asked = do
 abbrev pub app_creds_path : Id → Text
 app_creds_path user = codes "/v3/users/" ++ (user ++ codes "/application_credentials")
 
+-- those that stand
 unfoldable pub list_app_creds : Rows → Id → Attempt Cause Outcome
 list_app_creds rows user = do
   _ ← standing_user rows user

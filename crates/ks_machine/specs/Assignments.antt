@@ -1,4 +1,5 @@
--- Who has which role where (Identity API v3, role assignments): the grants, or what they give one user.
+-- Who has which role where: the grants, or what they give one user.
+-- Source: Identity API v3, role assignments.
 use Rattle.std.specs.Prelude.{Bool, true, false, not, ◌&&◌, ◌||◌, if◌then◌else◌, List, [], ◌∷◌, ◌++◌, Option, Some, None, codes, filter, is_none, map}
 use Rattle.std.specs.Option.{option_map_or}
 use Rattle.std.specs.Str.{bytes_eq}
@@ -54,6 +55,7 @@ is_listed filters row =
 abbrev pub is_yes : Text → Bool
 is_yes text = not (bytes_eq text (codes "0") || bytes_eq text (codes "false"))
 
+-- a listing asks for effective roles
 abbrev pub asks_for_effective : Fields → Bool
 asks_for_effective filters = option_map_or is_yes (value_in filters (codes "effective")) false
 
@@ -69,6 +71,7 @@ targets rows = target.System ∷ map (λ row. target.Domain row.id) rows.domains
 abbrev pub given_at : Rows → Id → Target → List GrantRow
 given_at rows user at = map (λ role. record { actor = actor.User user; target = at; inherited = false; role = role }) (roles_at rows user at)
 
+-- what is given to a user at some targets
 unfoldable pub given_to : Rows → Id → List Target → List GrantRow
 given_to rows user [] = []
 given_to rows user (at ∷ more) = given_at rows user at ++ given_to rows user more
@@ -80,6 +83,7 @@ effective_of rows filters = option_map_or (λ user. given_to rows user (targets 
 abbrev pub rows_asked : Rows → Fields → List GrantRow
 rows_asked rows filters = if asks_for_effective filters then effective_of rows filters else rows.grants
 
+-- the grants, or what they give the user whom the listing names, that pass all given filters
 unfoldable pub assignments : Rows → Filter → Outcome
 assignments rows filters =
     tells (body.Assignments (filter (is_listed filters.fields) (rows_asked rows filters.fields)) (codes "/v3/role_assignments"))

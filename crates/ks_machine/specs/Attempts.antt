@@ -7,13 +7,14 @@ use Rattle.ks_fernet.specs.declared.opening.OpenAnswer.{OpenAnswer}
 use Rattle.ks_hmac.specs.Pbkdf2.{pbkdf2_of}
 use Rattle.ks_ring.specs.declared.held_key.HeldKey.{HeldKey}
 
--- what the first check that lacks a fact asks for: what these keys make of its text, what a stored salt and these rounds make of
+-- | what the first check that lacks a fact asks for: what these keys make of its text, what a stored salt and these rounds make of
 -- its password, or the same of a fresh salt
 pub data Lack : Type 0 where
   Keys : List HeldKey → Lack
   Stored : List ℕ → ℕ → Lack
   Fresh : List ℕ → ℕ → Lack
 
+-- a check goes on, stops with a cause, or lacks a fact
 pub data Attempt (E A : Type 0) : Type 0 where
   Go : A → Attempt E A
   Stop : E → Attempt E A
@@ -25,6 +26,7 @@ Go a >>= f = f a
 Stop e >>= f = Stop e
 Lacks l >>= f = Lacks l
 
+-- the check of a condition
 abbrev pub need : {E : Type 0} → Bool → E → Attempt E (Unit {0})
 need true e = Go tt
 need false e = Stop e
@@ -58,12 +60,12 @@ abbrev pub each : {E A : Type 0} → (A → Attempt E (Unit {0})) → List A →
 each check [] = Go tt
 each check (a ∷ more) = check a >>= (λ _. each check more)
 
--- which facts are known
+-- | which facts are known
 pub record Known : Type 0 where
   pub answer : HeldKey → Text → Option OpenAnswer
   pub derive : Text → List ℕ → ℕ → Option (List ℕ)
 
--- all of them
+-- | all of them
 abbrev pub everything : Known
 everything = record {
   answer = λ held text. Some (open_of held.key text);

@@ -1,6 +1,7 @@
 -- New and changed regions, services and endpoints, and the catalog of the caller's own scope (Identity API v3, the service
 -- catalog). A field that is absent in a change stays as it is; the id of a row, the region above a region and the service of an
 -- endpoint can't be changed.
+-- Source: Identity API v3, regions, services, endpoints and the service catalog; own.
 use Rattle.std.specs.Prelude.{true, false, [], Option, Some, None, codes, is_none, unwrap_or}
 use Rattle.std.specs.Option.{option_map_or, option_or}
 use Rattle.ks_base.specs.declared.catalog.CatalogIn.{CatalogIn}
@@ -28,13 +29,15 @@ use Rattle.ks_machine.specs.Validity.{Valid}
 
 -- new rows
 
--- an id that is given has to be free, before room is tested; one that is drawn is only tested by the table
+-- | an id that is given to a region is free, which is tested behind its parent and before room; one that is drawn is only tested by the
+-- table
 unfoldable pub given_id_free : Rows → RegionRow → Option Id → Attempt Cause (Unit {0})
 given_id_free rows new None = Go tt
 given_id_free rows new (Some id) = do
   _ ← unless_catalog (named_region_absent (catalogs rows) new.parent)
   need (is_none (region_of id rows.regions)) (cause.NameTaken id)
 
+-- new regions, services and endpoints, one by one
 unfoldable pub create_region : Rows → Id → CatalogIn → Attempt Cause Outcome
 create_region rows drawn asked = do
   let new : RegionRow = record { id = unwrap_or asked.id drawn; parent = asked.parent; description = text_or_empty asked.description }
@@ -78,10 +81,11 @@ create_catalog rows drawn of.Endpoint asked = create_endpoint rows drawn asked
 
 -- changed rows
 
--- the field is absent, or says what stands, where something stands
+-- a field that may not be changed and that the row may lack: it is absent, or says what stands, where something stands
 abbrev pub unchanged_if_any : Text → Option Id → Option Id → Attempt Cause (Unit {0})
 unchanged_if_any field given standing = need (option_map_or (λ id. names_id id standing) given true) (cause.Immutable field)
 
+-- changes of these rows, one by one
 unfoldable pub update_region : Rows → Id → CatalogIn → Attempt Cause Outcome
 update_region rows id asked = do
   old ← standing_region rows id

@@ -1,4 +1,5 @@
--- What a change does to the state: rows come, go with all that hangs on them, and revocations are written (OS-REVOKE).
+-- What a change does to the state: rows come, go with all that hangs on them, and revocations are written.
+-- Source: Identity API v3; OS-TRUST; OS-REVOKE.
 use Rattle.std.specs.Prelude.{ℕ, ◌+◌, Bool, true, false, not, ◌&&◌, ◌||◌, ◌==◌, if◌then◌else◌, List, [], ◌∷◌, ◌++◌, Option, Some, None, filter, map}
 use Rattle.std.specs.List.{list_any}
 use Rattle.std.specs.Str.{bytes_eq}
@@ -209,8 +210,7 @@ effect S (change.DropSecret id) = rows_alone S (put_factors (without_secret id (
 abbrev pub events_at : ℕ → List Revoke → List EventRow
 events_at moment things = map (λ thing. record { what = thing; moment = moment }) things
 
--- the state after a change
-
+-- | the state after a change
 unfoldable pub apply : State → ℕ → Change → State
 apply S moment what = record S {
   ring = (effect S what).ring;

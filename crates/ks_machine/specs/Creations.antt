@@ -1,4 +1,5 @@
--- New domains, projects, users, groups and roles (Identity API v3): each by the rules of its table.
+-- New domains, projects, users, groups and roles: each by the rules of its table.
+-- Source: Identity API v3.
 use Rattle.std.specs.Prelude.{Bool, true, [], Option, Some, None, option_map, unwrap_or}
 use Rattle.std.specs.Option.{option_and_then, option_or}
 use Rattle.ks_base.specs.declared.receipt.Drawn.{Drawn}
@@ -26,6 +27,7 @@ use Rattle.ks_machine.specs.States.{State}
 use Rattle.ks_machine.specs.Tables.{people, roles, standing_domain, trees, unless_row, unless_tree}
 use Rattle.ks_machine.specs.Validity.{Valid, scope_domain}
 
+-- a text, or the empty one
 abbrev pub text_or_empty : Option Text → Text
 text_or_empty given = unwrap_or given []
 
@@ -34,12 +36,13 @@ abbrev pub domain_of_caller : Rows → Valid → Id
 domain_of_caller rows caller =
     unwrap_or (option_or (scope_domain rows caller.payload) (option_map (λ user. user.domain) (user_of caller.payload.user rows.users))) []
 
--- a domain that is given, else that of the parent where this stands, else that of the caller
+-- the domain of a creation: one that is given, else that of the parent where this stands, else that of the caller
 abbrev pub domain_for : Rows → Valid → Option Id → Option Id → Id
 domain_for rows caller given parent =
     unwrap_or (option_or given (option_map (λ row. row.domain) (option_and_then (λ id. project_of id rows.projects) parent)))
     (domain_of_caller rows caller)
 
+-- new domains and projects
 unfoldable pub create_domain : Rows → Id → Option Text → Option Text → Option Bool → Attempt Cause Outcome
 create_domain rows id name description enabled =
     let new : DomainRow = record { id = id; name = text_or_empty name; description = text_or_empty description; enabled = unwrap_or enabled true } in
@@ -50,7 +53,7 @@ create_project rows new = do
   _ ← unless_tree (add_project_fault (trees rows) new)
   Go (changes (change.PutProject new) (body.One (row.Project new) true))
 
--- what a body says of the methods that a user has to log in by is the whole of it
+-- the change of a user, with its rules of methods where the body says them: what it says of these is the whole of it
 abbrev pub put_user : UserRow → Option MfaIn → Change
 put_user row None = change.PutUser row
 put_user row (Some said) = change.PutUserWith row (record { user = row.id; enabled = said.enabled; rules = said.rules })
@@ -64,6 +67,7 @@ create_user known S drawn new password factors = do
   _ ← unless_row (add_user_fault (people S.rows) new)
   Go (changes (put_user (record new { password = kept }) factors) (body.One (row.User (record new { password = kept })) true))
 
+-- new groups and roles, and a new row of each kind
 unfoldable pub create_group : Rows → GroupRow → Attempt Cause Outcome
 create_group rows new = do
   _ ← standing_domain rows new.domain

@@ -1,4 +1,5 @@
 -- Which roles are effective, decided: the tests of the relations of walks, grants and effective roles.
+-- Source: Identity API v3, role assignments; OS-INHERIT.
 use Rattle.std.specs.Prelude.{Bool, true, false, ◌&&◌, ◌||◌, List, [], ◌∷◌, ◌++◌, map, filter}
 use Rattle.std.specs.List.{list_any}
 use Rattle.ks_base.specs.declared.grants.Actor.{Actor}
@@ -14,7 +15,7 @@ use Rattle.ks_base.specs.Tables.{id_cmp, put_row}
 use Rattle.ks_base.specs.Tree.{ancestors}
 use Rattle.ks_base.specs.Trees.{lies_in}
 
--- a walk has no need of the first implication, or goes up to it, over it and on
+-- | a walk has no need of the first implication, or goes up to it, over it and on
 unfoldable pub leads : List ImplyRow → Id → Id → Bool
 leads [] from to = same from to
 leads (row ∷ rows) from to = leads rows from to || (leads rows from row.prior && leads rows row.implied to)
@@ -40,6 +41,7 @@ reaches projects true target.System (target.Project project) = false
 reaches projects true granted (target.Domain domain) = false
 reaches projects true granted target.System = false
 
+-- | effective roles, decided
 unfoldable pub is_effective : Rows → Id → Target → Id → Bool
 is_effective rows user wanted role =
     list_any (λ grant. acts rows.members user grant.actor

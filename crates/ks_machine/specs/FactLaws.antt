@@ -23,6 +23,7 @@ pub record AreTrue (known : Known) : Type 0 where
   pub answers : (held : HeldKey) (text : Text) → IsTrue (known.answer held text) (open_of held.key text)
   pub derivations : (password salt : List ℕ) (rounds : ℕ) → IsTrue (known.derive password salt rounds) (pbkdf2_of password salt rounds)
 
+-- law: where some true facts suffice, all facts say the same
 abbrev pub FewFactsSuffice : Type 0
 FewFactsSuffice =
     (known : Known) (S : State) (moment : ℕ) (call : Call) (told : Reply) (change : Option Change)
@@ -30,10 +31,11 @@ FewFactsSuffice =
     → step_at known S moment call ≡ Replies told change
     → step_at everything S moment call ≡ Replies told change
 
+-- law: with all facts none is lacking
 abbrev pub AllFactsSuffice : Type 0
 AllFactsSuffice = (S : State) (moment : ℕ) (call : Call) (lack : Lack) → ¬ (step_at everything S moment call ≡ Needs lack)
 
--- with all facts, the keys of a ring find in a text what the same keys find alone, as a check of tokens tries them
+-- law: with all facts, the keys of a ring find in a text what the same keys find alone, as a check of tokens tries them
 abbrev pub KeysOpenAlike : Type 0
 KeysOpenAlike =
     (held : HeldKey) (more : List HeldKey) (text : Text)

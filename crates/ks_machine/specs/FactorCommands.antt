@@ -1,4 +1,5 @@
 -- Secrets of one-time codes (Identity API v3, credentials of type totp).
+-- Source: Identity API v3, credentials of type `totp`.
 use Rattle.std.specs.Prelude.{true, false, map, codes}
 use Rattle.ks_base.specs.declared.factors.SecretRow.{SecretRow}
 use Rattle.ks_base.specs.declared.receipt.Drawn.{Drawn}
@@ -13,6 +14,7 @@ use Rattle.ks_machine.specs.Attempts.{Attempt, Go, ◌>>=◌}
 use Rattle.ks_machine.specs.Outcomes.{Outcome, changes, made_id, tells}
 use Rattle.ks_machine.specs.Tables.{factors, standing_secret, standing_user, unless_row}
 
+-- secrets of codes
 unfoldable pub create_secret : Rows → Drawn → SecretBody → Attempt Cause Outcome
 create_secret rows drawn asked = do
   _ ← standing_user rows asked.user

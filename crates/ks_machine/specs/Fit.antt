@@ -150,6 +150,7 @@ IsCatalogBody new of.Region asked = IsRegionBody asked
 IsCatalogBody new of.Service asked = IsServiceBody new asked
 IsCatalogBody new of.Endpoint asked = IsEndpointBody new asked
 
+-- | the fields of a call are in their ranges
 abbrev pub AreFields : Command → Type 0
 AreFields (command.Login body) = IsProof body.proof × IsScope body.scope
 AreFields (command.Create made) = IsMade true made
@@ -200,6 +201,7 @@ AreFields command.ListSecrets = Unit {0}
 AreFields (command.GetSecret id) = Unit {0}
 AreFields (command.DeleteSecret id) = Unit {0}
 
+-- what is asked of a call: its draw, its reading of the folder, its fields in their ranges
 pub record Fit (call : Call) : Type 0 where
   pub draw : IsDrawFor (requirements call.command).draws call.draw
   pub folder : IsFolderFor (requirements call.command).loads call.folder

@@ -16,6 +16,7 @@ use Rattle.ks_machine.specs.Opened.{opened_state}
 use Rattle.ks_machine.specs.States.{State}
 use Rattle.ks_machine.specs.Steps.{Stepped, Replies, Needs, step}
 
+-- an opening, its changes, the highest moment and how many changes are kept
 pub record Front : Type 0 where
   pub opening : PlainOpening
   pub changes : List Entry
@@ -37,17 +38,18 @@ unfoldable pub replayed : State → List Entry → State
 replayed S [] = S
 replayed S (entry ∷ entries) = replayed (apply S entry.moment entry.change) entries
 
--- the state of a front
+-- | the state of a front
 unfoldable pub replay : Front → State
 replay front = record (replayed (opened_state front.opening) front.changes) { high = front.high }
 
--- the first changes, this as the highest moment, and of the kept changes those among the first
+-- | the first changes, this as the highest moment, and of the kept changes those among the first
 abbrev pub cut : Front → ℕ → ℕ → Front
 cut front count high = record front { changes = take count front.changes; high = high; kept = min front.kept count }
 
 -- one front goes on from another: from the same opening, with more changes, none of which is at a moment below the highest of the
 -- other, and with no fewer kept
 infix 4 ◌⊑◌
+-- one front goes on from another
 pub record ◌⊑◌ (f g : Front) : Type 0 where
   pub opening : f.opening ≡ g.opening
   pub later : List Entry
@@ -56,7 +58,7 @@ pub record ◌⊑◌ (f g : Front) : Type 0 where
   pub moments : AllByRecursion (λ entry. f.high ≤ entry.moment) later
   pub kept : f.kept ≤ g.kept
 
--- the front after an event at this moment, with the change that it made, if any, which is not kept yet
+-- | the front after an event at this moment, with the change that it made, if any, which is not kept yet
 abbrev pub then : Front → ℕ → Option Change → Front
 then front moment None = record front { high = moment }
 then front moment (Some what) = record front {
@@ -72,7 +74,7 @@ abbrev pub change_of : Stepped → Option Change
 change_of (Replies told what) = what
 change_of (Needs lack) = None
 
--- the reply of the plain machine after a front, and the front after that
+-- | the reply of the plain machine after a front, and the front after that
 unfoldable pub answer : Front → Call → Reply
 answer front call = reply_of (step everything (replay front) call)
 

@@ -20,6 +20,7 @@ use Rattle.ks_machine.specs.States.{State}
 abbrev pub told_keys : RingState → BodyOut
 told_keys ring = body.Keys (reverse (map (λ held. held.index) ring.held)) (highest ring.held)
 
+-- the keys that are held are rotated
 unfoldable pub rotate_keys : State → Drawn → Attempt Cause Outcome
 rotate_keys S drawn = do
   _ ← need (not S.settings.folder) cause.KeyMode
@@ -44,6 +45,7 @@ keys_read (folder.Keys found) = Go found
 keys_read (folder.Fault why) = Stop (cause.Keys why)
 keys_read folder.Unused = Stop cause.KeyDir
 
+-- the keys that are held are loaded of the folder
 unfoldable pub load_keys : State → FolderRead → Attempt Cause Outcome
 load_keys S read = do
   _ ← need S.settings.folder cause.KeyMode

@@ -165,6 +165,7 @@ pub record IsOpeningInRange (opening : PlainOpening) : Type 0 where
   pub services : AllByRecursion IsServiceInRange opening.services
   pub endpoints : AllByRecursion IsEndpointInRange opening.endpoints
 
+-- | the fronts that can be reached: an accepted opening, moments that never fall, and changes that their tables and the ring take
 pub record IsLawful (front : Front) : Type 0 where
   pub range : IsOpeningInRange front.opening
   pub accepted : open_fault front.opening ≡ None

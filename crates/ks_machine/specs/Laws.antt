@@ -13,30 +13,31 @@ use Rattle.ks_machine.specs.Effective.{closure, roles_at}
 use Rattle.ks_machine.specs.Fronts.{Front, IsSound, ◌⊑◌, after, answer, cut, replay, then}
 use Rattle.ks_machine.specs.Moment.{moment_of}
 
+-- law: `⊑` is an order
 abbrev pub IsReflexive : Type 0
 IsReflexive = (f : Front) → f ⊑ f
 
 abbrev pub IsTransitive : Type 0
 IsTransitive = (f g h : Front) → f ⊑ g → g ⊑ h → f ⊑ h
 
--- a caller that saw a front and then calls sees one that goes on from it
+-- law: a caller that saw a front and then calls sees one that goes on from it
 abbrev pub GoesOn : Type 0
 GoesOn = (f : Front) (call : Call) → f ⊑ after f call
 
--- two fronts from which one goes on are ordered where their numbers are
+-- law: two fronts from which one goes on are ordered where their numbers are
 abbrev pub AreOrderedByNumbers : Type 0
 AreOrderedByNumbers =
     (f g h : Front) → f ⊑ h → g ⊑ h → length f.changes ≤ length g.changes → f.high ≤ g.high → f.kept ≤ g.kept → f ⊑ g
 
--- two sound fronts from which one goes on, and which keep as many changes, are ordered
+-- law: two sound fronts from which one goes on, and which keep as many changes, are ordered
 abbrev pub AreComparable : Type 0
 AreComparable = (f g h : Front) → f ⊑ h → g ⊑ h → IsSound f → IsSound g → f.kept ≡ g.kept → (f ⊑ g) ⊎ (g ⊑ f)
 
--- a front that goes on from another with no greater number is that other
+-- law: a front that goes on from another with no greater number is that other
 abbrev pub AreSame : Type 0
 AreSame = (f g : Front) → f ⊑ g → length f.changes ≡ length g.changes → f.high ≡ g.high → f.kept ≡ g.kept → f ≡ g
 
--- the front after an event goes on from the one before, is as sound, and cut at the event is the one before at the event's moment
+-- law: the front after an event goes on from the one before, is as sound, and cut at the event is the one before at the event's moment
 abbrev pub EventsGoOn : Type 0
 EventsGoOn = (f : Front) (moment : ℕ) (change : Option Change) → f.high ≤ moment → f ⊑ then f moment change
 
@@ -48,30 +49,30 @@ EventsAreCutOff =
     (f : Front) (moment : ℕ) (change : Option Change) → IsSound f
     → cut (then f moment change) (length f.changes) moment ≡ record f { high = moment }
 
--- what a front goes on from, its cut goes on from that is no lower
+-- law: what a front goes on from, its cut goes on from that is no lower
 abbrev pub CutsGoOn : Type 0
 CutsGoOn =
     (f g : Front) (count high : ℕ) → f ⊑ g → IsSound f → length f.changes ≤ count → f.high ≤ high → f ⊑ cut g count high
 
--- a front goes on from its cut at a moment that no change behind it is below
+-- law: a front goes on from its cut at a moment that no change behind it is below
 abbrev pub CutsComeBefore : Type 0
 CutsComeBefore =
     (g : Front) (count high : ℕ) → high ≤ g.high → AllByRecursion (λ entry. high ≤ entry.moment) (drop count g.changes)
     → cut g count high ⊑ g
 
--- the machine's reply to a call is that after the front cut at the call's event
+-- law: the machine's reply to a call is that after the front cut at the call's event
 abbrev pub AnswersAtCuts : Type 0
 AnswersAtCuts =
     (f : Front) (call : Call) → IsSound f
     → answer (cut (after f call) (length f.changes) (moment_of f.high call.reading)) call ≡ answer f call
 
--- one change more in the journal is one change more of the state
+-- law: one change more in the journal is one change more of the state
 abbrev pub ReplaysEachChange : Type 0
 ReplaysEachChange =
     (f : Front) (moment : ℕ) (change : Change)
     → replay (then f moment (Some change)) ≡ apply (record (replay f) { high = moment }) moment change
 
--- a list of ids in their order whose members are the effective roles is the list of them
+-- law: a list of ids in their order whose members are the effective roles is the list of them
 abbrev pub RolesAreEffective : Type 0
 RolesAreEffective =
     (rows : Rows) (user : Id) (wanted : Target) (ids : List Id)
@@ -79,7 +80,7 @@ RolesAreEffective =
     → ((role : Id) → Among ids role ↔ Effective rows user wanted role)
     → ids ≡ roles_at rows user wanted
 
--- and one whose members are the end points of walks from some roles is their closure
+-- law: and one whose members are the end points of walks from some roles is their closure
 abbrev pub RolesAreImplied : Type 0
 RolesAreImplied =
     (rows : Rows) (roles ids : List Id)

@@ -1,3 +1,5 @@
+-- The plain machine. `Identity::decide` of `ks_state` is proved against `answer` and `after`, which are made of all of these.
+-- `docs/ARCHITECTURE.md` says how they go together.
 pub mod Actions
 pub mod Admission
 pub mod Allowed

@@ -59,6 +59,7 @@ same_truth false b = not b
 abbrev pub has_truth : Fields → Text → Bool → Bool
 has_truth filters name value = option_map_or (λ text. same_truth value (not (says_no text))) (value_in filters name) true
 
+-- the filters of a listing
 abbrev pub passes_name : Fields → Text → Bool
 passes_name filters name = has_text filters (codes "name") name
 

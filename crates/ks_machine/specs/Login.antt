@@ -1,4 +1,5 @@
--- Logins (Identity API v3, authentication): who the caller shows to be, the scope that is asked for, and the token that is given.
+-- Logins: who the caller shows to be, the scope that is asked for, and the token that is given.
+-- Source: Identity API v3, authentication, application credentials and multi-factor authentication rules; OS-TRUST; RFC 6238.
 use Rattle.std.specs.Prelude.{ℕ, ◌+◌, ◌/◌, ◌%◌, ◌==◌, Bool, true, false, not, if◌then◌else◌, nat_lt, List, [], ◌∷◌, length, Option, Some, None, is_some, option_map}
 use Rattle.std.specs.Option.{option_and_then, option_map_or}
 use Rattle.std.specs.Str.{bytes_eq}
@@ -203,6 +204,7 @@ to_trust rows moment user id = do
   _ ← each (role_kept rows trust) trust.roles
   Go (record { user = acts_as trust; kind = 3; domain = None; project = Some project; trust = Some trust; credential = None; roles = closure rows trust.roles })
 
+-- | the scope that is asked for
 unfoldable pub scoped : Rows → ℕ → Id → ScopeIn → Attempt Cause Scoped
 scoped rows moment user scope_in.Nothing = Go (record { user = user; kind = 0; domain = None; project = None; trust = None; credential = None; roles = [] })
 scoped rows moment user scope_in.Unscoped = Go (record { user = user; kind = 0; domain = None; project = None; trust = None; credential = None; roles = [] })
@@ -211,7 +213,7 @@ scoped rows moment user (scope_in.Project project) = to_project rows user (proje
 scoped rows moment user scope_in.System = to_system rows user
 scoped rows moment user (scope_in.Trust id) = to_trust rows moment user id
 
--- a login by a credential asks for no scope: it has the credential's project, where its user has each role that it lists
+-- | a login by a credential asks for no scope
 abbrev pub asks_nowhere : ScopeIn → Bool
 asks_nowhere scope_in.Nothing = true
 asks_nowhere scope_in.Unscoped = false
@@ -220,6 +222,7 @@ asks_nowhere (scope_in.Project project) = false
 asks_nowhere scope_in.System = false
 asks_nowhere (scope_in.Trust id) = false
 
+-- | it has the credential's project, where its user has each role that it lists
 unfoldable pub to_cred : Rows → AppCredRow → ScopeIn → Attempt Cause Scoped
 to_cred rows cred asked = do
   _ ← need (asks_nowhere asked) (cause.ScopeRefused scope_why.Absent)
@@ -227,6 +230,7 @@ to_cred rows cred asked = do
   _ ← need (has_cred_roles rows cred) (cause.ScopeRefused scope_why.NoRoles)
   Go (record { user = cred.user; kind = cred_kind; domain = None; project = Some project; trust = None; credential = Some cred.id; roles = closure rows cred.roles })
 
+-- the scope of any login
 unfoldable pub scoped_by : Rows → ℕ → Id → Option AppCredRow → ScopeIn → Attempt Cause Scoped
 scoped_by rows moment user None asked = scoped rows moment user asked
 scoped_by rows moment user (Some cred) asked = to_cred rows cred asked
@@ -243,6 +247,7 @@ told_user rows id told = option_map_or (λ row. record told { user = homed_user 
 abbrev pub catalog_with : Rows → Payload → Option (List ServiceOut)
 catalog_with rows payload = if is_scoped payload then Some (catalog_of (catalogs rows) payload.project) else None
 
+-- what is told of a token
 unfoldable pub told_token : Rows → Text → Bool → Payload → ℕ → List Id → TokenOut
 told_token rows text made payload issued roles = told_user rows payload.user (record {
   text = text;
@@ -296,6 +301,7 @@ token_given S moment drawn shown scope =
       change = use_of scope.trust;
     }
 
+-- the token that is given: a login by a trust whose uses are numbered takes one
 unfoldable pub login : Known → State → ℕ → Drawn → LoginBody → Attempt Cause Outcome
 login known S moment drawn asked = do
   who ← shown known S moment asked.proof

@@ -1,4 +1,5 @@
--- Memberships, implications and grants (Identity API v3; OS-INHERIT). A row that stands is no change and no refusal.
+-- Memberships, implications and grants. A row that stands is no change and no refusal.
+-- Source: Identity API v3, groups, implied roles and role assignments; OS-INHERIT.
 use Rattle.std.specs.Prelude.{Bool, true, false, ◌++◌, codes, filter, map, is_some}
 use Rattle.ks_base.specs.Grants.{grant_fault, stands, ungrant_fault}
 use Rattle.ks_base.specs.declared.grants.Actor.{Actor}
@@ -120,7 +121,7 @@ abbrev pub actor_path : Actor → Text
 actor_path (actor.User id) = codes "/users/" ++ id
 actor_path (actor.Group id) = codes "/groups/" ++ id
 
--- no grant on the system is inherited
+-- the path of the listing of grants; none on the system is inherited
 abbrev pub grants_path : Actor → Target → Bool → Text
 grants_path who at false = codes "/v3" ++ (target_path at ++ (actor_path who ++ codes "/roles"))
 grants_path who at true = codes "/v3/OS-INHERIT" ++ (target_path at ++ (actor_path who ++ codes "/roles/inherited_to_projects"))
@@ -139,6 +140,7 @@ all_stand rows grant = do
   _ ← standing_role rows grant.role
   Go tt
 
+-- a grant is made, stands, and ends
 unfoldable pub grant : Rows → GrantRow → Attempt Cause Outcome
 grant rows granted = do
   _ ← all_stand rows granted

@@ -6,6 +6,6 @@ use Rattle.ks_base.specs.declared.limits.TheConstants.{LAST_READING}
 abbrev pub last_moment : ℕ
 last_moment = LAST_READING
 
--- a reading of the clock, behind the highest moment so far
+-- a reading of the clock, at most the last that counts, or the highest moment so far
 abbrev pub moment_of : ℕ → ℕ → ℕ
 moment_of high reading = max high (min reading last_moment)

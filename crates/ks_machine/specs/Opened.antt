@@ -55,6 +55,7 @@ rows_opened opening = record {
   factor_rules = [];
 }
 
+-- the state that an opening opens with: each row once, in its place
 unfoldable pub opened_state : PlainOpening → State
 opened_state opening = record {
   settings = opening.settings;
@@ -186,7 +187,7 @@ full_fault rows = first_of (
     full kind.Implication (length rows.implications) ∷ full kind.Region (length rows.regions) ∷
     full kind.Service (length rows.services) ∷ full kind.Endpoint (length rows.endpoints) ∷ full kind.Grant (length rows.grants) ∷ [])
 
--- the first fault, in the order of the causes
+-- the first cause for which it is refused: ids, names, absent rows, depth, disabled projects above, `admin` implied, room, the ring
 unfoldable pub open_fault : PlainOpening → Option OpenFault
 open_fault opening = first_of (
     ids_fault opening ∷

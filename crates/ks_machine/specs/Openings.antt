@@ -16,12 +16,13 @@ use Rattle.ks_base.specs.Rows.{Text}
 use Rattle.ks_rule.specs.Trees.{Tree}
 use Rattle.ks_machine.specs.declared.settings.Settings.{Settings}
 
--- a rule of the policy
+-- | a rule of the policy
 pub record NamedRule : Type 0 where
   pub name : Text
   pub tree : Tree
 
--- each list stands in the order of the file, and the rules in the order of their names
+-- what an opening file says, with each password derived: each list stands in the order of the file, and the rules in the order of their
+-- names
 pub record PlainOpening : Type 0 where
   pub settings : Settings
   pub rules : List NamedRule

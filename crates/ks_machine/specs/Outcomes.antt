@@ -1,4 +1,5 @@
 -- What a command that is granted gives: a body, and a change if it makes one.
+-- Source: own; RFC 9562, 5.4.
 use Rattle.std.specs.Prelude.{ℕ, ◌+◌, ◌%◌, List, [], ◌∷◌, ◌++◌, take, drop, Option, Some, None}
 use Rattle.hex.specs.Hex.{encode_lower}
 use Rattle.ks_base.specs.declared.receipt.Drawn.{Drawn}
@@ -8,6 +9,7 @@ use Rattle.ks_base.specs.Rows.{Id}
 use Rattle.ks_machine.specs.declared.body_out.BodyOut.{BodyOut}
 use Rattle.ks_machine.specs.declared.change.Change.{Change}
 
+-- | what a granted command tells, and the change that it makes
 pub record Outcome : Type 0 where
   pub told : BodyOut
   pub change : Option Change
@@ -16,6 +18,7 @@ pub record Outcome : Type 0 where
 abbrev pub tells : BodyOut → Outcome
 tells told = record { told = told; change = None }
 
+-- a change and what is told with it
 abbrev pub changes : Change → BodyOut → Outcome
 changes change told = record { told = told; change = Some change }
 
@@ -50,6 +53,6 @@ marked at remainder mark bytes = take at bytes ++ marked_first (drop at bytes)
 abbrev pub uuid : List ℕ → List ℕ
 uuid bytes = marked 8 64 128 (marked 6 16 64 bytes)
 
--- the id of a new row: the lower hex digits of the UUID
+-- the id of a new row: the lower hex digits of the UUID of version 4 of 16 random bytes (RFC 9562, 5.4)
 unfoldable pub made_id : Drawn → Id
 made_id drawn = encode_lower (uuid (id_bytes drawn))

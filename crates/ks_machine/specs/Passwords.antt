@@ -1,4 +1,5 @@
--- New passwords, and the change of one's own (Identity API v3, users).
+-- New passwords, and the change of one's own.
+-- Source: Identity API v3, users.
 use Rattle.std.specs.Prelude.{Option, Some, None}
 use Rattle.ks_base.specs.declared.receipt.Drawn.{Drawn}
 use Rattle.ks_base.specs.declared.users.PasswordRow.{PasswordRow}
@@ -24,6 +25,7 @@ derived_or known S drawn kept (Some password) = do
   row ← derived known S drawn password
   Go (Some row)
 
+-- the change of one's own
 unfoldable pub change_password : Known → State → Drawn → Id → Text → Text → Attempt Cause Outcome
 change_password known S drawn id original password = do
   user ← by_password known S.rows (user_of id S.rows.users) original

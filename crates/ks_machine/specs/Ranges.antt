@@ -1,4 +1,5 @@
--- The ranges of fields (Identity API v3; own limits).
+-- The ranges of fields.
+-- Source: Identity API v3, application credentials and multi-factor authentication rules among it; OS-TRUST; own limits.
 use Rattle.std.specs.Prelude.{◌≡◌, ◌⊎◌, ℕ, ◌<◌, ◌≤◌, Bool, true, false, List, Option, None, IfSome, length}
 use Rattle.std.specs.List.{AllByRecursion}
 use Rattle.ks_base.specs.declared.limits.TheConstants.{CODES, DESCRIPTION_BYTES, ENDPOINT_URL_BYTES, KEYS, LAST_SECOND, LONGEST_LIFE, MFA_RULES, NAME_BYTES, PASSWORD_BYTES, REDELEGATIONS, ROUNDS, SHORTEST_LIFE, TOTP_SECRET_LEAST, TOTP_SECRET_MOST, TRUST_ROLES, USES}
@@ -15,6 +16,7 @@ use Rattle.ks_base.specs.declared.users.UserRow.{UserRow}
 use Rattle.ks_base.specs.Rows.{Text}
 use Rattle.ks_machine.specs.declared.settings.Settings.{Settings}
 
+-- the ranges of fields
 abbrev pub IsName : Text → Type 0
 IsName name = (1 ≤ length name) × (length name ≤ NAME_BYTES)
 
@@ -24,7 +26,7 @@ IsDescription description = length description ≤ DESCRIPTION_BYTES
 abbrev pub IsPassword : Text → Type 0
 IsPassword password = (1 ≤ length password) × (length password ≤ PASSWORD_BYTES)
 
--- the secret of an application credential
+-- | the secret of an application credential
 abbrev pub IsCredSecret : Text → Type 0
 IsCredSecret secret = (1 ≤ length secret) × (length secret ≤ NAME_BYTES)
 
@@ -32,11 +34,11 @@ IsCredSecret secret = (1 ≤ length secret) × (length secret ≤ NAME_BYTES)
 abbrev pub IsTotpSecret : List ℕ → Type 0
 IsTotpSecret secret = (TOTP_SECRET_LEAST ≤ length secret) × (length secret ≤ TOTP_SECRET_MOST)
 
--- a code has six digits
+-- | a code has six digits
 abbrev pub IsCode : ℕ → Type 0
 IsCode code = code < CODES
 
--- a rule asks for a password, for a code, or for both
+-- a rule of methods asks for a password, for a code, or for both: a set as a number, 1 a password, 4 a code, 5 both
 abbrev pub IsMfaRule : ℕ → Type 0
 IsMfaRule rule = (rule ≡ 1) ⊎ ((rule ≡ 4) ⊎ (rule ≡ 5))
 
@@ -46,6 +48,7 @@ AreMfaRules rules = AllByRecursion IsMfaRule rules × (length rules ≤ MFA_RULE
 abbrev pub AreRounds : ℕ → Type 0
 AreRounds rounds = (1 ≤ rounds) × (rounds ≤ ROUNDS)
 
+-- the ranges of rows
 abbrev pub IsDomainInRange : DomainRow → Type 0
 IsDomainInRange row = IsName row.name × IsDescription row.description
 
@@ -68,6 +71,7 @@ IsServiceText text = length text ≤ NAME_BYTES
 abbrev pub IsEndpointUrl : Text → Type 0
 IsEndpointUrl url = (1 ≤ length url) × (length url ≤ ENDPOINT_URL_BYTES)
 
+-- the ranges of rows of the catalog
 abbrev pub IsRegionInRange : RegionRow → Type 0
 IsRegionInRange row = IsDescription row.description
 
@@ -85,12 +89,12 @@ IsExpiry expires = expires ≤ LAST_SECOND
 abbrev pub AreUses : ℕ → Type 0
 AreUses uses = (1 ≤ uses) × (uses ≤ USES)
 
--- a trust that counts its uses can't be passed on
+-- | a trust that counts its uses can't be passed on
 abbrev pub IsPassable : Bool → Option ℕ → Type 0
 IsPassable true remaining = remaining ≡ None
 IsPassable false remaining = Unit {0}
 
--- so none may follow below it
+-- | so none may follow below it
 abbrev pub IsLastOf : ℕ → Option ℕ → Type 0
 IsLastOf count remaining = IfSome remaining (λ uses. count ≡ 0)
 
@@ -111,6 +115,7 @@ pub record IsAppCredInRange (row : AppCredRow) : Type 0 where
   pub expires : IfSome row.expires IsExpiry
   pub rounds : AreRounds row.secret.rounds
 
+-- the ranges of settings
 pub record IsSettings (settings : Settings) : Type 0 where
   pub life_least : SHORTEST_LIFE ≤ settings.life
   pub life_most : settings.life ≤ LONGEST_LIFE

@@ -1,5 +1,6 @@
 -- Room for the revocations that a change writes: it needs room for all of them among the live ones. Room for rows is a rule of
 -- their tables.
+-- Source: own limits.
 use Rattle.std.specs.Prelude.{ℕ, ◌+◌, Bool, true, false, if◌then◌else◌, nat_le, List, [], ◌∷◌, length, Option, Some, None}
 use Rattle.ks_base.specs.declared.events.Revoke.{Revoke}
 use Rattle.ks_base.specs.declared.kinds.Kind.TheVariants as kind
@@ -15,7 +16,7 @@ use Rattle.ks_machine.specs.Attempts.{Attempt, Go, need}
 use Rattle.ks_machine.specs.Changes.{effect}
 use Rattle.ks_machine.specs.States.{State}
 
--- what users do for themselves: they end a token, change their own password, or delete a trust
+-- | what users do for themselves: they end a token, change their own password, or delete a trust
 abbrev pub is_for_oneself : Command → Bool
 is_for_oneself command.RevokeToken = true
 is_for_oneself (command.ChangePassword id original password) = true
@@ -66,17 +67,18 @@ is_for_oneself command.ListSecrets = false
 is_for_oneself (command.GetSecret id) = false
 is_for_oneself (command.DeleteSecret id) = false
 
--- how many revocations may be live with those that a command writes: what users do for themselves leaves room for those who must
--- end what is not theirs
+-- how many revocations may be live with those that a command writes: 131,072 for what users do for themselves, which leaves room for those
+-- who must end what is not theirs, else 262,144
 abbrev pub event_limit : Command → ℕ
 event_limit asked = if is_for_oneself asked then SELF_REVOCATIONS else limit kind.Event
 
--- with these things at most so many are live
+-- | with these things at most so many are live
 abbrev pub has_event_room : State → ℕ → ℕ → List Revoke → Bool
 has_event_room S moment most [] = true
 has_event_room S moment most (thing ∷ things) =
     nat_le (length (live S.settings.life moment S.events) + length (thing ∷ things)) most
 
+-- | room for the revocations that a change writes among so many live ones; a change that writes none needs none
 unfoldable pub room_for : State → ℕ → ℕ → Option Change → Attempt Cause (Unit {0})
 room_for S moment most None = Go tt
 room_for S moment most (Some what) = need (has_event_room S moment most (effect S what).ended) (cause.Full kind.Event)

@@ -1,4 +1,5 @@
 -- The rules of a policy: a list of named trees, one for each name, in the order of the names by bytes.
+-- Source: oslo.policy.
 use Rattle.std.specs.Prelude.{ℕ, suc, if◌then◌else◌, List, [], ◌∷◌, Option, Some, None, option_map, slice_get, codes}
 use Rattle.std.specs.Option.{option_or, option_map_or}
 use Rattle.std.specs.Str.{bytes_eq}
@@ -22,6 +23,6 @@ abbrev pub tree_placed : List NamedRule → Option ℕ → Tree
 tree_placed rules None = never
 tree_placed rules (Some i) = tree_at rules i
 
--- the tree that a name means
+-- | the tree that a name means
 abbrev pub tree_named : List NamedRule → List ℕ → Tree
 tree_named rules name = tree_placed rules (place_named rules name)

@@ -1,4 +1,5 @@
 -- What rows are called, and where a body names them.
+-- Source: Identity API v3.
 use Rattle.std.specs.Prelude.{List, [], Option, find, map}
 use Rattle.std.specs.Option.{option_and_then, option_map_or}
 use Rattle.ks_base.specs.declared.app_creds.AppCredRow.{AppCredRow}
@@ -32,6 +33,7 @@ abbrev pub role_in : Rows → Named → Option RoleRow
 role_in rows (named.Id id) = role_of id rows.roles
 role_in rows (named.Name name) = find (is_named name) rows.roles
 
+-- a user by id, or by name and domain; a credential by id, or by name and user
 abbrev pub user_in : Rows → UserNamed → Option UserRow
 user_in rows (user_named.Id id) = user_of id rows.users
 user_in rows (user_named.Name name domain) = option_and_then (λ d. find (is_user_named d.id name) rows.users) (domain_in rows domain)
@@ -40,6 +42,7 @@ abbrev pub cred_in : Rows → CredNamed → Option AppCredRow
 cred_in rows (cred_named_by.Id id) = cred_of id rows.app_creds
 cred_in rows (cred_named_by.Name name user) = option_and_then (λ u. cred_named u.id name rows.app_creds) (user_in rows user)
 
+-- a project by id, or by name and domain
 abbrev pub project_in : Rows → ProjectNamed → Option ProjectRow
 project_in rows (project_named.Id id) = project_of id rows.projects
 project_in rows (project_named.Name name domain) = option_and_then (λ d. find (is_project_named d.id name) rows.projects) (domain_in rows domain)

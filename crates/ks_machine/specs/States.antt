@@ -7,6 +7,7 @@ use Rattle.ks_machine.specs.Openings.{NamedRule}
 use Rattle.ks_machine.specs.declared.settings.Settings.{Settings}
 use Rattle.ks_ring.specs.Rings.{RingState}
 
+-- settings, rules, ring, rows, all revocations ever written, the highest moment, the number of changes
 pub record State : Type 0 where
   pub settings : Settings
   pub rules : List NamedRule
@@ -25,6 +26,7 @@ raised S moment = record S { high = moment }
 
 -- what stands, is enabled and lies in what is enabled
 
+-- a row stands and is enabled in an enabled domain
 abbrev pub is_domain_on : Rows → Id → Bool
 is_domain_on rows id = option_map_or (λ domain. domain.enabled) (domain_of id rows.domains) false
 

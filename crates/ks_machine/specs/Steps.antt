@@ -161,7 +161,7 @@ checked known S moment call = do
   _ ← room_for S moment (event_limit call.command) outcome.change
   Go outcome
 
--- one step: a reply and the change that it makes, or the fact that is lacking
+-- | one step: a reply and the change that it makes, or the fact that is lacking
 pub data Stepped : Type 0 where
   Replies : Reply → Option Change → Stepped
   Needs : Lack → Stepped
@@ -171,7 +171,7 @@ stepped (Go outcome) = Replies (reply.Ok outcome.told) outcome.change
 stepped (Stop why) = Replies (reply.Refused why) None
 stepped (Lacks lack) = Needs lack
 
--- at a moment, which is the highest from then on: no check sees the one before
+-- | at a moment, which is the highest from then on: no check sees the one before
 unfoldable pub step_at : Known → State → ℕ → Call → Stepped
 step_at known S moment call = stepped (checked known (raised S moment) moment call)
 

@@ -31,6 +31,7 @@ use Rattle.ks_base.specs.RoleLists.{RolesState}
 use Rattle.ks_base.specs.Trees.{TreeState}
 use Rattle.ks_machine.specs.Attempts.{Attempt, blame, found, unless}
 
+-- | a state's tables as their own definitions see them
 abbrev pub trees : Rows → TreeState
 trees rows = record { domains = rows.domains; projects = rows.projects }
 
@@ -38,6 +39,7 @@ trees rows = record { domains = rows.domains; projects = rows.projects }
 abbrev pub put_trees : TreeState → Rows → Rows
 put_trees state rows = record rows { domains = state.domains; projects = state.projects }
 
+-- | the same of people, roles, the catalog and factors
 abbrev pub people : Rows → PeopleState
 people rows = record { users = rows.users; groups = rows.groups; members = rows.members }
 
@@ -64,6 +66,7 @@ put_factors state rows = record rows { secrets = state.secrets; factor_rules = s
 
 -- the causes that have a place of their own are named there
 
+-- | refusals as causes, of which those that have a place of their own are named there
 abbrev pub row_cause : RowFault → Cause
 row_cause (row.Absent kind id) = cause.Absent kind id
 row_cause row.Prohibited = cause.Prohibited
@@ -85,7 +88,7 @@ tree_cause (tree.EnabledBelow id) = cause.Tree (tree.EnabledBelow id)
 tree_cause (tree.DisabledAbove id) = cause.Tree (tree.DisabledAbove id)
 tree_cause tree.DomainEnabled = cause.Tree tree.DomainEnabled
 
--- a region with something in it is told as a project with others below it is
+-- | a region with something in it is told as a project with others below it is
 abbrev pub catalog_cause : CatalogFault → Cause
 catalog_cause (catalog.Absent kind id) = cause.Absent kind id
 catalog_cause (catalog.HasChildren id) = cause.Tree (tree.HasChildren id)

@@ -1,4 +1,5 @@
 -- What rules see of a caller and of what is asked for (oslo.policy; the names are those of Keystone's policies).
+-- Source: Keystone's policies.
 use Rattle.std.specs.Prelude.{Bool, true, false, if◌then◌else◌, List, [], ◌∷◌, ◌++◌, Option, Some, None, codes, option_map, map}
 use Rattle.ks_base.specs.declared.catalog.CatalogIn.{CatalogIn}
 use Rattle.ks_base.specs.declared.catalog.CatalogKind.{CatalogKind}
@@ -45,6 +46,7 @@ given_truth name value = given name (option_map truth_text value)
 
 -- the caller
 
+-- what rules see of the caller
 unfoldable pub credentials : Rows → Valid → Credentials
 credentials rows caller = record {
   roles = map (λ id. (titled_role rows id).name) caller.roles;
@@ -245,6 +247,7 @@ filter_names kind.Endpoint = codes "service_id" ∷ codes "region_id" ∷ codes 
 
 -- the target of a command
 
+-- what rules see of what a command is about
 unfoldable pub target_of : Rows → Option Valid → Command → Fields
 target_of rows subject (command.Validate late) = of_subject subject
 target_of rows subject (command.Check late) = of_subject subject

@@ -1,4 +1,5 @@
 -- What holds of valid tokens: a trust gives no more than its first trustor has, and what was ended is refused ever after.
+-- Source: Identity API v3, application credentials; OS-TRUST; OS-REVOKE.
 use Rattle.std.specs.Prelude.{◌≡◌, ◌⊎◌, ℕ, ◌≤◌, Bool, true, false, Some, None}
 use Rattle.ks_base.specs.declared.app_creds.AppCredRow.{AppCredRow}
 use Rattle.ks_base.specs.declared.grants.Target.TheVariants as target
@@ -30,7 +31,7 @@ HasItsTrust =
     → token.payload.trust ≡ Some id
     → (trust : TrustRow) × (trust_of id S.rows.trusts ≡ Some trust)
 
--- and each of the token's roles is effective for the trust's first trustor at the trust's project
+-- law: and each of the token's roles is effective for the trust's first trustor at the trust's project
 abbrev pub IsTrustBound : Type 0
 IsTrustBound =
     (known : Known) (S : State) (moment : ℕ) (late : Bool) (text : Text) (token : Valid) (id : Id) (trust : TrustRow) (role : Id)
@@ -40,7 +41,7 @@ IsTrustBound =
     → Among token.roles role
     → Effective S.rows (first_trustor S.rows.trusts trust) (target.Project trust.project) role
 
--- each role of a valid token of an application credential is effective for the credential's user on its project
+-- law: the application credential of a valid token stands, and each of the token's roles is effective for its user on its project
 abbrev pub IsCredBound : Type 0
 IsCredBound =
     (known : Known) (S : State) (moment : ℕ) (late : Bool) (text : Text) (token : Valid) (id : Id) (role : Id)
@@ -51,11 +52,12 @@ IsCredBound =
     → (cred : AppCredRow) × (cred_of id S.rows.app_creds ≡ Some cred) × (cred.user ≡ token.payload.user)
     × Effective S.rows cred.user (target.Project cred.project) role
 
--- what a token of a restricted credential may not do: it makes no trust and no credential, and ends none
+-- | what a token of a restricted credential may not do: it makes no trust and no credential, and ends none
 abbrev pub IsForUnrestricted : Change → Type 0
 IsForUnrestricted what =
     ((row : TrustRow) × (what ≡ change.PutTrust row)) ⊎ (((row : AppCredRow) × (what ≡ change.PutAppCred row)) ⊎ ((id : Id) × (what ≡ change.DropAppCred id)))
 
+-- law: no call by a token whose application credential is restricted makes such a change
 abbrev pub AreRestrictedHeldBack : Type 0
 AreRestrictedHeldBack =
     (known : Known) (S : State) (moment : ℕ) (call : Call) (caller : Valid) (cred : AppCredRow) (told : Reply) (what : Change)
@@ -65,7 +67,8 @@ AreRestrictedHeldBack =
     → step_at known S moment call ≡ Replies told (Some what)
     → IsForUnrestricted what → ⊥
 
--- a token that a revocation of the whole history ends is valid in no front that goes on, for whoever asks
+-- law: what a revocation of the whole history ends in a front is valid in no front that goes on from it, with and without the window for
+-- expired tokens, also where its user, project, domain or trust went and the id was drawn again
 abbrev pub IsRefusedEverAfter : Type 0
 IsRefusedEverAfter =
     (f g : Front) (payload : Payload) (issued : ℕ)

@@ -1,4 +1,5 @@
 -- What a token must be, by the keys, its payload and the time alone: the first lines of its validity, in their order.
+-- Source: Keystone's administration guide, Fernet keys; own.
 use Rattle.std.specs.Prelude.{ℕ, ◌+◌, Bool, true, false, nat_lt, nat_le, List, [], ◌∷◌, is_some, Result, Ok, Err}
 use Rattle.ks_base.specs.declared.key.Key.{Key}
 use Rattle.ks_base.specs.Revocation.{window}
@@ -28,13 +29,13 @@ unfoldable pub first_opened : List Key → List ℕ → OpenAnswer
 first_opened [] text = unopened (is_some (envelope_of text))
 first_opened (key ∷ keys) text = or_else (open_of key text) (first_opened keys text)
 
--- the moment at which a token ends; who may ask for expired ones finds it for so much longer
+-- | the moment at which a token ends; who may ask for expired ones finds it for two days longer
 abbrev pub end_of : Bool → ℕ → ℕ
 end_of false expires = expires
 end_of true expires = expires + window
 
--- the lines behind the opening, where `life` is how long a token may live, `moment` is now, and `late` says whether
--- the request allows an expired token
+-- the lines `Payload`, `Future`, `Expired` and `Span`, behind the opening, where `life` is how long a token may live, `moment` is now, and
+-- `late` says whether the request allows an expired token
 unfoldable pub payload_lines : ℕ → ℕ → Bool → ℕ → List ℕ → Result ReadToken Why
 payload_lines life moment late issued plain = do
   payload ← found (payload_of plain) why.Payload
@@ -43,7 +44,7 @@ payload_lines life moment late issued plain = do
   _ ← need (nat_le payload.expires (issued + life)) why.Span
   Ok (record { payload = payload; issued = issued; plain = plain })
 
--- the first line that does not hold, or what the token holds
+-- these behind `Text` and `Key`: what the token holds, or the first line that does not hold
 abbrev pub token_lines : ℕ → ℕ → Bool → OpenAnswer → Result ReadToken Why
 token_lines life moment late NotText = Err why.Text
 token_lines life moment late No = Err why.Key

@@ -1,4 +1,5 @@
 -- Which replies can be told: each moment in them has a text of RFC 3339, whose year has four digits.
+-- Source: RFC 3339; Identity API v3.
 use Rattle.std.specs.Prelude.{IfSome}
 use Rattle.std.specs.List.{AllByRecursion}
 use Rattle.ks_base.specs.declared.events.EventRow.{EventRow}
@@ -11,6 +12,7 @@ use Rattle.ks_machine.specs.declared.reply.Reply.{Reply}
 use Rattle.ks_machine.specs.declared.reply.Reply.TheVariants as reply
 use Rattle.ks_machine.specs.Ranges.{IsExpiry}
 
+-- each moment that a reply tells has a text, whose year has four digits
 abbrev pub IsTokenTellable : TokenOut → Type 0
 IsTokenTellable told = IsExpiry told.issued × IsExpiry told.expires
 

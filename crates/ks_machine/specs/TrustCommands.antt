@@ -1,4 +1,5 @@
--- Trusts: making one, and what is told of them (OS-TRUST).
+-- Trusts: making one, and what is told of them.
+-- Source: OS-TRUST.
 use Rattle.std.specs.Prelude.{ℕ, ◌-◌, ◌==◌, Bool, true, false, ◌&&◌, if◌then◌else◌, nat_lt, nat_le, List, [], ◌∷◌, ◌++◌, length, Option, Some, None, codes, filter, map, option_map, unwrap_or}
 use Rattle.std.specs.Option.{option_and_then, option_map_or, option_or}
 use Rattle.ks_base.specs.declared.faults.TrustFault.{TrustFault}
@@ -54,6 +55,7 @@ trust_cause (fault.UserOff id) = cause.Trust (fault.UserOff id)
 abbrev pub unless_trust : Option TrustFault → Attempt Cause (Unit {0})
 unless_trust why = blame trust_cause (unless why)
 
+-- a check that a refusal of trusts tells
 abbrev pub needs : Bool → TrustFault → Attempt Cause (Unit {0})
 needs holds why = need holds (cause.Trust why)
 
@@ -81,6 +83,7 @@ abbrev pub role_asked : Rows → Text → Named → Attempt Cause RoleRow
 role_asked rows field (named.Id id) = found (role_in rows (named.Id id)) (cause.Absent kind.Role id)
 role_asked rows field (named.Name name) = found (role_in rows (named.Name name)) (cause.Shape (shape.Range field))
 
+-- the roles that a field of a body names
 unfoldable pub roles_asked : Rows → Text → List Named → Attempt Cause (List Id)
 roles_asked rows field [] = Go []
 roles_asked rows field (name ∷ names) = do
@@ -126,6 +129,7 @@ roles_to_give rows trust = roles_at rows (first_of_new rows.trusts trust) (targe
 abbrev pub told_trust : Rows → TrustRow → Row
 told_trust rows trust = row.Trust trust (titled_roles rows trust.roles)
 
+-- a new trust
 unfoldable pub create_trust : Rows → ℕ → Drawn → Valid → TrustBody → Attempt Cause Outcome
 create_trust rows moment drawn caller asked = do
   _ ← unrestricted rows caller

@@ -1,5 +1,6 @@
--- Changes of domains, projects, users, groups and roles (Identity API v3). A field that is absent stays as it is; the id, the
--- domain and the parent of a row can't be changed.
+-- Changes of domains, projects, users, groups and roles. A field that is absent stays as it is; the id, the domain and the parent of a row
+-- can't be changed.
+-- Source: Identity API v3.
 use Rattle.std.specs.Prelude.{Bool, true, false, Option, codes, unwrap_or}
 use Rattle.std.specs.Option.{option_map_or}
 use Rattle.ks_base.specs.declared.receipt.Drawn.{Drawn}
@@ -27,10 +28,11 @@ use Rattle.ks_machine.specs.Passwords.{derived_or}
 use Rattle.ks_machine.specs.States.{State}
 use Rattle.ks_machine.specs.Tables.{people, roles, standing_domain, standing_group, standing_project, standing_role, standing_user, trees, unless_row, unless_tree}
 
--- the field is absent, or says what stands
+-- a field that may not be changed: it is absent, or says what stands
 abbrev pub unchanged : Text → Option Id → Id → Attempt Cause (Unit {0})
 unchanged field given standing = need (option_map_or (same standing) given true) (cause.Immutable field)
 
+-- changes of these rows, one by one
 unfoldable pub update_domain : Rows → Id → Option Id → Option Text → Option Text → Option Bool → Attempt Cause Outcome
 update_domain rows id given name description enabled = do
   old ← standing_domain rows id

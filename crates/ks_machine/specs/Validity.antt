@@ -1,4 +1,5 @@
 -- When the text of a token is valid: the lines of its validity, in their order.
+-- Source: Identity API v3, tokens and application credentials; OS-TRUST; OS-REVOKE; own.
 use Rattle.std.specs.Prelude.{ℕ, ◌==◌, Bool, true, false, not, ◌&&◌, ◌||◌, if◌then◌else◌, nat_lt, List, [], ◌∷◌, length, Option, Some, None, is_some, option_map}
 use Rattle.std.specs.List.{list_all}
 use Rattle.std.specs.Option.{option_and_then, option_map_or, option_or}
@@ -50,11 +51,13 @@ abbrev pub unless_lacking : {E : Type 0} → List HeldKey → OpenAnswer → Att
 unless_lacking [] answer = Go answer
 unless_lacking (key ∷ keys) answer = Lacks (Keys (key ∷ keys))
 
+-- | what the keys of the ring find in a text, or which facts are lacking
 unfoldable pub opens : {E : Type 0} → Known → List HeldKey → Text → Attempt E OpenAnswer
 opens known keys text = unless_lacking (lacking known text keys) (opened known text keys)
 
 -- the rows that a payload names
 
+-- the trust that a payload names, where it stands
 abbrev pub trust_named : Rows → Payload → Option TrustRow
 trust_named rows payload = option_and_then (λ id. trust_of id rows.trusts) payload.trust
 
@@ -80,7 +83,7 @@ holder rows payload = record {
 
 -- lines
 
--- a domain or project stands and is enabled, an application credential's project too; the system always is
+-- the line `Scope`: a domain or project stands and is enabled, an application credential's project too; the system always is
 abbrev pub is_scope_on : Rows → Payload → Bool
 is_scope_on rows payload =
     option_map_or (is_domain_on rows) payload.domain true && option_map_or (is_project_on rows) payload.project true
@@ -96,6 +99,7 @@ is_trust_on rows moment payload trust =
     && (is_user_on rows trust.trustor && (is_user_on rows trust.trustee
     && (is_user_on rows (first_trustor rows.trusts trust) && same (acts_as trust) payload.user))))
 
+-- the line `Trust`: the trust stands, has not expired, has the token's project and user, and its people are enabled
 abbrev pub is_trust_line : Rows → ℕ → Payload → Bool
 is_trust_line rows moment payload =
     option_map_or (λ id. option_map_or (is_trust_on rows moment payload) (trust_of id rows.trusts) false) payload.trust true
@@ -105,9 +109,11 @@ unfoldable pub is_cred_on : ℕ → Payload → AppCredRow → Bool
 is_cred_on moment payload cred =
     not (is_expired cred.expires moment) && (same cred.user payload.user && option_map_or (same cred.project) payload.project false)
 
+-- the application credential of a token, where it stands
 abbrev pub cred_in_payload : Rows → Payload → Option AppCredRow
 cred_in_payload rows payload = option_and_then (λ id. cred_of id rows.app_creds) payload.credential
 
+-- the line `Credential`: it stands, is its user's and its project's, and isn't expired
 abbrev pub is_cred_line : Rows → ℕ → Payload → Bool
 is_cred_line rows moment payload =
     option_map_or (λ id. option_map_or (is_cred_on moment payload) (cred_of id rows.app_creds) false) payload.credential true
@@ -116,10 +122,11 @@ is_cred_line rows moment payload =
 abbrev pub system_kind : ℕ
 system_kind = 4
 
--- and those of an application credential
+-- | the kind of the tokens of an application credential
 abbrev pub cred_kind : ℕ
 cred_kind = 5
 
+-- a token for the whole system
 abbrev pub is_system : Payload → Bool
 is_system payload = payload.kind == system_kind
 
@@ -162,12 +169,14 @@ has_cred_roles rows cred = list_all (is_had rows cred) cred.roles
 abbrev pub are_had : Rows → Payload → Bool
 are_had rows payload = option_map_or (has_cred_roles rows) (cred_in_payload rows payload) true
 
+-- the line `Roles`: a scoped token has some, the first trustor has each of the trust's, and the user each of the credential's
 abbrev pub has_roles : Rows → Payload → Bool
 has_roles rows payload =
     (not (is_scoped payload) || nat_lt 0 (length (roles_of rows payload))) && (are_kept rows payload && are_had rows payload)
 
 -- a valid token
 
+-- | what a valid token holds
 pub record Valid : Type 0 where
   pub payload : Payload
   pub issued : ℕ
@@ -184,7 +193,8 @@ held_lines S moment held = do
   _ ← need (has_roles S.rows held.payload) why.Roles
   Go (record { payload = held.payload; issued = held.issued; roles = roles_of S.rows held.payload })
 
--- the first line that does not hold, or what the token holds; `late` says whether the request allows an expired one
+-- the first line of all that does not hold, or what the token holds: text, key, payload, future, expired, span, revoked, user, scope,
+-- trust, credential, roles; `late` says whether the request allows an expired one
 unfoldable pub validity : Known → State → ℕ → Bool → Text → Attempt Why Valid
 validity known S moment late text = do
   answer ← opens known S.ring.held text

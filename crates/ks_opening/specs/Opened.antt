@@ -14,7 +14,7 @@ use Rattle.ks_machine.specs.declared.settings.OpenFault.{OpenFault}
 use Rattle.ks_machine.specs.declared.settings.OpenFault.TheVariants as fault
 use Rattle.ks_opening.specs.declared.opened.OpenedTables.{OpenedTables}
 
--- the rows of the tables
+-- | the rows of the tables
 abbrev pub rows_in : TreeState → PeopleState → RolesState → List GrantRow → List TrustRow → CatalogState → AppCredsState → FactorState → Rows
 rows_in tree people roles grants trusts catalog app_creds factors = record {
   domains = tree.domains;

@@ -3,7 +3,7 @@ use Rattle.std.specs.Prelude.{◌≡◌, ℕ, ◌≤◌, List, [], ◌∷◌, �
 use Rattle.ks_base.specs.declared.receipt.Receipt.{Receipt}
 use Rattle.ks_outside.specs.declared.desk_call.DeskCall.{DeskCall}
 
--- a desk, of which each part is told or not: the links still to come, the links given back, the readings
+-- | a desk, of which each part is told or not: the links still to come, the links given back, the readings
 -- of the clock and the random bytes still to come, the receipts, and the calls for a receipt, of the clock
 -- and for random bytes so far; for how many links given back and how many receipts it has spare room; and
 -- its counts of faults, one of accepts and one of fills

@@ -1,5 +1,6 @@
 -- Key files as a folder holds them: a finite map from an index to a content, kept as its pairs by rising
 -- index.
+-- Source: Keystone's administration guide, Fernet keys; own.
 use Rattle.std.specs.Prelude.{◌≡◌, ℕ, ◌+◌, ◌≤◌, nat_lt, nat_le, ◌==◌, List, [], ◌∷◌, ◌++◌, length, take, map, filter, find, Option, Some, None, Result, Ok, Err, ◌⊎◌, if◌then◌else◌}
 use Rattle.std.specs.Option.{option_map}
 use Rattle.ks_base.specs.declared.limits.TheConstants.{LAST_KEY_INDEX, KEY_FILE_BYTES}
@@ -9,7 +10,7 @@ use Rattle.ks_outside.specs.Counts.{Counts}
 abbrev pub KeyFile : Type 0
 KeyFile = ℕ × List ℕ
 
--- a key folder: its files by rising index, where it tells them, and how often a call to it failed
+-- | a key folder: its files by rising index, where it tells them, and how often a call to it failed
 pub record DirState : Type 0 where
   pub files : Option (List KeyFile)
   pub faults : ℕ
@@ -21,6 +22,7 @@ pub record OnlyLooks (failed : Type 0) (old new : DirState) : Type 0 where
   -- the count of failed calls
   pub faults : Counts failed old.faults new.faults
 
+-- an index up to 999,999,999
 abbrev pub IsIndex : ℕ → Type 0
 IsIndex index = index ≤ LAST_KEY_INDEX
 
@@ -29,6 +31,7 @@ abbrev pub AreIndices : ℕ → List ℕ → Type 0
 AreIndices lowest [] = Unit {0}
 AreIndices lowest (index ∷ indices) = (lowest ≤ index) × IsIndex index × AreIndices (index + 1) indices
 
+-- the indices of files
 abbrev pub indices_of : List KeyFile → List ℕ
 indices_of files = map (λ file. file.0) files
 

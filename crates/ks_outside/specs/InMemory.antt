@@ -7,7 +7,7 @@ use Rattle.ks_outside.specs.Streams.{StreamState}
 use Rattle.ks_outside.specs.Files.{KeyFile, DirState}
 use Rattle.ks_outside.specs.Desks.{DeskState}
 
--- a source in memory: the bytes that are left to read, how many reads there were, the numbers of those
+-- | a source in memory: the bytes that are left to read, how many reads there were, the numbers of those
 -- that are to fail, counted from 1, the longest piece that one read gives, and the count of faults
 pub record MemorySourceState : Type 0 where
   pub left : List ℕ
@@ -19,7 +19,7 @@ pub record MemorySourceState : Type 0 where
 abbrev pub source_stream : MemorySourceState → StreamState
 source_stream source = record { left = Some source.left; written = None; read_faults = source.faults; write_faults = 0; names = [] }
 
--- a sink in memory: the bytes that were written, how many it has room for in all, how many writes there
+-- | a sink in memory: the bytes that were written, how many it has room for in all, how many writes there
 -- were, the numbers of those that are to fail, counted from 1, the longest piece that one write takes,
 -- and the count of faults
 pub record MemorySinkState : Type 0 where
@@ -33,7 +33,7 @@ pub record MemorySinkState : Type 0 where
 abbrev pub sink_stream : MemorySinkState → StreamState
 sink_stream sink = record { left = None; written = Some sink.written; read_faults = 0; write_faults = sink.faults; names = [] }
 
--- a link in memory: a source and a sink
+-- | a link in memory: a source and a sink
 pub record MemoryLinkState : Type 0 where
   pub source : MemorySourceState
   pub sink : MemorySinkState
@@ -47,7 +47,7 @@ link_stream link = record {
   names = [];
 }
 
--- a key folder in memory: its files, how many calls there were, the numbers of those that are to fail,
+-- | a key folder in memory: its files, how many calls there were, the numbers of those that are to fail,
 -- counted from 1, after how many calls every one fails, if so, and the count of faults
 pub record MemoryDirState : Type 0 where
   pub files : List KeyFile
@@ -72,7 +72,7 @@ pub record Called (failed : Type 0) (old new : MemoryDirState) : Type 0 where
   -- and then changes no file
   pub fault : failed → new ≡ record old { calls = next_count old.calls; faults = next_count old.faults }
 
--- a desk in memory: what it holds, its calls, where there was memory to note them all, how many accepts and
+-- | a desk in memory: what it holds, its calls, where there was memory to note them all, how many accepts and
 -- fills there were, and the numbers of those that are to fail, counted from 1
 pub record MemoryDeskState : Type 0 where
   pub coming : List MemoryLinkState

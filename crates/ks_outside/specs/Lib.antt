@@ -1,3 +1,5 @@
+-- The outside.
+
 -- What the public contracts mean, in the order in which it is read: counts of faults; sources, sinks and
 -- links; key folders; desks; then what the objects in memory and the real ones show of themselves. Of
 -- `steps` only private clauses speak.

@@ -4,7 +4,7 @@ use Rattle.ks_outside.specs.Streams.{StreamState}
 use Rattle.ks_outside.specs.Files.{DirState}
 use Rattle.ks_outside.specs.Desks.{DeskState}
 
--- a real source or sink: the reader or the writer of std under it, and the count of faults
+-- | a real source or sink: the reader or the writer of std under it, and the count of faults
 pub record RealEndState (T : Type 0) : Type 0 where
   pub under : T
   pub faults : ℕ
@@ -15,7 +15,7 @@ reader_stream reader = record { left = None; written = None; read_faults = reade
 abbrev pub writer_stream : {T : Type 0} → RealEndState T → StreamState
 writer_stream writer = record { left = None; written = None; read_faults = 0; write_faults = writer.faults; names = [] }
 
--- a real link, which counts the faults of its reads and those of its writes
+-- | a real link, which counts the faults of its reads and those of its writes
 pub record RealLinkState : Type 0 where
   pub reads : ℕ
   pub writes : ℕ
@@ -23,7 +23,7 @@ pub record RealLinkState : Type 0 where
 abbrev pub untold_stream : RealLinkState → StreamState
 untold_stream link = record { left = None; written = None; read_faults = link.reads; write_faults = link.writes; names = [] }
 
--- a real key folder, which counts its faults
+-- | a real key folder, which counts its faults
 pub record RealDirState : Type 0 where
   pub faults : ℕ
 
@@ -36,7 +36,7 @@ pub record RealDeskState : Type 0 where
   pub accept_faults : ℕ
   pub fill_faults : ℕ
 
--- it has always room, since it keeps neither links nor receipts
+-- | it has always room, since it keeps neither links nor receipts
 abbrev pub untold_desk : RealDeskState → DeskState RealLinkState
 untold_desk desk = record {
   coming = None;

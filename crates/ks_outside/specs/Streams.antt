@@ -3,9 +3,9 @@ use Rattle.std.specs.Prelude.{◌≡◌, ◌⊎◌, ℕ, ◌≤◌, List, [], �
 use Rattle.std.specs.Borrow.{GName}
 use Rattle.ks_outside.specs.Counts.{Counts}
 
--- the bytes that are left to read and the bytes that were written, where it tells them; how often a read
--- failed, and how often a write failed or took nothing; and the references that it holds, by which who
--- lends it two ends knows that it has these two still
+-- | what contracts see of a source, a sink or a link: the bytes that are left to read and the bytes that were written, where it tells them;
+-- how often a read failed, and how often a write failed or took nothing; and the references that it holds, by which who lends it two ends
+-- knows that it has these two still
 pub record StreamState : Type 0 where
   pub left : Option (List ℕ)
   pub written : Option (List ℕ)
@@ -13,7 +13,7 @@ pub record StreamState : Type 0 where
   pub write_faults : ℕ
   pub names : List GName
 
--- n bytes were taken from the front of `bytes` into the front of a piece, and the rest is left; there
+-- | n bytes were taken from the front of `bytes` into the front of a piece, and the rest is left; there
 -- are none only at the end
 pub record Takes (bytes : List ℕ) (left : Option (List ℕ)) (piece : List ℕ) (n : ℕ) : Type 0 where
   pub enough : n ≤ length bytes
@@ -39,7 +39,7 @@ TookNone result = IsErr result ⊎ (result ≡ Ok 0)
 abbrev pub Appends : {A : Type 0} → List A → Option (List A) → Option (List A) → Type 0
 Appends {A} more before after = (told : List A) → before ≡ Some told → after ≡ Some (told ++ more)
 
--- one list is the front of another
+-- | one list is the front of another
 abbrev pub Begins : List ℕ → List ℕ → Type 0
 Begins front whole = (rest : List ℕ) × (front ++ rest ≡ whole)
 

@@ -1,3 +1,4 @@
+-- What a token holds.
 pub mod IdFields
 pub mod Payloads
 pub mod Readings

@@ -27,7 +27,8 @@ IsSixteenBytes id = (length id ≡ 16) × ((k : ℕ) → slice_index id k < 256)
 abbrev pub last_expiry : ℕ
 last_expiry = LAST_SECOND
 
--- the payloads that have a spelling
+-- the payloads that have a spelling: a kind from 0 to 5 with exactly its scope's ids, methods from 1 to 15, an expiry up to the year 9999,
+-- audit ids of 16 bytes
 pub record IsInRange (p : Payload) : Type 0 where
   pub kind : p.kind ≤ 5
   pub some_method : 1 ≤ p.methods
@@ -67,9 +68,10 @@ fields p = p.kind ∷ p.methods ∷ (id_field p.user ++ (scope_field p ++ (to_be
 unfoldable pub spelling : Payload → List ℕ
 spelling p = 2 ∷ fields p
 
--- the spelling of version 1, which has the kinds 0 to 3 alone
+-- | the spelling of version 1, which has the kinds 0 to 3 alone
 unfoldable pub old_spelling : Payload → List ℕ
 old_spelling p = 1 ∷ fields p
 
+-- the bytes are one of the two spellings
 abbrev pub IsPayload : List ℕ → Payload → Type 0
 IsPayload bytes p = IsInRange p × ((bytes ≡ spelling p) ⊎ ((p.kind ≤ 3) × (bytes ≡ old_spelling p)))

@@ -107,7 +107,7 @@ abbrev pub if_whole : Payload → List ℕ → Option Payload
 if_whole p [] = Some p
 if_whole p (b ∷ rest) = None
 
--- the payload that these bytes spell
+-- the payload that these bytes spell, computed field by field
 unfoldable pub payload_of : List ℕ → Option Payload
 payload_of bytes = do
   found ← take_payload bytes

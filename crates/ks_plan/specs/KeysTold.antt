@@ -5,6 +5,7 @@ use Rattle.ks_machine.specs.declared.body_out.BodyOut.TheVariants as body
 use Rattle.ks_ring.specs.declared.held_key.HeldKey.{HeldKey}
 use Rattle.ks_ring.specs.Rings.{promoted}
 
+-- | the indices of keys
 abbrev pub indices_of : List HeldKey → List ℕ
 indices_of held = map (λ key. key.index) held
 
@@ -13,7 +14,7 @@ abbrev pub first_index : List ℕ → ℕ
 first_index [] = 0
 first_index (index ∷ indices) = index
 
--- the indices rising, and the one that seals, where they fall
+-- | the indices rising, and the one that seals, where they fall
 abbrev pub keys_told : List ℕ → BodyOut
 keys_told falling = body.Keys (reverse falling) (first_index falling)
 

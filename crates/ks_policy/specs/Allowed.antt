@@ -1,4 +1,5 @@
 -- Whether the rule at a place holds.
+-- Source: oslo.policy.
 use Rattle.std.specs.Prelude.{ℕ, Bool, List}
 use Rattle.ks_rule.specs.declared.credentials.Credentials.{Credentials}
 use Rattle.ks_rule.specs.Kinds.{Fields}

@@ -1,4 +1,5 @@
 -- Which rules reach themselves by the names in their trees.
+-- Source: oslo.policy.
 use Rattle.std.specs.Prelude.{◌≡◌, ◌⊎◌, ℕ, ◌<◌, List, Some, option_map, slice_get}
 use Rattle.ks_rule.specs.Trees.{Tree, always, never, named, role, compare, negated, both, either}
 use Rattle.ks_machine.specs.Openings.{NamedRule}
@@ -15,7 +16,7 @@ Names (negated a) name = Names a name
 Names (both a b) name = Names a name ⊎ Names b name
 Names (either a b) name = Names a name ⊎ Names b name
 
--- a `rule:` in this tree means the rule at this place
+-- a name behind `rule:` in this tree means the rule at this place
 abbrev pub Means : List NamedRule → Tree → ℕ → Type 0
 Means rules tree j = (name : List ℕ) × Names tree name × (place_named rules name ≡ Some j)
 
@@ -23,7 +24,7 @@ Means rules tree j = (name : List ℕ) × Names tree name × (place_named rules 
 abbrev pub Leads : List NamedRule → ℕ → ℕ → Type 0
 Leads rules i j = Means rules (tree_at rules i) j
 
--- a walk of one or more steps
+-- | a walk of one or more names from rule to rule
 pub data Reaches (rules : List NamedRule) : ℕ → ℕ → Type 0 where
   last : {i j : ℕ} → Leads rules i j → Reaches rules i j
   before : {i j k : ℕ} → Leads rules i j → Reaches rules j k → Reaches rules i k

@@ -1,8 +1,10 @@
 -- The rules that a policy has where its text says nothing else, in the order of their names.
+-- Source: Keystone's roles and scopes, narrowed.
 use Rattle.std.specs.Prelude.{List, [], ◌∷◌, codes}
 use Rattle.ks_policy.specs.declared.texts.RuleText.{RuleText}
 use Rattle.ks_policy.specs.declared.defaults.DefaultRule.{DefaultRule}
 
+-- the rules where a policy says nothing else
 abbrev pub defaults : List RuleText
 defaults =
     record { name = codes "admin_or_owner"; text = codes "rule:admin_required or rule:owner" } ∷
@@ -34,5 +36,6 @@ defaults =
     record { name = codes "trust_party"; text = codes "user_id:%(target.trust.trustor_user_id)s or user_id:%(target.trust.trustee_user_id)s" } ∷
     []
 
+-- a rule of the code's table
 abbrev pub text_of : DefaultRule → RuleText
 text_of rule = record { name = rule.name.now; text = rule.text.now }

@@ -1,3 +1,4 @@
+-- The rules of a policy.
 pub mod Allowed
 pub mod Codes
 pub mod Cycles

@@ -1,4 +1,5 @@
 -- What a policy file, an object of rules' names and texts, loads as.
+-- Source: oslo.policy; own limits.
 use Rattle.std.specs.Prelude.{◌≡◌, ℕ, nat_le, if◌then◌else◌, List, [], ◌∷◌, length, Result, Ok, Err, Vec}
 use Rattle.std.specs.Option.{option_map_or}
 use Rattle.std.specs.declared.alloc.Global.{Global}
@@ -29,11 +30,11 @@ abbrev pub within_limit : Result (List RuleText) PolicyFault → Result (List Ru
 within_limit (Ok texts) = if nat_le (length texts) POLICY_RULES then Ok texts else Err TooMany
 within_limit (Err fault) = Err fault
 
--- the texts of the rules, or the first fault
+-- | the texts of the rules, put over the default ones, or the first fault
 unfoldable pub texts_of : Data → Result (List RuleText) PolicyFault
 texts_of file = option_map_or (λ members. within_limit (over defaults members)) (as_object file) (Err NotObject)
 
--- the same names in the same order, with the texts' trees
+-- | the same names in the same order, with the texts' trees
 abbrev pub AreRules : List RuleText → List NamedRule → Type 0
 AreRules [] [] = Unit {0}
 AreRules [] (rule ∷ rules) = ⊥
@@ -49,7 +50,8 @@ Merges expected (Ok texts) = expected ≡ Ok texts.items
 Merges expected (Err Memory) = Unit {0}
 Merges expected (Err fault) = expected ≡ Err fault
 
--- rules with a cycle are not loaded; of want of memory nothing is said
+-- what a policy loads as, or the first cause that refuses it: no object, the first value that is no text, more than 1,024 rules, the first
+-- rule that reaches itself; of want of memory nothing is said
 abbrev pub Loads : Data → Result (List NamedRule) PolicyFault → Type 0
 Loads file (Ok rules) = Reads file rules × HasNoCycle rules
 Loads file (Err (Cycle name)) = (rules : List NamedRule) × Reads file rules × IsFirstCycleNamed rules name

@@ -14,9 +14,11 @@ abbrev pub mark_of : List Bool → Option ℕ → Bool
 mark_of marks None = false
 mark_of marks (Some i) = mark_at marks i
 
+-- a place has a mark
 abbrev pub IsMarked : List Bool → ℕ → Type 0
 IsMarked marks i = mark_at marks i ≡ true
 
+-- how many places have no mark
 abbrev pub unmarked : List Bool → ℕ
 unmarked [] = zero
 unmarked (true ∷ marks) = unmarked marks

@@ -13,12 +13,12 @@ pub record IsOrdered (rules : List NamedRule) (places : List ℕ) : Type 0 where
   pub once : (k : ℕ) → k < length places → IsAmong places k (slice_index places k) → ⊥
   pub behind : (k : ℕ) → k < length places → (j : ℕ) → Leads rules (slice_index places k) j → IsAmong places k j
 
--- all places of rules in order
+-- the rules in an order in which each stands behind those that it names
 pub record IsWholeOrder (rules : List NamedRule) (places : List ℕ) : Type 0 where
   pub ordered : IsOrdered rules places
   pub all : (i : ℕ) → i < length rules → IsAmong places (length places) i
 
--- the places that the rule at this one reaches, in order
+-- the rules that the one at this place reaches, in such an order
 pub record AreNeeds (rules : List NamedRule) (at : ℕ) (places : List ℕ) : Type 0 where
   pub ordered : IsOrdered rules places
   pub all : (j : ℕ) → Leads rules at j → IsAmong places (length places) j

@@ -2,6 +2,7 @@
 use Rattle.ks_machine.specs.Openings.{PlainOpening}
 use Rattle.ks_policy.specs.declared.opening.Opening.{Opening}
 
+-- an opening as the plain data that the machine opens with
 abbrev pub plain : Opening → PlainOpening
 plain opening = record {
   settings = opening.settings;

@@ -1,1 +1,2 @@
+-- The edge to the network.
 pub mod Clock

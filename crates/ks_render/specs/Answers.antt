@@ -1,4 +1,5 @@
 -- The responses of HTTP that tell the machine's replies, and those to bytes that are no request.
+-- Source: Identity API v3; RFC 9110.
 use Rattle.std.specs.Prelude.{ℕ, Bool, true, false, if◌then◌else◌, List, [], ◌∷◌, ◌++◌, codes}
 use Rattle.std.specs.List.{join_by}
 use Rattle.serde_json.specs.Written.{compact_text}
@@ -42,6 +43,7 @@ status_of_granted (body_out.AppCredMade cred roles secret) = 201
 status_of_granted (body_out.AppCreds rows path) = 200
 status_of_granted (body_out.Secrets rows path) = 200
 
+-- the status of a reply
 abbrev pub status_of : Reply → ℕ
 status_of (reply.Ok granted) = status_of_granted granted
 status_of (reply.Refused why) = status_of_cause why
@@ -56,7 +58,7 @@ vary_fields = (codes "Vary", codes "X-Auth-Token") ∷ []
 unfoldable pub body_fields : List Named
 body_fields = (codes "Content-Type", codes "application/json") ∷ (codes "Vary", codes "X-Auth-Token") ∷ []
 
--- the first fields, of which the type is that of a body
+-- | the first fields, of which the type is that of a body
 abbrev pub granted_fields : BodyOut → List Named
 granted_fields body_out.Nothing = vary_fields
 granted_fields body_out.Version = body_fields
@@ -104,6 +106,7 @@ method_list methods = join_by name_of (codes ", ") methods
 unfoldable pub allow_fields : List Method → List Named
 allow_fields methods = (codes "Allow", method_list methods) ∷ []
 
+-- the fields that a refusal has of its own
 abbrev pub cause_fields : Cause → List ℕ → List Named
 cause_fields (cause.Shape fault) url = []
 cause_fields cause.NoToken url = challenge_fields url
@@ -148,6 +151,7 @@ told_fields (body_out.AppCredMade cred roles secret) = []
 told_fields (body_out.AppCreds rows path) = []
 told_fields (body_out.Secrets rows path) = []
 
+-- | the fields that a reply has of its own
 abbrev pub own_fields : Reply → List ℕ → List Named
 own_fields (reply.Ok granted) url = told_fields granted
 own_fields (reply.Refused why) url = cause_fields why url
@@ -158,6 +162,7 @@ close_fields close = if close then (codes "Connection", codes "close") ∷ [] el
 
 -- ---- the response
 
+-- the fields of a response
 abbrev pub fields_of : Reply → List ℕ → Bool → List Named
 fields_of reply url close = first_fields reply ++ (own_fields reply url ++ close_fields close)
 

@@ -1,4 +1,5 @@
 -- The bodies of responses: values of JSON whose members are in the order of their names, of a server at a URL.
+-- Source: Identity API v3.
 use Rattle.std.specs.Prelude.{ℕ, List, [], Option, Some, None, map, codes}
 use Rattle.std.specs.Option.{option_map_or}
 use Rattle.json.specs.Token.{Token}

@@ -1,4 +1,5 @@
 -- What is told of the service catalog (Identity API v3, regions, services and endpoints).
+-- Source: Identity API v3, the service catalog.
 use Rattle.std.specs.Prelude.{ℕ, List, [], ◌∷◌, map, codes}
 use Rattle.serde_json.specs.Data.{Data, boolean, string}
 use Rattle.ks_base.specs.declared.catalog.EndpointRow.{EndpointRow}
@@ -10,6 +11,7 @@ use Rattle.ks_catalog.specs.declared.offers.ServiceOut.{ServiceOut}
 use Rattle.ks_render.specs.Values.{array_of, object_of, or_null}
 use Rattle.ks_render.specs.Named.{self_value}
 
+-- what is told of a region and a service
 unfoldable pub region_value : List ℕ → RegionRow → Data
 region_value url row =
     object_of (
@@ -41,7 +43,7 @@ endpoint_value url row =
     ∷ (codes "service_id", string row.service)
     ∷ (codes "url", string row.url) ∷ [])
 
--- an endpoint and a service in a catalog
+-- | an endpoint and a service in a catalog
 
 unfoldable pub endpoint_told : EndpointOut → Data
 endpoint_told endpoint =

@@ -1,5 +1,5 @@
--- What is told of application credentials and of secrets of one-time codes (Identity API v3, application credentials and
--- credentials).
+-- What is told of application credentials and of secrets of one-time codes.
+-- Source: Identity API v3, application credentials and credentials; RFC 4648, section 6.
 use Rattle.std.specs.Prelude.{ℕ, List, [], ◌∷◌, ◌++◌, Option, Some, codes}
 use Rattle.serde_json.specs.Data.{Data, boolean, null, string}
 use Rattle.ks_base.specs.declared.app_creds.AppCredRow.{AppCredRow}
@@ -9,11 +9,11 @@ use Rattle.ks_machine.specs.declared.body_out.Titled.{Titled}
 use Rattle.ks_render.specs.Values.{entry_of, moment_value, object_of, or_null}
 use Rattle.ks_render.specs.Named.{self_value, titles_value}
 
--- below their user
+-- | where the application credentials of a user stand: below it
 abbrev pub app_creds_place : List ℕ → List ℕ
 app_creds_place user = codes "/v3/users/" ++ (user ++ codes "/application_credentials/")
 
--- nothing of what is kept of the secret; the secret itself is given where it is to be told
+-- what is told of one: nothing of what is kept of its secret; the secret itself is given where it is to be told
 unfoldable pub app_cred_value : List ℕ → AppCredRow → List Titled → Option (List ℕ) → Data
 app_cred_value url cred roles secret =
     object_of (
@@ -32,7 +32,7 @@ app_cred_value url cred roles secret =
 unfoldable pub app_cred_made : List ℕ → AppCredRow → List Titled → List ℕ → Data
 app_cred_made url cred roles secret = object_of ((codes "application_credential", app_cred_value url cred roles (Some secret)) ∷ [])
 
--- a secret is of no project
+-- what is told of a secret of one-time codes, whose text is base32 without padding (RFC 4648, section 6): it is of no project
 unfoldable pub secret_value : List ℕ → SecretRow → Data
 secret_value url row =
     object_of (

@@ -1,4 +1,5 @@
 -- What is told of refusals.
+-- Source: Identity API v3; RFC 9110, section 15; own (messages).
 use Rattle.std.specs.Prelude.{ℕ, List, [], ◌∷◌, ◌++◌, codes}
 use Rattle.serde_json.specs.Data.{Data, number, unsigned, string}
 use Rattle.ks_base.specs.declared.shapes.ShapeFault.{ShapeFault}
@@ -12,7 +13,7 @@ use Rattle.ks_http.specs.declared.cause.HttpCause.TheVariants as bad
 use Rattle.ks_render.specs.Values.{object_of}
 use Rattle.ks_render.specs.Names.{keys_name, tree_name, trust_name}
 
--- {"error": {"code": STATUS, "message": MESSAGE, "title": REASON}}
+-- | {"error": {"code": STATUS, "message": MESSAGE, "title": REASON}}
 unfoldable pub error_body : ℕ → List ℕ → Data
 error_body status message =
     object_of ((
@@ -25,6 +26,7 @@ error_body status message =
 
 -- ---- the machine's refusals
 
+-- the status and the message of a refusal
 abbrev pub status_of_cause : Cause → ℕ
 status_of_cause (cause.Shape fault) = 400
 status_of_cause cause.NoToken = 401

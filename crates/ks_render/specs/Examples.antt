@@ -1,4 +1,5 @@
 -- A token, a catalog and credentials whose bodies are known byte for byte.
+-- Source: own; RFC 4226, appendix D.
 use Rattle.std.specs.Prelude.{ℕ, List, [], ◌∷◌, Some, None, true, false, codes}
 use Rattle.ks_base.specs.declared.app_creds.AppCredRow.{AppCredRow}
 use Rattle.ks_base.specs.declared.catalog.Interface.TheVariants as interface
@@ -14,7 +15,7 @@ titled id name = record { id = id; name = name }
 abbrev pub default_domain : Titled
 default_domain = titled (codes "default") (codes "Default")
 
--- a login with a password on a project, in which the user has one role
+-- a login with a password on a project, in which the user has one role, whose body is known byte for byte, as of all these
 abbrev pub plain_login : TokenOut
 plain_login = record {
   text = [];
@@ -41,11 +42,11 @@ plain_endpoint = record {
   url = codes "http://c:8774/a0000000000000000000000000000001";
 }
 
--- a service with one endpoint, without a region
+-- | a service with one endpoint, without a region
 abbrev pub plain_catalog : List ServiceOut
 plain_catalog = record { id = codes "50000000000000000000000000000001"; kind = codes "compute"; name = codes "nova"; endpoints = plain_endpoint ∷ [] } ∷ []
 
--- an application credential with one role
+-- | an application credential with one role
 abbrev pub plain_cred : AppCredRow
 plain_cred = record {
   id = codes "c0000000000000000000000000000001";
@@ -62,7 +63,7 @@ plain_cred = record {
 abbrev pub plain_roles : List Titled
 plain_roles = titled (codes "b0000000000000000000000000000001") (codes "member") ∷ []
 
--- the secret of RFC 4226, appendix D
+-- | the secret of RFC 4226, appendix D
 abbrev pub plain_secret : SecretRow
 plain_secret = record {
   id = codes "d0000000000000000000000000000001";

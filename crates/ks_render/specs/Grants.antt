@@ -1,4 +1,5 @@
 -- What is told of the roles that are granted.
+-- Source: Identity API v3, OS-INHERIT.
 use Rattle.std.specs.Prelude.{Bool, true, false, List, [], ◌∷◌, ◌++◌, codes}
 use Rattle.serde_json.specs.Data.{Data, string}
 use Rattle.ks_base.specs.declared.grants.Actor.{Actor}
@@ -20,11 +21,11 @@ target_entries (target.Project id) = (codes "project", id_value id) ∷ []
 target_entries (target.Domain id) = (codes "domain", id_value id) ∷ []
 target_entries target.System = (codes "system", system_value) ∷ []
 
--- where a role is granted
+-- | where a role is granted
 unfoldable pub scope_value : Bool → Target → Data
 scope_value inherited at = object_of (inherited_entries inherited ++ target_entries at)
 
--- who has the role stands before or behind the role and its scope
+-- | who has the role stands before or behind the role and its scope
 abbrev pub assignment_entries : Actor → Entry → Entry → List Entry
 assignment_entries (actor.Group id) role scope = (codes "group", id_value id) ∷ role ∷ scope ∷ []
 assignment_entries (actor.User id) role scope = role ∷ scope ∷ (codes "user", id_value id) ∷ []

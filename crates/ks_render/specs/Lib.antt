@@ -1,3 +1,5 @@
+-- From a reply to its response.
+
 -- What the public contracts mean, in the order in which it is read: values of JSON, what is told of each thing,
 -- the bodies of responses, and the responses that tell replies. Of `steps` only private clauses speak.
 pub mod Values

@@ -1,4 +1,5 @@
 -- The bodies that list rows.
+-- Source: Identity API v3; own (keys).
 use Rattle.std.specs.Prelude.{ℕ, List, [], ◌∷◌, ◌++◌, map, codes}
 use Rattle.serde_json.specs.Data.{Data, null, string}
 use Rattle.ks_machine.specs.declared.body_out.Titled.{Titled}
@@ -9,7 +10,7 @@ use Rattle.ks_render.specs.Values.{array_of, object_of}
 use Rattle.ks_render.specs.Named.{titled_value}
 use Rattle.ks_render.specs.Rows.{count_value}
 
--- the listing is whole; PATH is the path of its request
+-- | the listing is whole; PATH is the path of its request
 unfoldable pub links_value : List ℕ → List ℕ → Data
 links_value url path =
     object_of (

@@ -1,4 +1,5 @@
 -- Objects that are told by their ids and names.
+-- Source: Identity API v3.
 use Rattle.std.specs.Prelude.{ℕ, List, [], ◌∷◌, ◌++◌, map, codes}
 use Rattle.serde_json.specs.Data.{Data, string}
 use Rattle.ks_machine.specs.declared.body_out.Titled.{Titled}

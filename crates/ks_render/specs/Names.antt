@@ -7,6 +7,7 @@ use Rattle.ks_base.specs.declared.faults.TreeFault.TheVariants as tree
 use Rattle.ks_base.specs.declared.faults.TrustFault.{TrustFault}
 use Rattle.ks_base.specs.declared.faults.TrustFault.TheVariants as trust
 
+-- the names by which errors tell faults
 unfoldable pub tree_name : TreeFault → List ℕ
 tree_name (tree.Absent table id) = codes "Absent"
 tree_name (tree.NoParent id) = codes "NoParent"

@@ -1,4 +1,5 @@
 -- What is told of rows.
+-- Source: Identity API v3.
 use Rattle.std.specs.Prelude.{ℕ, false, List, [], ◌∷◌, None, codes}
 use Rattle.serde_json.specs.Data.{Data, null, boolean, number, unsigned, string}
 use Rattle.ks_base.specs.declared.rows.DomainRow.{DomainRow}
@@ -15,6 +16,7 @@ use Rattle.ks_render.specs.Credentials.{app_cred_value, secret_value}
 use Rattle.ks_render.specs.Values.{moment_value, object_of, or_null}
 use Rattle.ks_render.specs.Named.{self_value, titles_value}
 
+-- | what is told of a row of each kind
 unfoldable pub domain_value : List ℕ → DomainRow → Data
 domain_value url row =
     object_of (
@@ -67,10 +69,11 @@ role_value url row =
     ∷ (codes "links", self_value url (codes "/v3/roles/") row.id)
     ∷ (codes "name", string row.name) ∷ [])
 
+-- a count
 abbrev pub count_value : ℕ → Data
 count_value count = number (unsigned count)
 
--- a trust that stands is not deleted
+-- | a trust that stands is not deleted
 unfoldable pub trust_value : List ℕ → TrustRow → List Titled → Data
 trust_value url trust roles =
     object_of (
@@ -101,7 +104,7 @@ row_value url (rows.Endpoint endpoint) = endpoint_value url endpoint
 row_value url (rows.AppCred cred roles) = app_cred_value url cred roles None
 row_value url (rows.Secret secret) = secret_value url secret
 
--- the name of a row that is told alone
+-- | the name of a row that is told alone
 unfoldable pub row_name : Row → List ℕ
 row_name (rows.Domain domain) = codes "domain"
 row_name (rows.Project project) = codes "project"

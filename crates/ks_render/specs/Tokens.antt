@@ -1,4 +1,5 @@
 -- What is told of a token.
+-- Source: Identity API v3; RFC 4648, section 5.
 use Rattle.std.specs.Prelude.{ℕ, ◌==◌, if◌then◌else◌, Bool, true, false, List, [], ◌∷◌, ◌++◌, Option, Some, None, bit_and, codes}
 use Rattle.base64.specs.Engines.{url_safe_no_pad}
 use Rattle.base64.specs.GeneralPurpose.{encode_of}
@@ -63,7 +64,7 @@ abbrev pub system_entries : Bool → List Entry
 system_entries false = []
 system_entries true = (codes "system", system_value) ∷ []
 
--- a token with a scope has its catalog and its roles, and one of a project tells that the project is no domain
+-- | a token with a scope has its catalog and its roles, and one of a project tells that the project is no domain
 unfoldable pub token_value : TokenOut → Data
 token_value told =
     object_of (

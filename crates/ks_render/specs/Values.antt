@@ -1,9 +1,10 @@
 -- Values of JSON made of their parts.
+-- Source: RFC 8259; RFC 3339.
 use Rattle.std.specs.Prelude.{ℕ, List, [], ◌∷◌, Option, Some, None}
 use Rattle.serde_json.specs.Data.{Data, null, array, object, string, Items, no_items, item, Members, no_members, member}
 use Rattle.ks_time.specs.TimeTexts.{time_text}
 
--- a value under its name in an object
+-- | a value under its name in an object
 abbrev pub Entry : Type 0
 Entry = List ℕ × Data
 
@@ -11,7 +12,7 @@ abbrev pub members_of : List Entry → Members
 members_of [] = no_members
 members_of (entry ∷ entries) = member entry.0 entry.1 (members_of entries)
 
--- the object with these entries, in this order
+-- | the object with these entries, in this order
 abbrev pub object_of : List Entry → Data
 object_of entries = object (members_of entries)
 

@@ -1,4 +1,5 @@
 -- The version document.
+-- Source: Identity API v3.
 use Rattle.std.specs.Prelude.{ℕ, List, [], ◌∷◌, ◌++◌, codes}
 use Rattle.serde_json.specs.Data.{Data, string}
 use Rattle.ks_render.specs.Values.{array_of, object_of}

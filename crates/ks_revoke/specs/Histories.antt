@@ -6,7 +6,7 @@ use Rattle.ks_base.specs.Tables.{IsAscending}
 use Rattle.ks_revoke.specs.Marks.{AreMarks}
 use Rattle.ks_revoke.specs.Things.{thing_cmp, thing_of}
 
--- what contracts see of a `Revoked`
+-- what contracts see of a `Revoked`: what is kept, with its room
 pub record Kept : Type 0 where
   -- how long a token lives, in seconds
   pub life : ℕ
@@ -26,7 +26,7 @@ pub record AreFew (kept : Kept) : Type 0 where
   pub marks_are : AreMarks kept.events (live kept.life kept.high kept.marks)
   pub few : length kept.marks ≤ length kept.events + length kept.events
 
--- all that was told
+-- all that was told: the life of tokens, the greatest moment and each event ever added
 pub record History : Type 0 where
   -- how long a token lives, in seconds
   pub life : ℕ
@@ -42,7 +42,7 @@ added row history = record history { events = history.events ++ row ∷ [] }
 abbrev pub advanced : ℕ → History → History
 advanced moment history = record history { high = max history.high moment }
 
--- what is kept stands for a whole history
+-- what is kept stands for a whole history, whose live events it has
 pub record Stands (kept : Kept) (history : History) : Type 0 where
   -- its life is the history's
   pub life_is : kept.life ≡ history.life

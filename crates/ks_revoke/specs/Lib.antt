@@ -1,3 +1,4 @@
+-- Revocations.
 pub mod Things
 pub mod Marks
 pub mod Histories

@@ -1,4 +1,5 @@
 -- The greatest moments of events.
+-- Source: OS-REVOKE.
 use Rattle.std.specs.Prelude.{◌≡◌, ℕ, ◌≤◌, ◌↔◌, nat_le, Bool, false, List, Option, Some, None}
 use Rattle.std.specs.List.{AllByRecursion}
 use Rattle.ks_base.specs.declared.events.EventRow.{EventRow}
@@ -7,7 +8,7 @@ use Rattle.ks_base.specs.Revocation.{live}
 use Rattle.ks_base.specs.Tables.{Among, IsAscending, find_row}
 use Rattle.ks_revoke.specs.Things.{thing_cmp, thing_of}
 
--- one of the events, where no event of its thing has a greater moment
+-- | one of the events, where no event of its thing has a greater moment
 abbrev pub IsGreatest : List EventRow → EventRow → Type 0
 IsGreatest events row = Among events row × AllByRecursion (λ event. event.what ≡ row.what → event.moment ≤ row.moment) events
 
@@ -32,7 +33,7 @@ abbrev pub ends_then : ℕ → Option EventRow → Bool
 ends_then issued None = false
 ends_then issued (Some row) = nat_le issued row.moment
 
--- the row of this thing, if there is one, ends them
+-- the mark of a thing, if there is one, ends what was issued then
 abbrev pub ends_if : ℕ → List EventRow → Option Revoke → Bool
 ends_if issued marks None = false
 ends_if issued marks (Some thing) = ends_then issued (find_row thing_cmp thing_of thing marks)

@@ -1,4 +1,5 @@
 -- What revocations name, in its order.
+-- Source: OS-REVOKE.
 use Rattle.std.specs.Prelude.{ℕ, List, [], ◌∷◌, Option, Some}
 use Rattle.std.specs.Option.{option_map}
 use Rattle.std.specs.declared.cmp.Ordering.{Ordering}

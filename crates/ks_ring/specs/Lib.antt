@@ -1,3 +1,4 @@
+-- The keys that are held.
 pub mod Laws
 pub mod Rings
 pub mod Sorting

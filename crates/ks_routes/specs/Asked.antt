@@ -1,4 +1,5 @@
 -- The command that a request makes of what its route asks for.
+-- Source: Identity API v3; OS-INHERIT.
 use Rattle.std.specs.Prelude.{ℕ, ◌+◌, true, false, if◌then◌else◌, List, [], ◌∷◌, Option, Some, None, Result, Ok, Err, codes, option_map, slice_get}
 use Rattle.ks_base.specs.declared.catalog.CatalogIn.{CatalogIn}
 use Rattle.ks_base.specs.declared.grants.Actor.{Actor}
@@ -65,6 +66,7 @@ both None b = None
 abbrev pub pair_in : List Id → Option (Id × Id)
 pair_in ids = both (id_at ids 0) (id_at ids 1)
 
+-- | the rows that the ids of a path name
 abbrev pub member_in : List Id → Option MemberRow
 member_in ids = option_map (λ pair. record { group = pair.0; user = pair.1 }) (pair_in ids)
 
@@ -87,7 +89,7 @@ target_ids target_kind.System = 0
 target_ids target_kind.Project = 1
 target_ids target_kind.Domain = 1
 
--- whose grants, and where
+-- | whose grants, and where
 abbrev pub grants_in : Place → List Id → Option (Actor × Target)
 grants_in place ids = both (option_map (actor_of place.actor) (id_at ids (target_ids place.target))) (target_of place.target ids)
 
@@ -126,7 +128,7 @@ about_token request asks = unless_lacking (token_lacking request.subject) asks
 abbrev pub assignments_by : Filter → Routed
 assignments_by filter = unless_lacking (user_lacking filter.fields) (command.Assignments filter)
 
--- bodies: what is read, or the first fault
+-- | bodies: what is read, or the first fault
 
 abbrev pub read_by : {A : Type 0} → (A → Routed) → Result A ShapeFault → Routed
 read_by asks (Ok read) = asks read
@@ -180,7 +182,7 @@ secret_by (body.Password original password) = routed.NoRoute
 secret_by (body.Trust trust) = routed.NoRoute
 secret_by (body.AppCred cred) = routed.NoRoute
 
--- a command over a row of the catalog
+-- | a command over a row of the catalog
 abbrev pub catalog_by : (CatalogIn → Command) → CatalogIn → Routed
 catalog_by asks row = routed.Command (asks row)
 

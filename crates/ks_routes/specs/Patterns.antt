@@ -1,4 +1,5 @@
 -- The patterns of paths.
+-- Source: Identity API v3.
 use Rattle.std.specs.Prelude.{ℕ, Bool, true, false, not, ◌&&◌, ◌||◌, ◌==◌, if◌then◌else◌, List, [], ◌∷◌, map}
 use Rattle.std.specs.List.{slice_split}
 use Rattle.std.specs.Str.{bytes_eq}
@@ -39,7 +40,7 @@ differ (literal text) part = not (takes part text)
 differ id (literal text) = not (is_id text)
 differ id id = false
 
--- nothing fits both patterns: one has more parts, or at some place the parts differ
+-- | nothing fits both patterns: one has more parts, or at some place the parts differ
 unfoldable pub apart : List Part → List Part → Bool
 apart [] [] = false
 apart [] (q ∷ qs) = true

@@ -1,4 +1,5 @@
 -- Queries of requests, as web forms (URL Standard, section 5).
+-- Source: URL Standard, 5; Identity API v3.
 use Rattle.std.specs.Prelude.{ℕ, Bool, false, not, ◌||◌, List, [], ◌∷◌, ◌++◌, map, Option, Some, None, codes}
 use Rattle.std.specs.Option.{option_map_or}
 use Rattle.std.specs.Str.{bytes_eq}
@@ -15,7 +16,7 @@ text_in part = utf8_lossy (decode part)
 abbrev pub fields_of : List (List ℕ × List ℕ) → Fields
 fields_of pairs = map (λ pair. (text_in pair.0, text_in pair.1)) pairs
 
--- the names of a query with their values, in their order
+-- | the names of a query with their values, in their order
 unfoldable pub fields_in : List ℕ → Fields
 fields_in query = fields_of (raw_pairs query)
 
@@ -29,7 +30,7 @@ unfoldable pub known_fields : List Text → Fields → Fields
 known_fields [] fields = []
 known_fields (name ∷ names) fields = field_of name (value_in fields name) ++ known_fields names fields
 
--- the filter that a query gives of these names
+-- the filter that a query gives of the names that a listing knows, each with its first value
 abbrev pub filter_in : List Text → List ℕ → Filter
 filter_in names query = record { fields = known_fields names (fields_in query) }
 

@@ -8,11 +8,11 @@ use Rattle.ks_machine.specs.Steps.{lacking_of}
 use Rattle.ks_routes.specs.declared.routed.Routed.TheVariants as routed
 use Rattle.ks_routes.specs.Routes.{command_of}
 
--- the fields of each command that a request makes are in range
+-- law: the fields of each command that a request makes are in range
 abbrev pub CommandsAreInRange : Type 0
 CommandsAreInRange = (request : Request) (what : Command) → command_of request ≡ routed.Command what → AreFields what
 
--- the machine finds no lack in a command that a request makes: its token and the user that it names are there
+-- law: the machine finds no lack in a command that a request makes: its token and the user that it names are there
 abbrev pub CommandsAreWhole : Type 0
 CommandsAreWhole =
     (request : Request) (what : Command) → command_of request ≡ routed.Command what → lacking_of (requirements what) request.subject ≡ None

@@ -70,6 +70,7 @@ abbrev pub grant_at : Place → Methods Action
 grant_at place =
     record none { head = Some (action.IsGranted place); put = Some (action.Grant place); delete = Some (action.Ungrant place) }
 
+-- the table of routes
 abbrev pub table : List (Row Action)
 table =
     row (codes "/v3") (record none { get = Some action.Version }) ∷
@@ -121,11 +122,12 @@ table =
     row (codes "/v3/OS-KS-KEYS/load") (record none { post = Some action.LoadKeys }) ∷
     []
 
--- what a route makes of a request whose method asks for this there
+-- | what a route makes of a request whose method asks for this there
 abbrev pub answered : List Part → Methods Action → Option Action → Request → Routed
 answered pattern methods (Some action) request = asked action (ids_in pattern (segments request.path)) request
 answered pattern methods None request = routed.NoMethod (allowed methods)
 
+-- what the table makes of a request: its command, a fault of its body, no route, or no such method
 abbrev pub routed_by : Option (Row Action) → Request → Routed
 routed_by (Some row) request = answered row.pattern row.methods (action_of request.method row.methods) request
 routed_by None request = routed.NoRoute

@@ -1,4 +1,5 @@
 -- Tables of routes.
+-- Source: Identity API v3; RFC 9110, 10.2.1.
 use Rattle.std.specs.Prelude.{ℕ, Bool, true, ◌&&◌, List, [], ◌∷◌, filter, Option, Some, None, is_some, if◌then◌else◌}
 use Rattle.std.specs.List.{list_all}
 use Rattle.ks_base.specs.declared.method.Method.{Method}

@@ -1,4 +1,5 @@
 -- The trees of checks.
+-- Source: oslo.policy, narrowed.
 use Rattle.std.specs.Prelude.{ℕ, Bool, ◌==◌, is_some, if◌then◌else◌, List, [], ◌∷◌, Option, Some, None, codes}
 use Rattle.std.specs.List.{list_any, before_first, after_first}
 use Rattle.std.specs.Str.{bytes_eq}

@@ -1,4 +1,5 @@
 -- Texts that are filled from a target.
+-- Source: oslo.policy.
 use Rattle.std.specs.Prelude.{◌≡◌, ◌≢◌, ℕ, Bool, false, ◌==◌, if◌then◌else◌, List, [], ◌∷◌, ◌++◌, flat_map, Option, Some, None, is_some, option_map, option_and_then, codes}
 use Rattle.std.specs.List.{list_any, AllByRecursion}
 use Rattle.ks_rule.specs.Tokens.{is_closing}
@@ -9,6 +10,7 @@ pub data Piece : Type 0 where
   plain : (b : ℕ) → Piece
   key : (name : List ℕ) → Piece
 
+-- %
 abbrev pub is_percent : ℕ → Bool
 is_percent b = b == 37
 
@@ -47,6 +49,7 @@ fill target [] = Some []
 fill target (plain b ∷ more) = option_map (λ text. b ∷ text) (fill target more)
 fill target (key name ∷ more) = option_and_then (λ value. option_map (λ text. value ++ text) (fill target more)) (value_in target name)
 
+-- the text filled from the target, where this has each key
 unfoldable pub filled : Fields → List ℕ → Option (List ℕ)
 filled target text = option_and_then (fill target) (pieces text)
 

@@ -11,6 +11,7 @@ use Rattle.ks_rule.specs.declared.filling.Case.TheVariants.{Exact, Ignored}
 use Rattle.ks_rule.specs.Kinds.{Fields}
 use Rattle.ks_rule.specs.Filling.{is_percent, key, spelling, pieces, filled, IsKey}
 
+-- what the next piece of a text takes from its front
 abbrev pub Begins : Front → List ℕ → List ℕ → Type 0
 Begins front.End before after = before ≡ []
 Begins (front.Plain text) before after =
@@ -24,6 +25,7 @@ Fills target (part.Text text) before after =
     (length after < length before) × (filled target before ≡ option_map (λ more. text.now ++ more) (filled target after))
 Fills target part.Missing before after = filled target before ≡ None
 
+-- texts compared exactly or without regard to case
 abbrev pub same_by : Case → List ℕ → List ℕ → Bool
 same_by Exact = bytes_eq
 same_by Ignored = str_eq_ignore_ascii_case

@@ -1,4 +1,5 @@
 -- Which tree a text has.
+-- Source: oslo.policy; own limits.
 use Rattle.std.specs.Prelude.{◌≡◌, ◌⊎◌, ℕ, zero, suc, ◌≤◌, List, [], ◌∷◌, ◌++◌, length, fold, flat_map, Some, IsUtf8}
 use Rattle.std.specs.List.{AllByRecursion}
 use Rattle.ks_base.specs.declared.limits.TheConstants.{RULE_BYTES, RULE_DEPTH}
@@ -50,13 +51,15 @@ IsNotRule (suc depth) spelled tree =
 abbrev pub IsAndRule : ℕ → Form
 IsAndRule depth = AndOf (IsNotRule depth)
 
+-- which tokens spell which trees
 abbrev pub IsOrRule : ℕ → Form
 IsOrRule depth = OrOf (IsNotRule depth)
 
+-- a text of at most 4,096 bytes
 abbrev pub IsWithinLimits : List ℕ → Type 0
 IsWithinLimits text = length text ≤ RULE_BYTES
 
--- the text in UTF-8 parses as this tree
+-- | the text in UTF-8 parses as this tree
 abbrev pub Parses : List ℕ → Tree → Type 0
 Parses text tree =
     IsUtf8 text × IsWithinLimits text × (((text ≡ []) × (tree ≡ always)) ⊎ IsOrRule RULE_DEPTH (tokens text) tree)

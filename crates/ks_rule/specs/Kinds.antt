@@ -1,4 +1,5 @@
 -- What the kind of a comparison stands for.
+-- Source: oslo.policy; own literals.
 use Rattle.std.specs.Prelude.{ℕ, ◌-◌, Bool, ◌&&◌, ◌||◌, ◌==◌, not, if◌then◌else◌, nat_le, List, length, slice_index, slice_range, find, Option, Some, None, option_map, codes}
 use Rattle.std.specs.Char.{is_ascii_digit}
 use Rattle.std.specs.List.{list_all}
@@ -22,6 +23,7 @@ is_decimal text = not (length text == 0) && list_all is_ascii_digit text
 abbrev pub is_word : List ℕ → Bool
 is_word kind = bytes_eq kind (codes "True") || (bytes_eq kind (codes "False") || (bytes_eq kind (codes "None") || is_decimal kind))
 
+-- | names with their values
 abbrev pub Fields : Type 0
 Fields = List (List ℕ × List ℕ)
 
@@ -34,5 +36,6 @@ abbrev pub value_or : Option (List ℕ) → List ℕ → Fields → Option (List
 value_or (Some inside) kind named = Some inside
 value_or None kind named = if is_word kind then Some kind else value_in named kind
 
+-- what the kind of a comparison stands for: a quoted text, a literal, or a credential
 unfoldable pub value_of : List ℕ → Fields → Option (List ℕ)
 value_of kind named = value_or (quoted kind) kind named

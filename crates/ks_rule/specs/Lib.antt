@@ -1,3 +1,4 @@
+-- The rule language.
 pub mod Checks
 pub mod Filling
 pub mod Fronts

@@ -38,7 +38,7 @@ Reads form follow before (Ok rule) after = Takes form follow before (tree_of rul
 Reads form follow before (Err Unreadable) after = Lacks form follow before
 Reads form follow before (Err OutOfMemory) after = Unit {0}
 
--- the form is all there is
+-- all tokens are read as one tree, or they spell none
 abbrev pub ReadsWhole : Form → List Token → Result Rule Stop → Type 0
 ReadsWhole form whole (Ok rule) = form whole (tree_of rule)
 ReadsWhole form whole (Err Unreadable) = (tree : Tree) → form whole tree → ⊥

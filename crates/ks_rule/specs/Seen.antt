@@ -11,13 +11,14 @@ seen_end end.Close = closing
 seen_end end.And = and_word
 seen_end end.Or = or_word
 
+-- a token as a contract sees it
 abbrev pub seen : Told → Token
 seen told.Open = opening
 seen told.Not = not_word
 seen (told.Check text) = check text.now
 seen (told.End ends) = seen_end ends
 
--- a check is in UTF-8
+-- the text of a check is in UTF-8
 abbrev pub IsText : Told → Type 0
 IsText told.Open = Unit {0}
 IsText told.Not = Unit {0}

@@ -1,8 +1,10 @@
 -- How the text of a rule is cut into tokens.
+-- Source: oslo.policy, narrowed.
 use Rattle.std.specs.Prelude.{ℕ, ◌-◌, Bool, ◌||◌, ◌==◌, if◌then◌else◌, List, [], ◌∷◌, ◌++◌, length, take, replicate, flat_map, codes}
 use Rattle.std.specs.List.{slice_split, suffix_len}
 use Rattle.std.specs.Str.{str_eq_ignore_ascii_case}
 
+-- a token: a parenthesis, an operator, or else a check
 pub data Token : Type 0 where
   opening : Token
   closing : Token
@@ -49,6 +51,6 @@ abbrev pub word_tokens : List ℕ → List Token
 word_tokens [] = []
 word_tokens (b ∷ word) = if is_opening b then opening ∷ word_tokens word else closed_tokens (b ∷ word)
 
--- the tokens of the words between the white space of a text
+-- the tokens of a text: the words between its white space, of which leading and trailing parentheses are tokens of their own
 unfoldable pub tokens : List ℕ → List Token
 tokens text = flat_map word_tokens (slice_split is_space text)

@@ -1,8 +1,10 @@
 -- The tree of a rule, which knows nothing of where its parts lie in memory.
+-- Source: oslo.policy.
 use Rattle.std.specs.Prelude.{ℕ, List}
 use Rattle.ks_rule.specs.declared.rule.Rule.{Rule}
 use Rattle.ks_rule.specs.declared.rule.Rule.TheVariants.{Always, Never, Named, Role, Compare, Not', And', Or'}
 
+-- the tree of a rule
 pub data Tree : Type 0 where
   always : Tree
   never : Tree
@@ -13,6 +15,7 @@ pub data Tree : Type 0 where
   both : Tree → Tree → Tree
   either : Tree → Tree → Tree
 
+-- that of a rule in memory
 abbrev pub tree_of : Rule → Tree
 tree_of Always = always
 tree_of Never = never

@@ -3,6 +3,7 @@
 -- What a `named` leaf says comes from outside. A policy of n rules, none of which reaches itself through its
 -- names, gives it by n rounds: in none no rule holds, and in one more round the rule of a name holds where
 -- `truth` of its tree holds, with the round before for the names in it.
+-- Source: oslo.policy.
 use Rattle.std.specs.Prelude.{ℕ, Bool, true, false, not, ◌&&◌, ◌||◌, List, Option, Some, None}
 use Rattle.std.specs.List.{list_any}
 use Rattle.std.specs.Str.{bytes_eq, str_eq_ignore_ascii_case}

@@ -28,6 +28,6 @@ written at (negated a) = codes "not " ++ written level.Not a
 written at (both a b) = grouped (groups_and at) (written level.And a ++ (codes " and " ++ written level.Not b))
 written at (either a b) = grouped (groups_or at) (written level.Or a ++ (codes " or " ++ written level.And b))
 
--- the text of a tree
+-- the text that is written for a tree, with parentheses where it needs them
 abbrev pub text_of : Tree → List ℕ
 text_of tree = written level.Or tree

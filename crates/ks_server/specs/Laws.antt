@@ -12,11 +12,11 @@ use Rattle.ks_server.specs.Work.{PassMoves}
 use Rattle.ks_server.specs.Workers.{Place, ServesAll, all_exchanges}
 use Rattle.ks_turn.specs.Passes.{Passed}
 
--- what a pass did is in order: from what it had seen to what it has seen
+-- law: what a pass did is in order: from what it had seen to what it has seen
 abbrev pub MovesInOrder : Type 0
 MovesInOrder = (old new : Passed) (xs : List Exchange) → PassMoves old new xs → InOrder old.seen new.seen xs
 
--- where the receipt of an exchange stands in the journal
+-- | where the receipt of an exchange stands in the journal
 pub record IsPlaced (seen journal : Front) (x : Exchange) : Type 0 where
   -- the front that it cuts off goes on from what was seen, with all that is kept, and the journal from it
   pub after_seen : seen ⊑ cut journal x.receipt.changes x.receipt.moment
@@ -27,21 +27,23 @@ pub record IsPlaced (seen journal : Front) (x : Exchange) : Type 0 where
   pub high : x.receipt.moment ≤ journal.high
   pub next : (entry : Entry) → slice_get journal.changes x.receipt.changes ≡ Some entry → x.receipt.moment ≤ entry.moment
 
+-- law: each receipt stands in the journal behind all that was seen before, and no later than the highest moment and than the change with
+-- its number
 abbrev pub ReceiptsArePlaced : Type 0
 ReceiptsArePlaced =
     (seen journal : Front) (xs : List Exchange) → InOrder seen journal xs → seen ⊑ journal → IsSound seen → AllByRecursion (λ x. IsPlaced seen journal x) xs
 
--- what is in order stays so as the journal goes on
+-- law: what is in order stays so as the journal goes on
 abbrev pub OrderStays : Type 0
 OrderStays = (seen f g : Front) (xs : List Exchange) → InOrder seen f xs → f ⊑ g → InOrder seen g xs
 
--- how a session ended reads the same off each later journal
+-- law: how a session ended reads the same off each later journal
 abbrev pub SessionsStay : Type 0 → Type 0
 SessionsStay F =
     (seen f g : Front) (xs : List Exchange) → InOrder seen f xs → f ⊑ g → (input before : List ℕ) (left written : Option (List ℕ)) (why : Closed F)
     → EndsSession f input before left written xs why → EndsSession g input before left written xs why
 
--- each exchange of workers stands so in the journal that the pass has seen at the end, and no command that was decided was read later
+-- law: each exchange of workers stands so in the journal that the pass has seen at the end, and no command that was decided was read later
 -- than its highest moment
 abbrev pub WorkersArePlaced : Type 0 → Type 0 → Type 0
 WorkersArePlaced F Link =

@@ -1,4 +1,5 @@
--- The session of a connection: the responses to its requests, and how it ends (RFC 9112).
+-- The session of a connection: the responses to its requests, and how it ends.
+-- Source: RFC 9112, section 9; own.
 use Rattle.std.specs.Prelude.{◌≡◌, ℕ, ◌+◌, ◌<◌, ◌≤◌, ◌==◌, Bool, true, false, ◌||◌, List, [], ◌∷◌, ◌++◌, length, Option, Some}
 use Rattle.std.specs.List.{AllByRecursion}
 use Rattle.ks_base.specs.declared.limits.TheConstants.{CONNECTION_REQUESTS}
@@ -17,6 +18,7 @@ use Rattle.ks_server.specs.declared.closed.Closed.{Closed}
 use Rattle.ks_server.specs.declared.closed.Closed.TheVariants as closed
 use Rattle.ks_server.specs.Exchanges.{Asked, calls, refused, Exchange, front_after, reply_to, requests_of}
 
+-- the method is HEAD
 abbrev pub is_head : Method → Bool
 is_head method.Get = false
 is_head method.Head = true
@@ -30,7 +32,7 @@ is_head method.Other = false
 abbrev pub ends_with : ℕ → Request → Bool
 ends_with count request = request.close || (count + 1 == CONNECTION_REQUESTS)
 
--- the response in the exchange behind `count` others
+-- | the response in the exchange behind `count` others
 abbrev pub response : Front → ℕ → Exchange → List ℕ
 response journal count x = wire (reply_to journal x) journal.opening.settings.url (is_head x.request.method) (ends_with count x.request)
 
@@ -38,23 +40,23 @@ unfoldable pub responses : Front → ℕ → List Exchange → List ℕ
 responses journal count [] = []
 responses journal count (x ∷ xs) = response journal count x ++ responses journal (count + 1) xs
 
--- what follows the responses
+-- | what follows the responses
 abbrev pub last_word : Close → List ℕ
 last_word asked = []
 last_word last = []
 last_word ended = []
 last_word (bad why) = wire_bad why
 
--- the responses of a connection in their order, and what follows them
+-- | the responses of a connection in their order, and what follows them
 abbrev pub session : Front → List Exchange → Close → List ℕ
 session journal xs close = responses journal 0 xs ++ last_word close
 
--- after a call, all changes of this front are among so many that are kept where a stop cannot undo them
+-- | after a call, all changes of this front are among so many that are kept where a stop cannot undo them
 abbrev pub AreKept : ℕ → Asked → Front → Type 0
 AreKept kept (calls call) front = length front.changes ≤ kept
 AreKept kept (refused why) front = Unit {0}
 
--- what may be told to the client: there was memory for it, and each change that it can show is kept
+-- | what may be told to the client: there was memory for it, and each change that it can show is kept
 pub record IsTold (journal : Front) (x : Exchange) : Type 0 where
   pub decided : x.receipt.memory ≡ false
   pub kept : AreKept journal.kept x.asked (front_after journal x)
@@ -62,7 +64,7 @@ pub record IsTold (journal : Front) (x : Exchange) : Type 0 where
 abbrev pub AreTold : Front → List Exchange → Type 0
 AreTold journal xs = AllByRecursion (λ x. IsTold journal x) xs
 
--- the whole session was written behind what was there before; where no request ended it, the input has ended
+-- | the whole session was written behind what was there before; where no request ended it, the input has ended
 pub record WroteAll (journal : Front) (input before : List ℕ) (left written : Option (List ℕ)) (xs : List Exchange) (close : Close) : Type 0 where
   pub are : Requests 0 input (requests_of xs) close
   pub told : AreTold journal xs
@@ -73,7 +75,7 @@ pub record WroteAll (journal : Front) (input before : List ℕ) (left written : 
   pub followed : AreFollowed input (requests_of xs) behind
   pub needed : ReadsWhile IsUnfinished behind left
 
--- the link rests between two requests: those that were read, one at least, have their responses, and no byte more was read
+-- | the link rests between two requests: those that were read, one at least, have their responses, and no byte more was read
 pub record Rested (journal : Front) (input before : List ℕ) (left written : Option (List ℕ)) (xs : List Exchange) : Type 0 where
   pub read : List ℕ
   pub rest : List ℕ
@@ -84,7 +86,7 @@ pub record Rested (journal : Front) (input before : List ℕ) (left written : Op
   pub told : AreTold journal xs
   pub written_is : written ≡ Some (before ++ responses journal 0 xs)
 
--- the input could not be read further: the responses to the requests that were read whole were written
+-- | the input could not be read further: the responses to the requests that were read whole were written
 pub record ReadShort (journal : Front) (input before : List ℕ) (left written : Option (List ℕ)) (xs : List Exchange) : Type 0 where
   pub read : List ℕ
   pub rest : List ℕ
@@ -96,20 +98,20 @@ pub record ReadShort (journal : Front) (input before : List ℕ) (left written :
   pub told : AreTold journal xs
   pub written_is : written ≡ Some (before ++ responses journal 0 xs)
 
--- one exchange at most, for the first request of the bytes
+-- | one exchange at most, for the first request of the bytes
 abbrev pub IsNextOf : List ℕ → List Exchange → Type 0
 IsNextOf bytes [] = Unit {0}
 IsNextOf bytes (x ∷ []) = (rest : List ℕ) × IsFirst bytes x.request rest
 IsNextOf bytes (x ∷ y ∷ xs) = ⊥
 
--- what comes next behind `count` responses where these bytes are next, and in which exchange, if in one
+-- | what comes next behind `count` responses where these bytes are next, and in which exchange, if in one
 pub data IsNextWord (journal : Front) (count : ℕ) (bytes : List ℕ) : List Exchange → List ℕ → Type 0 where
   answered : (x : Exchange) (rest : List ℕ) → IsFirst bytes x.request rest → IsTold journal x → IsNextWord journal count bytes (x ∷ []) (response journal count x)
   refusal : (why : HttpCause) → IsRefused bytes why → IsNextWord journal count bytes [] (wire_bad why)
   cut : IsCut bytes → IsNextWord journal count bytes [] (wire_bad Malformed)
   memory : (over : List Exchange) → IsNextOf bytes over → IsNextWord journal count bytes over memory_response
 
--- the output took no more: the first responses were written, and the front of what came next
+-- | the output took no more: the first responses were written, and the front of what came next
 pub record WroteShort (journal : Front) (input before : List ℕ) (written : Option (List ℕ)) (xs : List Exchange) : Type 0 where
   pub first : List Exchange
   pub over : List Exchange
@@ -123,7 +125,7 @@ pub record WroteShort (journal : Front) (input before : List ℕ) (written : Opt
   pub begins : Begins part word
   pub written_is : written ≡ Some (before ++ (responses journal 0 first ++ part))
 
--- there was no more memory: the first responses were written, and the one that says so
+-- | there was no more memory: the first responses were written, and the one that says so
 pub record RanOut (journal : Front) (input before : List ℕ) (written : Option (List ℕ)) (xs : List Exchange) : Type 0 where
   pub first : List Exchange
   pub over : List Exchange
@@ -134,11 +136,12 @@ pub record RanOut (journal : Front) (input before : List ℕ) (written : Option 
   pub is_next : IsNextOf behind over
   pub written_is : written ≡ Some (before ++ (responses journal 0 first ++ memory_response))
 
+-- | what was asked is a call of the machine
 abbrev pub IsCall : Asked → Type 0
 IsCall (calls call) = Unit {0}
 IsCall (refused why) = ⊥
 
--- changes could not be kept: the response to the call that could show them was left out
+-- | changes could not be kept: the response to the call that could show them was left out
 pub record LeftOut (journal : Front) (input before : List ℕ) (written : Option (List ℕ)) (xs : List Exchange) : Type 0 where
   pub first : List Exchange
   pub over : Exchange
@@ -151,7 +154,7 @@ pub record LeftOut (journal : Front) (input before : List ℕ) (written : Option
   pub is_call : IsCall over.asked
   pub written_is : written ≡ Some (before ++ responses journal 0 first)
 
--- how a connection over an input ends, and what it then has written behind what was there before
+-- | how a connection over an input ends, and what it then has written behind what was there before
 abbrev pub EndsSession : {F : Type 0} → Front → List ℕ → List ℕ → Option (List ℕ) → Option (List ℕ) → List Exchange → Closed F → Type 0
 EndsSession journal input before left written xs closed.End = WroteAll journal input before left written xs ended
 EndsSession journal input before left written xs closed.Rests = Rested journal input before left written xs

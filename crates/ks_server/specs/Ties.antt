@@ -48,7 +48,7 @@ is_fault (folder.Fault keys.AlreadySet) = false
 is_fault (folder.Fault keys.IndexEnd) = false
 is_fault (folder.Fault keys.Memory) = false
 
--- the call of a command: with the tokens of its request, and with what was drawn and read for it
+-- | the call of a command: with the tokens of its request, and with what was drawn and read for it
 pub record IsCallOf (what : Command) (request : Request) (call : Call) (receipt : Receipt) : Type 0 where
   pub command : call.command ≡ what
   pub caller : call.caller ≡ request.auth
@@ -64,7 +64,8 @@ pub record IsPlain (receipt : Receipt) : Type 0 where
   pub folder : receipt.folder ≡ false
   pub memory : receipt.memory ≡ false
 
--- what a request asks, by where its route leads
+-- | what a request asks, by where its route leads: the call has the command to which it is routed, its tokens, and what was drawn and read
+-- for it; or it is refused for the cause that its route has (Identity API v3)
 abbrev pub Asks : Routed → Request → Asked → Receipt → Type 0
 Asks (routed.Command what) request (calls call) receipt = IsCallOf what request call receipt
 Asks (routed.Command what) request (refused why) receipt = ⊥
@@ -79,7 +80,7 @@ Asks routed.Memory request asked receipt = ⊥
 abbrev pub IsAsked : Exchange → Type 0
 IsAsked x = Asks (command_of x.request) x.request x.asked x.receipt
 
--- each exchange of these is one of the link, numbered from this on
+-- | each exchange of these is one of the link, numbered from this on
 abbrev pub AreNumbered : ℕ → ℕ → List Exchange → Type 0
 AreNumbered connection number [] = Unit {0}
 AreNumbered connection number (x ∷ xs) =
@@ -87,7 +88,7 @@ AreNumbered connection number (x ∷ xs) =
 
 -- what a desk gave
 
--- the readings: one for each call
+-- | the readings of the clock: one for each call, in their order, and none is left out
 abbrev pub HasReading : Asked → List ℕ → Type 0
 HasReading (calls call) readings = call.reading ≡ next_reading readings
 HasReading (refused why) readings = Unit {0}
@@ -100,10 +101,11 @@ abbrev pub HaveReadings : List ℕ → List Exchange → List ℕ → Type 0
 HaveReadings readings [] rest = readings ≡ rest
 HaveReadings readings (x ∷ xs) rest = HasReading x.asked readings × HaveReadings (readings_after x.asked readings) xs rest
 
--- the random bytes, in order
+-- | the random bytes, in order
 abbrev pub drawn_by : List Exchange → List ℕ
 drawn_by xs = flat_map (λ x. bytes_in x.receipt.draw) xs
 
+-- how many draws, and how many readings of the folder, these exchanges say failed
 abbrev pub is_failed_draw : Drawn → Bool
 is_failed_draw Unused = false
 is_failed_draw (Bytes bytes) = false
@@ -138,12 +140,12 @@ fills_for Unused = []
 fills_for (Bytes bytes) = desk_call.Fill 64 ∷ []
 fills_for Failed = desk_call.Fill 64 ∷ []
 
--- what is asked of a desk for a decision; nothing is for a request that is refused before any call
+-- | what is asked of a desk for a decision; nothing is for a request that is refused before any call
 abbrev pub calls_for : Asked → Drawn → List DeskCall
 calls_for (calls call) drawn = desk_call.Reading ∷ fills_for drawn
 calls_for (refused why) drawn = []
 
--- the room for the receipt first, then what the decision takes, and the receipt last
+-- | the room for the receipt first, then what the decision takes, and the receipt last
 abbrev pub calls_in : Exchange → List DeskCall
 calls_in x = desk_call.Ready ∷ (calls_for x.asked x.receipt.draw ++ desk_call.Note ∷ [])
 
@@ -151,13 +153,14 @@ calls_in x = desk_call.Ready ∷ (calls_for x.asked x.receipt.draw ++ desk_call.
 abbrev pub given_up : ℕ → List DeskCall
 given_up count = replicate count desk_call.Ready
 
--- the calls in these exchanges one after the other, and those of requests without one before each and behind the last
+-- | the calls in these exchanges one after the other, and those of requests without one before each and behind the last
 abbrev pub AreCallsIn : List Exchange → List DeskCall → Type 0
 AreCallsIn [] called = (count : ℕ) × (called ≡ given_up count)
 AreCallsIn (x ∷ xs) called =
     (count : ℕ) × (rest : List DeskCall) × (called ≡ given_up count ++ (calls_in x ++ rest)) × AreCallsIn xs rest
 
--- from one state of a desk and its folder to another these exchanges were made
+-- | from one state of a desk and its folder to another these exchanges were made: their receipts were noted and no others, they have all
+-- that was drawn and read, the desk was called for them in their order, and what they say failed, failed
 pub record Tied {Link : Type 0} (old new : DeskState Link) (old_dir new_dir : DirState) (xs : List Exchange) : Type 0 where
   -- each asks what its request says
   pub asked : AllByRecursion IsAsked xs

@@ -14,7 +14,7 @@ use Rattle.ks_server.specs.Ties.{AreNumbered, Tied}
 use Rattle.ks_service.specs.Called.{capped}
 use Rattle.ks_turn.specs.Passes.{Passed}
 
--- some call's reading, up to the last that counts
+-- | some call's reading, up to the last that counts
 abbrev pub IsReading : ℕ → Asked → Type 0
 IsReading moment (calls call) = moment ≡ capped call.reading
 IsReading moment (refused why) = ⊥
@@ -23,7 +23,8 @@ abbrev pub IsReadingAmong : ℕ → List Exchange → Type 0
 IsReadingAmong moment [] = ⊥
 IsReadingAmong moment (x ∷ xs) = IsReading moment x.asked ⊎ IsReadingAmong moment xs
 
--- what a pass saw and made
+-- | what a pass saw and made in some exchanges: they are in order, it owns their changes and no others, and it raised the highest moment to
+-- one of their readings, or not at all
 pub record PassMoves (old new : Passed) (xs : List Exchange) : Type 0 where
   pub turn : new.turn ≡ old.turn
   -- it has seen at the end what the last exchange left
@@ -37,6 +38,7 @@ pub record PassMoves (old new : Passed) (xs : List Exchange) : Type 0 where
   -- with all the weight it is alone
   pub alone : old.weight ≡ 1000000 → GoesAlone new.seen (bare old.seen) xs
 
+-- | a stretch of work: what a pass did, tied to a desk and its folder
 pub record Works {Link : Type 0} (old new : Passed) (desk desk_after : DeskState Link) (dir dir_after : DirState) (xs : List Exchange) : Type 0 where
   pub moves : PassMoves old new xs
   pub tied : Tied desk desk_after dir dir_after xs

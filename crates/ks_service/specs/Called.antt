@@ -49,20 +49,20 @@ is_memory (reply.Refused why) = is_memory_cause why
 
 -- events
 
--- a reading of the clock, up to the last that counts
+-- | a reading of the clock, up to the last that counts
 abbrev pub capped : ℕ → ℕ
 capped reading = min reading last_moment
 
--- the change that the plain machine makes by a call after a front, if any
+-- | the change that the plain machine makes by a call after a front, if any
 unfoldable pub made_by : Front → Call → Option Change
 made_by f call = change_of (step everything (replay f) call)
 
--- the number of the change, if there is one
+-- | the number of the change, if there is one
 abbrev pub numbered : ℕ → Option Change → List ℕ
 numbered number None = []
 numbered number (Some change) = number ∷ []
 
--- the call was decided after the front `at`
+-- | the call was decided after the front `at`
 pub record IsDecided {F : Type 0} (old new : Passed) (call : Call) (at : Front) (said : Answer F) : Type 0 where
   -- the reply is the plain machine's
   pub reply : said.reply ≡ answer at call
@@ -73,7 +73,7 @@ pub record IsDecided {F : Type 0} (old new : Passed) (call : Call) (at : Front) 
   -- the moment is not before the reading
   pub late : capped call.reading ≤ said.moment
 
--- there was no memory, and nothing changed after the front `at`
+-- | there was no memory, and nothing changed after the front `at`
 pub record IsUndecided (old new : Passed) (at : Front) : Type 0 where
   pub seen : new.seen ≡ at
   pub own : new.own ≡ old.own
@@ -82,12 +82,12 @@ abbrev pub IsDecidedUnless : {F : Type 0} → Bool → Passed → Passed → Cal
 IsDecidedUnless false old new call at said = IsDecided old new call at said
 IsDecidedUnless true old new call at said = IsUndecided old new at
 
--- the moment of an event after a front, with no other event between; where there was no memory it may also be the highest before
+-- | the moment of an event after a front, with no other event between; where there was no memory it may also be the highest before
 abbrev pub IsNextUnless : Bool → Front → Call → ℕ → Type 0
 IsNextUnless false seen call moment = moment ≡ moment_of seen.high call.reading
 IsNextUnless true seen call moment = (moment ≡ moment_of seen.high call.reading) ⊎ (moment ≡ seen.high)
 
--- a call was made through the pass, which then was the new one
+-- what came of a call through a pass, which then was the new one
 pub record Called {F : Type 0} (old new : Passed) (call : Call) (said : Answer F) : Type 0 where
   pub turn : new.turn ≡ old.turn
   -- the answer names a place in the front that the pass then has: it cuts off a front that goes on from what the pass had seen

@@ -7,7 +7,7 @@ use Rattle.ks_fernet.specs.Opening.{open_of}
 use Rattle.ks_payload.specs.declared.payload.Payload.{Payload}
 use Rattle.ks_payload.specs.Payloads.{IsPayload}
 
--- a key opens the text, and what it finds is this payload
+-- | a key opens the text, and what it finds is this payload
 pub record Says (text : Text) (payload : Payload) : Type 0 where
   pub key : Key
   pub time : ℕ

@@ -1,3 +1,4 @@
+-- Calls through a turn.
 pub mod Work
 pub mod Rounds
 pub mod Called

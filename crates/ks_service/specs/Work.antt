@@ -19,7 +19,7 @@ use Rattle.ks_machine.specs.Ranges.{AreRounds}
 use Rattle.ks_checks.specs.declared.halt.Needs.{Needs}
 use Rattle.ks_ring.specs.declared.held_key.HeldKey.{HeldKey}
 
--- what a call has that only ciphers can test: the text of the token with which it logs in, the password or the secret that it shows,
+-- | what a call has that only ciphers can test: the text of the token with which it logs in, the password or the secret that it shows,
 -- and the one that it sets, which may be drawn
 pub record SecretsState : Type 0 where
   pub token : Option Text
@@ -29,7 +29,7 @@ pub record SecretsState : Type 0 where
 abbrev pub no_secrets : SecretsState
 no_secrets = record { token = None; shown = None; set = None }
 
--- the text of the token that a login shows
+-- | the text of the token that a login shows
 abbrev pub token_in : Proof → Option Text
 token_in (proof.Token text) = Some text
 token_in (proof.Password user password) = None
@@ -37,6 +37,7 @@ token_in (proof.AppCred named secret) = None
 token_in (proof.Totp user code) = None
 token_in (proof.Both user password coded code) = None
 
+-- what a command has of these
 abbrev pub secrets_of_made : Made → SecretsState
 secrets_of_made (made.User id name domain password enabled factors) = record { token = None; shown = None; set = password }
 secrets_of_made (made.Domain id name description enabled) = no_secrets
@@ -99,33 +100,33 @@ secrets_in call = secrets_of call.draw call.command
 
 -- facts
 
--- all that was known is known still
+-- | no fact is lost: all that was known is known still
 pub record AreKept (old new : FactsState) : Type 0 where
   pub opened : (held : HeldKey) (text : Text) → has_opened held text old.opened ≡ true → has_opened held text new.opened ≡ true
   pub derived : (password salt : List ℕ) (rounds : ℕ) → has_derived password salt rounds old.derived ≡ true → has_derived password salt rounds new.derived ≡ true
 
--- the key opens the text
+-- | the key opens the text
 abbrev pub is_open : OpenAnswer → Bool
 is_open NotText = false
 is_open No = false
 is_open (Yes time plain) = true
 
--- what the keys make of the text is known, in their order, as far as the first that opens it
+-- | what the keys make of the text is known, in their order, as far as the first that opens it
 abbrev pub IsOpened : List HeldKey → FactsState → Text → Type 0
 IsOpened [] facts text = Unit {0}
 IsOpened (held ∷ keys) facts text =
     (has_opened held text facts.opened ≡ true) × ((is_open (open_of held.key text) ≡ true) ⊎ IsOpened keys facts text)
 
--- what is derived of the password is known, with this salt and so many rounds
+-- | what is derived of the password is known, with this salt and so many rounds
 abbrev pub IsDerived : List ℕ × ℕ → FactsState → Text → Type 0
 IsDerived by facts password = has_derived password by.0 by.1 facts.derived ≡ true
 
--- the rounds with which passwords are to be derived have their range
+-- | the rounds with which passwords are to be derived have their range
 pub record AreDerivable (needs : Needs) : Type 0 where
   pub stored : IfSome needs.stored (λ by. AreRounds by.1)
   pub fresh : IfSome needs.fresh (λ by. AreRounds by.1)
 
--- the work is done: what the keys make of each token text of the call is known, as far as the first that opens it, and what is
+-- | the work is done: what the keys make of each token text of the call is known, as far as the first that opens it, and what is
 -- derived of its passwords
 pub record IsDone (needs : Needs) (call : Call) (facts : FactsState) : Type 0 where
   pub caller : IfSome call.caller (IsOpened needs.keys facts)

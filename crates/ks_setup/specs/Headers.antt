@@ -14,7 +14,7 @@ use Rattle.ks_written.specs.declared.written.Written.{Written}
 use Rattle.ks_setup.specs.Openings.{AnswersOpening, Drew, HasBadKey, HasPolicy, IsFormed, IsRing, LoadsPolicy, Opens, passwords}
 use Rattle.ks_written.specs.Written.{file_of}
 
--- a header gives this opening: that of its file, where the folder holds its keys and the drawn bytes are its salts, one behind the other
+-- | a header gives this opening: that of its file, where the folder holds its keys and the drawn bytes are its salts, one behind the other
 abbrev pub GivesOpening : Header → PlainOpening → Type 0
 GivesOpening header opening = Opens header.opening header.keys (concat header.salts) opening
 
@@ -30,13 +30,13 @@ pub record IsHeaderOf {Link : Type 0} (text : List ℕ) (held : List (ℕ × Key
   pub drew : Drew old new (concat header.salts) 0
   pub gives : GivesOpening header opening
 
--- the keys are right, and the plain passwords are not as many as the salts
+-- | the keys are right, and the plain passwords are not as many as the salts
 abbrev pub HasOtherSalts : Header → Type 0
 HasOtherSalts header =
     (written : Written) × (file_of header.opening ≡ Ok written) × ((ring : List (ℕ × Key)) × IsRing written.keys header.keys ring)
     × (passwords written.users ≢ length header.salts)
 
--- what a header opens with; `Random` is that it has the salts of another file
+-- what a header opens with, or why it is refused; `Random` is, last of all, that its salts are not as many as its file's plain passwords
 abbrev pub AnswersHeader : Header → Result Opening OpeningFault → Type 0
 AnswersHeader header (Ok opening) = GivesOpening header (plain opening)
 AnswersHeader header (Err (Shape fault)) = file_of header.opening ≡ Err fault

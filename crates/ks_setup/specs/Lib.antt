@@ -1,3 +1,4 @@
+-- What a server opens with.
 pub mod Openings
 pub mod Steps
 pub mod Headers

@@ -73,7 +73,7 @@ is_plain None = false
 is_plain (Some (Plain password)) = true
 is_plain (Some (Record row)) = false
 
--- how many users have a plain password
+-- | how many users have a plain password
 abbrev pub passwords : List WrittenUser → ℕ
 passwords [] = 0
 passwords (user ∷ users) = if is_plain user.password then suc (passwords users) else passwords users
@@ -101,7 +101,8 @@ users_from rounds (user ∷ users) drawn =
 
 -- the opening
 
--- what the file opens with, the keys of the folder being these and the bytes that were drawn these
+-- | what the file opens with, the keys of the folder being these and the bytes that were drawn these: its rows, its rules, its keys or
+-- those of the folder, each plain password derived with the next 16 bytes that were drawn, each record as it is
 pub record Opens (text : List ℕ) (held : List (ℕ × Key)) (drawn : List ℕ) (opening : PlainOpening) : Type 0 where
   pub written : Written
   pub form : file_of text ≡ Ok written
@@ -125,7 +126,7 @@ pub record Opens (text : List ℕ) (held : List (ℕ × Key)) (drawn : List ℕ)
 abbrev pub salt_calls : ℕ → List DeskCall
 salt_calls count = replicate count (call.Fill 16)
 
--- from a desk these bytes were drawn, each 16 of them by a fill of their own, and so many fills more failed. No other call was made,
+-- | from a desk these bytes were drawn, each 16 of them by a fill of their own, and so many fills more failed. No other call was made,
 -- and nothing else of it changed
 pub record Drew {Link : Type 0} (old new : DeskState Link) (drawn : List ℕ) (failed : ℕ) : Type 0 where
   pub told : (bytes : List ℕ) → old.random ≡ Some bytes → (rest : List ℕ) × (bytes ≡ drawn ++ rest) × (new.random ≡ Some rest)
@@ -147,7 +148,7 @@ HasPolicy text = IsFormed text × ((rules : List NamedRule) × LoadsPolicy text 
 abbrev pub HasBadKey : List ℕ → List ℕ → Type 0
 HasBadKey text path = (written : Written) × (file_of text ≡ Ok written) × IsBadKey written.keys path
 
--- the salts of some passwords were drawn, but not of all
+-- | the salts of some passwords were drawn, but not of all
 abbrev pub FallsShort : List WrittenUser → List ℕ → Type 0
 FallsShort users drawn = (given : ℕ) × (given < passwords users) × (length drawn ≡ 16 * given)
 
@@ -157,7 +158,8 @@ LacksBytes text held drawn =
     (written : Written) × (file_of text ≡ Ok written) × ((ring : List (ℕ × Key)) × IsRing written.keys held ring)
     × FallsShort written.users drawn
 
--- what a reading of the file answers, and what it leaves of the desk; of want of memory the desk alone is said
+-- what a reading of the file answers, and what it leaves of the desk: it opens so, or is refused by its form, its policy, its keys, or for
+-- want of random bytes, in this order; of want of memory the desk alone is said
 abbrev pub AnswersOpening : {Link : Type 0} → List ℕ → List (ℕ × Key) → DeskState Link → DeskState Link → Result Opening OpeningFault → Type 0
 AnswersOpening text held old new (Ok opening) = (drawn : List ℕ) × Opens text held drawn (plain opening) × Drew old new drawn 0
 AnswersOpening text held old new (Err (Shape fault)) = (file_of text ≡ Err fault) × (new ≡ old)

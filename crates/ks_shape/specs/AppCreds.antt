@@ -1,4 +1,5 @@
--- The body that makes an application credential (Identity API v3).
+-- The body that makes an application credential.
+-- Source: Identity API v3, application credentials.
 use Rattle.std.specs.Prelude.{ℕ, false, List, [], Option, Some, None, Result, Ok, codes, unwrap_or}
 use Rattle.serde_json.specs.Data.{Items}
 use Rattle.ks_base.specs.declared.limits.TheConstants.{TRUST_ROLES}
@@ -23,6 +24,7 @@ roles_given names body = do
   items ← optional (list_of TRUST_ROLES) names body
   roles_from items (path_at names body)
 
+-- the body that makes an application credential, whose roles may be absent
 unfoldable pub app_cred_of : Place → Result AppCredBody ShapeFault
 app_cred_of body = do
   name ← needed name_text (names (codes "application_credential.name")) body

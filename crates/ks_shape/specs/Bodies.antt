@@ -34,6 +34,7 @@ password_of place = do
 abbrev pub document : List ℕ → Option Data
 document bytes = if is_utf8 bytes then read bytes else None
 
+-- a value as the place of a whole document
 abbrev pub whole_document : Data → Place
 whole_document value = record { path = []; value = Some value }
 
@@ -61,7 +62,7 @@ body_of form bytes = do
   value ← found (document bytes) fault.NotJson
   form_of form (whole_document value)
 
--- the body of a new row of the catalog, or of a change of one
+-- the same of a new row of the catalog, or of a change of one, in the order of its kind's fields
 unfoldable pub catalog_body_of : CatalogKind → Bool → List ℕ → Result CatalogIn ShapeFault
 catalog_body_of kind new bytes = do
   value ← found (document bytes) fault.NotJson

@@ -1,5 +1,6 @@
--- The bodies that make and change rows of the service catalog (Identity API v3, regions, services and endpoints). A creation needs
--- what the row can't do without. A change reads the id; so does the creation of a region, whose id its operator gives.
+-- The bodies that make and change rows of the service catalog. A creation needs what the row can't do without. A change reads the id; so
+-- does the creation of a region, whose id its operator gives.
+-- Source: Identity API v3, regions, services and endpoints; own (`region`).
 use Rattle.std.specs.Prelude.{ℕ, Bool, List, Option, Some, None, Result, Ok, codes}
 use Rattle.ks_base.specs.declared.catalog.CatalogIn.{CatalogIn}
 use Rattle.ks_base.specs.declared.catalog.CatalogKind.{CatalogKind}
@@ -27,6 +28,7 @@ unsaid of = record {
   enabled = None;
 }
 
+-- | the bodies of a region and of a service; a region's id is given by its operator
 unfoldable pub region_of : Place → Result CatalogIn ShapeFault
 region_of body = do
   id ← optional id_text (names (codes "region.id")) body
@@ -43,7 +45,7 @@ service_of new body = do
   id ← id_at new (names (codes "service.id")) body
   Ok (record (unsaid kind.Service) { kind = type; name = name; description = description; enabled = enabled; id = id })
 
--- a region that is named by `region` counts where there is no `region_id`
+-- | a region that is named by `region` counts where there is no `region_id`
 abbrev pub region_by : Option (List ℕ) → Place → Result (Option (List ℕ)) ShapeFault
 region_by (Some id) body = Ok (Some id)
 region_by None body = optional id_text (names (codes "endpoint.region")) body
@@ -53,6 +55,7 @@ region_at body = do
   id ← optional id_text (names (codes "endpoint.region_id")) body
   region_by id body
 
+-- | the body of an endpoint
 unfoldable pub endpoint_of : Bool → Place → Result CatalogIn ShapeFault
 endpoint_of new body = do
   service ← needed_if new id_text (names (codes "endpoint.service_id")) body
@@ -63,6 +66,7 @@ endpoint_of new body = do
   id ← id_at new (names (codes "endpoint.id")) body
   Ok (record (unsaid kind.Endpoint) { service = service; interface = interface; url = url; region = region; enabled = enabled; id = id })
 
+-- the body of a row of a kind
 abbrev pub catalog_row_of : CatalogKind → Bool → Place → Result CatalogIn ShapeFault
 catalog_row_of kind.Region new body = region_of body
 catalog_row_of kind.Service new body = service_of new body

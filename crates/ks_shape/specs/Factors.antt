@@ -1,4 +1,5 @@
--- The options of a user: the methods that it has to log in by (Identity API v3, multi-factor authentication rules).
+-- The options of a user: the methods that it has to log in by.
+-- Source: Identity API v3, multi-factor authentication rules.
 use Rattle.std.specs.Prelude.{ℕ, bit_or, true, if◌then◌else◌, List, [], Option, Some, None, Result, Ok, Err, codes, unwrap_or}
 use Rattle.std.specs.Str.{bytes_eq}
 use Rattle.serde_json.specs.Data.{Data, Items, no_items, item}
@@ -45,6 +46,7 @@ mfa_rules value = do
   items ← list_of MFA_RULES value
   each_read mfa_rule items
 
+-- | the options of a user, which say the whole: rules of one method or of two, of which it has to meet one
 unfoldable pub options_of : Place → Result MfaIn ShapeFault
 options_of place = do
   enabled ← optional truth (names (codes "multi_factor_auth_enabled")) place

@@ -28,12 +28,13 @@ needed_value names place = do
   standing ← value_at names place
   found standing (fault.Missing (path_at names place))
 
+-- a field of a type that is needed: missing, of another type or out of range
 unfoldable pub needed : {A : Type 0} → FieldType A → List (List ℕ) → Place → Result A ShapeFault
 needed type names place = do
   value ← needed_value names place
   judged (path_at names place) (type value)
 
--- null counts as absent
+-- null counts as absent for one that is not needed
 abbrev pub unless_null : Option Data → Option Data
 unless_null None = None
 unless_null (Some value) = if is_some (as_null value) then None else Some value

@@ -1,3 +1,4 @@
+-- Bodies of requests.
 pub mod Readings
 pub mod Places
 pub mod Fields

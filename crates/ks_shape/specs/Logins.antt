@@ -1,4 +1,5 @@
 -- The body of a login (Identity API v3, OS-TRUST).
+-- Source: Identity API v3, authentication; OS-TRUST.
 use Rattle.std.specs.Prelude.{ℕ, Bool, true, false, if◌then◌else◌, List, Option, Some, None, is_some, Result, Ok, Err, codes}
 use Rattle.std.specs.Str.{bytes_eq}
 use Rattle.serde_json.specs.Data.{Data}
@@ -124,9 +125,11 @@ scope_from None place = Ok scope.Nothing
 scope_from (Some value) place =
     if is_some (as_object value) then object_scope value place else judged place.path (unscoped_text value)
 
+-- the scope of a login: exactly one of a domain, a project, the system, a trust, or unscoped
 abbrev pub scope_at : Place → Result ScopeIn ShapeFault
 scope_at place = scope_from (unless_null place.value) place
 
+-- the whole body of a login
 unfoldable pub login_of : Place → Result LoginBody ShapeFault
 login_of body = do
   method ← needed login_methods (names (codes "auth.identity.methods")) body

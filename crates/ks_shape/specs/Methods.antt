@@ -1,4 +1,5 @@
--- The methods by which a login says who it is (Identity API v3).
+-- The methods by which a login says who it is.
+-- Source: Identity API v3, authentication.
 use Rattle.std.specs.Prelude.{ℕ, Bool, ◌&&◌, ◌||◌, if◌then◌else◌, List, Option, Some, None, option_and_then, codes}
 use Rattle.std.specs.Str.{bytes_eq}
 use Rattle.serde_json.specs.Data.{Items, no_items, item}
@@ -9,6 +10,7 @@ use Rattle.ks_shape.specs.declared.method.LoginMethod.TheVariants as method
 use Rattle.ks_shape.specs.declared.misfit.Misfit.TheVariants as misfit
 use Rattle.ks_shape.specs.Fields.{FieldType}
 
+-- one of the four methods
 abbrev pub method_named : List ℕ → Option LoginMethod
 method_named text =
     if bytes_eq text (codes "password") then Some method.Password
@@ -30,7 +32,7 @@ method_in (item only no_items) = option_and_then (λ text. method_named text) (a
 method_in (item first (item second no_items)) = option_and_then (λ a. option_and_then (λ b. pair_named a b) (as_str second)) (as_str first)
 method_in (item first (item second (item third items))) = None
 
--- the list of the methods of a login
+-- | the methods of a login: one of four, or a password and a code in either order
 unfoldable pub login_methods : FieldType LoginMethod
 login_methods value = do
   items ← found (as_array value) misfit.Kind

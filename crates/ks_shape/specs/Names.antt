@@ -1,4 +1,5 @@
 -- How bodies name rows: by an id, or where there is none by a name.
+-- Source: Identity API v3, authentication.
 use Rattle.std.specs.Prelude.{ℕ, List, Option, Some, None, Result, Ok, codes}
 use Rattle.serde_json.specs.Data.{Items}
 use Rattle.ks_base.specs.declared.shapes.ShapeFault.{ShapeFault}
@@ -27,6 +28,7 @@ named_by None place = do
   name ← own_name place
   Ok (named.Name name)
 
+-- a row that is named by its id, or else by its name
 unfoldable pub named_at : Place → Result Named ShapeFault
 named_at place = do
   id ← own_id place

@@ -1,4 +1,5 @@
--- Places in a JSON document (RFC 8259), and the values below them.
+-- Places in a JSON document, and the values below them.
+-- Source: RFC 8259; own.
 use Rattle.std.specs.Prelude.{ℕ, ◌==◌, if◌then◌else◌, List, [], ◌∷◌, ◌++◌, map, codes, decimal, Option, Some, None, is_some, option_map, Result, Ok, Err}
 use Rattle.std.specs.Borrow.{Bor}
 use Rattle.std.specs.List.{slice_split}
@@ -46,12 +47,15 @@ value_below path (name ∷ names) None = Ok None
 value_below path (name ∷ names) (Some value) =
     member_of path name value >>= (λ found. value_below (member_path path name) names found)
 
+-- | the value to which names lead: none where a member is missing, a fault where one on the way is no object
 abbrev pub value_at : List (List ℕ) → Place → Result (Option Data) ShapeFault
 value_at names place = value_below place.path names place.value
 
+-- the path of names, joined by full stops
 abbrev pub path_at : List (List ℕ) → Place → List ℕ
 path_at names place = path_below place.path names
 
+-- the two together
 unfoldable pub place_at : List (List ℕ) → Place → Result Place ShapeFault
 place_at names place = do
   value ← value_at names place

@@ -17,7 +17,7 @@ use Rattle.ks_shape.specs.Bodies.{body_of, catalog_body_of}
 abbrev pub IsMadeFor : MadeKind → Bool → Made → Type 0
 IsMadeFor kind new made = (kind_of made ≡ kind) × IsMade new made
 
--- what a form takes: a login, a row of its kind, two passwords, a trust, an application credential or a secret of one-time codes, with
+-- | what a form takes: a login, a row of its kind, two passwords, a trust, an application credential or a secret of one-time codes, with
 -- each field in range
 abbrev pub IsBodyFor : Form → BodyIn → Type 0
 IsBodyFor form.Login (body.Login login) = IsProof login.proof × IsScope login.scope
@@ -57,14 +57,15 @@ IsBodyFor form.Secret (body.Trust trust) = ⊥
 IsBodyFor form.Secret (body.AppCred cred) = ⊥
 IsBodyFor form.Secret (body.Secret secret) = IsTotpSecret secret.secret
 
--- each body that is read is one that its form takes
+-- law: each body that is read is one that its form takes
 abbrev pub BodiesAreInRange : Type 0
 BodiesAreInRange = (form : Form) (bytes : List ℕ) (body : BodyIn) → body_of form bytes ≡ Ok body → IsBodyFor form body
 
--- a row of the catalog of this kind, in range
+-- | a row of the catalog of this kind, in range
 abbrev pub IsCatalogFor : CatalogKind → Bool → CatalogIn → Type 0
 IsCatalogFor kind new asked = (asked.of ≡ kind) × IsCatalogBody new kind asked
 
+-- law: what is read of a row of the catalog is of its kind and in range, and a new one has what it can't do without
 abbrev pub CatalogBodiesAreInRange : Type 0
 CatalogBodiesAreInRange =
     (kind : CatalogKind) (new : Bool) (bytes : List ℕ) (asked : CatalogIn) → catalog_body_of kind new bytes ≡ Ok asked → IsCatalogFor kind new asked

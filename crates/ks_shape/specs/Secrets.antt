@@ -1,4 +1,5 @@
 -- Secrets of one-time codes, and the codes that they give (RFC 4648, RFC 6238; Identity API v3, credentials of type `totp`).
+-- Source: RFC 6238; RFC 4648, 6; Identity API v3, credentials of type `totp`.
 use Rattle.std.specs.Prelude.{ℕ, ◌+◌, ◌-◌, ◌*◌, ◌/◌, ◌%◌, ◌==◌, Bool, not, ◌&&◌, ◌||◌, nat_le, if◌then◌else◌, List, ◌++◌, length, map, filter, replicate, Option, Some, None, Result, Ok, codes}
 use Rattle.std.specs.Char.{is_ascii_digit}
 use Rattle.std.specs.Int.{is_in_range}
@@ -20,7 +21,7 @@ abbrev pub code_in : List ℕ → Option ℕ
 code_in text =
     if length text == 6 && list_all is_ascii_digit text then Some (two_at 0 text * 10_000 + two_at 2 text * 100 + two_at 4 text) else None
 
--- a code that is typed in
+-- | a code that is typed in
 unfoldable pub code_text : FieldType ℕ
 code_text value = do
   text ← any_text value
@@ -50,11 +51,11 @@ filled letters = letters ++ replicate ((8 - length letters % 8) % 8) 61
 abbrev pub spells : List ℕ → List ℕ → Bool
 spells text bytes = bytes_eq text (base32_of bytes) || bytes_eq text (filled (base32_of bytes))
 
--- the bytes of which a text is the base32
+-- the bytes of which a text is the base32, with all of its padding or none
 unfoldable pub base32_bytes : List ℕ → Option (List ℕ)
 base32_bytes text = if spells text (spelled_bytes text) then Some (spelled_bytes text) else None
 
--- a secret as a text
+-- | a secret of 10 to 64 bytes as a text
 unfoldable pub secret_blob : FieldType (List ℕ)
 secret_blob value = do
   text ← any_text value
@@ -62,7 +63,7 @@ secret_blob value = do
   _ ← need (is_in_range TOTP_SECRET_LEAST TOTP_SECRET_MOST (length bytes)) misfit.Range
   Ok bytes
 
--- the one type of credentials that there is
+-- | the one type of credentials that there is
 unfoldable pub totp_type : FieldType (Unit {0})
 totp_type value = do
   text ← any_text value

@@ -1,4 +1,5 @@
--- The body that makes a trust (OS-TRUST).
+-- The body that makes a trust.
+-- Source: OS-TRUST.
 use Rattle.std.specs.Prelude.{ℕ, ◌-◌, ◌^◌, ◌&&◌, false, not, is_some, List, Result, Ok, codes, unwrap_or}
 use Rattle.ks_base.specs.declared.limits.TheConstants.{TRUST_ROLES, USES}
 use Rattle.ks_base.specs.declared.shapes.ShapeFault.{ShapeFault}
@@ -34,13 +35,14 @@ limits_asked body = do
     parent = parent;
   })
 
--- the same, where a trust that counts its uses isn't passed on
+-- | how long, how often and how far down a trust is to serve, where one that counts its uses isn't passed on
 unfoldable pub limits_of : Place → Result Limits ShapeFault
 limits_of body = do
   limits ← limits_asked body
   _ ← need (not (is_some limits.remaining && limits.redelegate)) (fault.Range (path_at (names (codes "trust.remaining_uses")) body))
   Ok limits
 
+-- the body that makes a trust
 unfoldable pub trust_of : Place → Result TrustBody ShapeFault
 trust_of body = do
   trustor ← needed id_text (names (codes "trust.trustor_user_id")) body

@@ -1,4 +1,5 @@
 -- The types of fields.
+-- Source: Identity API v3; own limits.
 use Rattle.std.specs.Prelude.{ℕ, suc, Bool, not, nat_le, if◌then◌else◌, List, [], ◌∷◌, length, Option, Some, None, option_and_then, Result, Ok}
 use Rattle.std.specs.Int.{is_in_range}
 use Rattle.std.specs.Str.{bytes_eq}
@@ -15,10 +16,11 @@ use Rattle.ks_shape.specs.declared.misfit.Misfit.TheVariants as misfit
 use Rattle.ks_shape.specs.Fields.{FieldType}
 use Rattle.ks_shape.specs.Times.{time_of}
 
+-- | a text of any length
 abbrev pub any_text : FieldType (List ℕ)
 any_text value = found (as_str value) misfit.Kind
 
--- a text of so many bytes
+-- | a text of so many bytes
 unfoldable pub text_of : ℕ → ℕ → FieldType (List ℕ)
 text_of least most value = do
   text ← any_text value
@@ -34,52 +36,56 @@ description_text = text_of 0 DESCRIPTION_BYTES
 abbrev pub password_text : FieldType (List ℕ)
 password_text = text_of 1 PASSWORD_BYTES
 
--- the secret of an application credential
+-- | the secret of an application credential
 abbrev pub cred_secret : FieldType (List ℕ)
 cred_secret = text_of 1 NAME_BYTES
 
--- the type or the name of a service
+-- | the type or the name of a service
 abbrev pub service_text : FieldType (List ℕ)
 service_text = text_of 0 NAME_BYTES
 
+-- | the URL of an endpoint
 abbrev pub endpoint_url : FieldType (List ℕ)
 endpoint_url = text_of 1 ENDPOINT_URL_BYTES
 
+-- an id, in a text
 unfoldable pub id_in : List ℕ → Result (List ℕ) Misfit
 id_in text = do
   _ ← need (is_id text) misfit.Range
   Ok text
 
+-- | an id
 unfoldable pub id_text : FieldType (List ℕ)
 id_text value = do
   text ← any_text value
   id_in text
 
+-- | a truth value
 abbrev pub truth : FieldType Bool
 truth value = found (as_bool value) misfit.Kind
 
--- a truth value that is not true
+-- | a truth value that is not true
 unfoldable pub falsehood : FieldType Bool
 falsehood value = do
   holds ← truth value
   _ ← need (not holds) misfit.Range
   Ok holds
 
--- a truth value that is true
+-- | a truth value that is true
 unfoldable pub affirmation : FieldType Bool
 affirmation value = do
   holds ← truth value
   _ ← need holds misfit.Range
   Ok holds
 
--- a whole number within these bounds; none below 0 or from 2^64 on, and none with a point or an exponent
+-- | a whole number within these bounds; none below 0 or from 2^64 on, and none with a point or an exponent
 unfoldable pub whole : ℕ → ℕ → FieldType ℕ
 whole least most value = do
   number ← found (option_and_then as_u64 (as_number value)) misfit.Kind
   _ ← need (is_in_range least most number) misfit.Range
   Ok number
 
--- the text of a moment
+-- | the text of a moment
 unfoldable pub time_text : FieldType ℕ
 time_text value = do
   text ← any_text value
@@ -96,7 +102,7 @@ list_of most value = do
   _ ← need (nat_le (count_of items) most) misfit.Range
   Ok items
 
--- what is read of each of these values, or the first fault
+-- | what is read of each of these values, or the first fault
 unfoldable pub each_read : {A F : Type 0} → (Data → Result A F) → Items → Result (List A) F
 each_read read no_items = Ok []
 each_read read (item value items) = do
@@ -104,13 +110,14 @@ each_read read (item value items) = do
   others ← each_read read items
   Ok (first ∷ others)
 
+-- | the interface that a word names
 abbrev pub interface_named : List ℕ → Option Interface
 interface_named text =
     if bytes_eq text (interface_word interface.Public) then Some interface.Public
     else (if bytes_eq text (interface_word interface.Internal) then Some interface.Internal
     else (if bytes_eq text (interface_word interface.Admin) then Some interface.Admin else None))
 
--- the word of an interface
+-- | the word of an interface
 unfoldable pub interface_text : FieldType Interface
 interface_text value = do
   text ← any_text value

@@ -4,9 +4,12 @@ use Rattle.std.specs.Prelude.{◌≡◌, ℕ, ◌<◌, List, ◌∷◌, ◌++◌
 use Rattle.ks_spelling.specs.declared.unread.Unread.{Unread}
 use Rattle.ks_spelling.specs.declared.unread.Unread.TheVariants.{NoSpelling}
 
+-- | each number is below 256
 abbrev pub IsBytes : List ℕ → Type 0
 IsBytes bytes = (i : ℕ) → slice_index bytes i < 256
 
+-- | which values of a type have a spelling, the spelling, how it is read off the front, that it is read again whatever follows, and that
+-- what is read is the spelling of its value
 pub record Code (A : Type 0) : Type 1 where
   -- what has a spelling
   pub Fits : A → Type 0
@@ -30,7 +33,7 @@ Writes code x old new = code.Fits x × (new ≡ old ++ code.spell x)
 abbrev pub WritesAt : {A : Type 0} → ℕ → Code A → A → List ℕ → List ℕ → Type 0
 WritesAt place code x old new = code.Fits x × (new ≡ old ++ place ∷ code.spell x)
 
--- what a function returned is what reading gives
+-- what a function returned is what reading gives: the value with the rest, or no spelling where there is none
 abbrev pub Reads : {A : Type 0} → Option (A × List ℕ) → List ℕ → Result A Unread → Type 0
 Reads reading rest (Ok x) = reading ≡ Some (x, rest)
 Reads reading rest (Err e) = e ≡ NoSpelling → reading ≡ None

@@ -10,6 +10,7 @@ use Rattle.ks_spelling.specs.Readings.{bytes_before, same_some, and_then_some, m
 
 -- ---- a byte
 
+-- the first byte and the rest
 abbrev pub read_byte : List ℕ → Option (ℕ × List ℕ)
 read_byte [] = None
 read_byte (b ∷ rest) = Some (b, rest)
@@ -19,6 +20,7 @@ byte_takes [] b rest is h = absurd cc
 byte_takes (a ∷ bytes) b rest is h =
     subst (λ (p : ℕ × List ℕ). (p.0 < 256) × (a ∷ bytes ≡ p.0 ∷ p.1)) (same_some (a, bytes) (b, rest) h) (is 0, refl)
 
+-- | a byte as it stands
 abbrev pub byte : Code ℕ
 byte = record {
   Fits = λ b. b < 256;
@@ -30,6 +32,7 @@ byte = record {
 
 -- ---- a run of bytes of known length
 
+-- the first n bytes and the rest, where there are n
 abbrev pub cut : ℕ → List ℕ → Option (List ℕ × List ℕ)
 cut n bytes = if nat_lt (length bytes) n then None else Some (take n bytes, drop n bytes)
 
@@ -44,6 +47,7 @@ cut_takes n bytes x rest h =
     let long : n ≤ length bytes = ltb-false _ _ g.0 in
     subst (λ (p : List ℕ × List ℕ). (length p.0 ≡ n) × (bytes ≡ p.0 ++ p.1)) g.1 (length-take-le n bytes long, sym (take-append-drop n bytes))
 
+-- | a run of n bytes as it stands
 abbrev pub fixed : ℕ → Code (List ℕ)
 fixed n = record {
   Fits = λ x. length x ≡ n;
@@ -77,6 +81,7 @@ wide64 = record {
   below = λ bytes fits. omega (arith, fits 0, fits 1, fits 2, fits 3, fits 4, fits 5, fits 6, fits 7);
 }
 
+-- so many bytes, as a number
 abbrev pub read_number : Width → List ℕ → Option (ℕ × List ℕ)
 read_number w bytes = option_map (λ p. (from_be_bytes w p.0, p.1)) (cut (byte_len w) bytes)
 
@@ -93,6 +98,7 @@ number_takes w limit wide bytes n rest is h =
     let spelled : bytes ≡ to_be_bytes w (from_be_bytes w m.0.0) ++ m.0.1 = t.1 ∙ ap (λ (xs : List ℕ). xs ++ m.0.1) (sym (wide.back m.0.0 t.0 front)) in
     subst (λ (p : ℕ × List ℕ). (p.0 < limit) × (bytes ≡ to_be_bytes w p.0 ++ p.1)) m.2 (wide.below m.0.0 front, spelled)
 
+-- | a number in 4 or in 8 bytes, the high one first
 abbrev pub number : (w : Width) (limit : ℕ) → IsWide w limit → Code ℕ
 number w limit wide = record {
   Fits = λ n. n < limit;
@@ -110,6 +116,7 @@ number64 = number w64 (2 ^ 64) wide64
 
 -- ---- bytes behind their count
 
+-- so many bytes behind their count, and the rest
 abbrev pub read_counted : Code ℕ → List ℕ → Option (List ℕ × List ℕ)
 read_counted count bytes = option_and_then (λ n. cut n.0 n.1) (count.read bytes)
 
@@ -127,6 +134,7 @@ counted_takes count bytes x rest is h =
     let whole : bytes ≡ (count.spell m.0.0 ++ x) ++ rest = head.1 ∙ ap (λ (xs : List ℕ). count.spell m.0.0 ++ xs) body.1 ∙ sym (append_assoc (count.spell m.0.0) x rest) in
     subst (λ (k : ℕ). count.Fits k × (bytes ≡ (count.spell k ++ x) ++ rest)) (sym body.0) (head.0, whole)
 
+-- | bytes behind their count
 abbrev pub counted : Code ℕ → Code (List ℕ)
 counted count = record {
   Fits = λ x. count.Fits (length x);

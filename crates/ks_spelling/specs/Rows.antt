@@ -29,6 +29,7 @@ use Rattle.ks_spelling.specs.Wholes.{nothing, both, made, listed}
 use Rattle.ks_spelling.specs.Variants.{Variant, Part, variant, part, there, InPlace, IsThere, one_of, truth, optional}
 use Rattle.ks_spelling.specs.Values.{bytes_code, id_code, text_code}
 
+-- | the rows of a state, what grants are to and at, an endpoint's interface, and keys: their fields in order
 unfoldable pub domain_code : Code DomainRow
 domain_code = made (both id_code (both text_code (both text_code truth))) (record {
   make = λ p. record { id = p.0; name = p.1.0; description = p.1.1.0; enabled = p.1.1.1 };
@@ -160,7 +161,7 @@ grant_code = made (both actor_code (both target_code (both truth id_code))) (rec
   made_of = λ row. refl;
 })
 
--- the 16 bytes that sign, and the 16 that encipher
+-- | the 16 bytes that sign, and the 16 that encipher
 unfoldable pub key_code : Code Key
 key_code = made (both (fixed 16) (fixed 16)) (record {
   make = λ p. record { signing = p.0; encryption = p.1 };
@@ -169,6 +170,7 @@ key_code = made (both (fixed 16) (fixed 16)) (record {
   made_of = λ key. refl;
 })
 
+-- | these, by their fields
 unfoldable pub region_code : Code RegionRow
 region_code = made (both id_code (both (optional id_code) text_code)) (record {
   make = λ p. record { id = p.0; parent = p.1.0; description = p.1.1 };

@@ -5,13 +5,13 @@ use Rattle.ks_spelling.specs.Codes.{IsBytes, Code}
 use Rattle.ks_spelling.specs.Readings.{bytes_after_first, map_some}
 use Rattle.ks_spelling.specs.Wholes.{nothing}
 
--- a variant: what it holds, how that is spelled, and the value that it makes
+-- | a variant: what it holds, how that is spelled, and the value that it makes
 pub record Variant (A : Type 0) : Type 1 where
   pub Held : Type 0
   pub code : Code Held
   pub make : Held → A
 
--- a value as its variant, at the variant's place, and what it holds
+-- | a value as its variant, at the variant's place, and what it holds
 pub record Part (A : Type 0) : Type 1 where
   pub place : ℕ
   pub of : Variant A
@@ -78,6 +78,7 @@ one_of_takes parts table in_place [] x rest is h = absurd cc
 one_of_takes parts table in_place (place ∷ bytes) x rest is h =
     subst (λ (k : ℕ). IsPart (parts x) k bytes rest) (zero-add place) (placed parts table 0 place bytes x rest in_place (bytes_after_first place bytes is) h)
 
+-- | an enum: the place of the variant in a byte, and what it holds
 abbrev pub one_of : {A : Type 0} (parts : A → Part A) (table : List (Variant A)) → InPlace parts table 0 → ((x : A) → IsThere table x (parts x)) → Code A
 one_of parts table in_place is_there = record {
   Fits = λ x. (parts x).of.code.Fits (parts x).held;
@@ -103,6 +104,7 @@ pub truth_there : (x : Bool) → IsThere truth_table x (truth_parts x)
 truth_there false rest fits = refl
 truth_there true rest fits = refl
 
+-- | a truth value: 0 or 1
 unfoldable pub truth : Code Bool
 truth = one_of truth_parts truth_table truth_in_place truth_there
 
@@ -122,5 +124,6 @@ pub optional_there : {A : Type 0} (code : Code A) (x : Option A) → IsThere (op
 optional_there code None rest fits = refl
 optional_there code (Some x) rest fits = there 1 code (λ y. Some y) x rest fits
 
+-- | a value that may be absent: 0, or 1 and the value
 abbrev pub optional : {A : Type 0} → Code A → Code (Option A)
 optional code = one_of (optional_parts code) (optional_table code) (optional_in_place code) (optional_there code)

@@ -9,6 +9,7 @@ use Rattle.ks_spelling.specs.Readings.{bytes_left, same_some, and_then_some, map
 pub nothing_takes : (bytes : List ℕ) (x : Unit {0}) (rest : List ℕ) → ◌≡◌ {A = Option (Unit {0} × List ℕ)} (Some (tt, bytes)) (Some (x, rest)) → bytes ≡ rest
 nothing_takes bytes x rest h = ap (λ (p : Unit {0} × List ℕ). p.1) (same_some (tt, bytes) (x, rest) h)
 
+-- a value that has no bytes
 abbrev pub nothing : Code (Unit {0})
 nothing = record {
   Fits = λ x. Unit {0};
@@ -41,6 +42,7 @@ both_takes {A} {B} first second bytes x rest is h =
     front.1 ∙ ap (λ (xs : List ℕ). first.spell a.0.0 ++ xs) back.1 ∙ sym (append_assoc (first.spell a.0.0) (second.spell b.0.0) b.0.1) in
     subst (λ (p : (A × B) × List ℕ). (first.Fits p.0.0 × second.Fits p.0.1) × (bytes ≡ (first.spell p.0.0 ++ second.spell p.0.1) ++ p.1)) b.2 ((front.0, back.0), whole)
 
+-- two values, one behind the other
 abbrev pub both : {A B : Type 0} → Code A → Code B → Code (A × B)
 both first second = record {
   Fits = λ x. first.Fits x.0 × second.Fits x.1;
@@ -52,6 +54,7 @@ both first second = record {
 
 -- ---- a struct by its fields
 
+-- a struct and its fields give each other back
 pub record Fields (P A : Type 0) : Type 0 where
   pub make : P → A
   pub of : A → P
@@ -75,6 +78,7 @@ made_takes {P} {A} code fields bytes x rest is h =
     subst (λ (p : P). code.Fits p × (bytes ≡ code.spell p ++ m.0.1)) (sym (fields.of_made m.0.0)) t in
     subst (λ (y : A × List ℕ). code.Fits (fields.of y.0) × (bytes ≡ code.spell (fields.of y.0) ++ y.1)) m.2 at_made
 
+-- | a struct by its fields in order
 abbrev pub made : {P A : Type 0} → Code P → Fields P A → Code A
 made code fields = record {
   Fits = λ x. code.Fits (fields.of x);
@@ -86,6 +90,7 @@ made code fields = record {
 
 -- ---- the values that pass a test
 
+-- a value that passes, or none
 abbrev pub passed : {A : Type 0} → (A → Bool) → A × List ℕ → Option (A × List ℕ)
 passed test p = if test p.0 then Some p else None
 
@@ -104,6 +109,7 @@ tested_takes {A} code test bytes x rest is h =
     let g = if_some (test m.0.0) m.0 (x, rest) m.2 in
     subst (λ (p : A × List ℕ). (code.Fits p.0 × (test p.0 ≡ true)) × (bytes ≡ code.spell p.0 ++ p.1)) g.1 ((t.0, g.0), t.1)
 
+-- | the values that pass a test
 abbrev pub tested : {A : Type 0} → Code A → (A → Bool) → Code A
 tested code test = record {
   Fits = λ x. code.Fits x × (test x ≡ true);
@@ -115,10 +121,12 @@ tested code test = record {
 
 -- ---- a list behind its count
 
+-- each item has a spelling
 abbrev pub AllFit : {A : Type 0} → Code A → List A → Type 0
 AllFit code [] = Unit {0}
 AllFit code (x ∷ xs) = code.Fits x × AllFit code xs
 
+-- these one behind the other
 abbrev pub spell_all : {A : Type 0} → Code A → List A → List ℕ
 spell_all code [] = []
 spell_all code (x ∷ xs) = code.spell x ++ spell_all code xs
@@ -168,6 +176,7 @@ listed_takes count code bytes xs rest is h =
     head.1 ∙ ap (λ (ys : List ℕ). count.spell m.0.0 ++ ys) body.2 ∙ sym (append_assoc (count.spell m.0.0) (spell_all code xs) rest) in
     subst (λ (k : ℕ). (count.Fits k × AllFit code xs) × (bytes ≡ (count.spell k ++ spell_all code xs) ++ rest)) (sym body.0) ((head.0, body.1), whole)
 
+-- | a list behind its count
 abbrev pub listed : {A : Type 0} → Code ℕ → Code A → Code (List A)
 listed count code = record {
   Fits = λ xs. count.Fits (length xs) × AllFit code xs;

@@ -21,7 +21,7 @@ use Rattle.ks_state.specs.declared.decision.Decision.TheVariants as decision
 abbrev pub with_kept : Front → ℕ → Front
 with_kept f count = record f { kept = count }
 
--- facts are asked for of a call after a front: what the first check of the plain machine's step lacks, by the facts that are known
+-- | facts are asked for of a call after a front: what the first check of the plain machine's step lacks, by the facts that are known
 pub record IsAsked (f : Front) (call : Call) (facts : FactsState) (needs : Needs) : Type 0 where
   pub lack : Lack
   pub names : Names needs lack

@@ -18,12 +18,12 @@ has_group domain people = is_id_of (λ row. row.id) (is_group_in domain) people.
 abbrev pub has_project : Id → TreeState → Id → Bool
 has_project domain tree = is_id_of (λ row. row.id) (lies_in domain) tree.projects
 
--- a trust of one of its users, or of one of its projects
+-- | a trust of one of its users, or of one of its projects
 abbrev pub is_touched : Id → TreeState → PeopleState → TrustRow → Bool
 is_touched domain tree people trust =
     has_user domain people trust.trustor || (has_user domain people trust.trustee || has_project domain tree trust.project)
 
--- these are the projects, users and groups of the domain
+-- | these are the projects, users and groups of the domain
 pub record AreOf (rows : DomainRows) (tree : TreeState) (people : PeopleState) : Type 0 where
   pub projects : rows.projects ≡ projects_of rows.domain tree
   pub users : rows.users ≡ users_of rows.domain people

@@ -1,3 +1,4 @@
+-- The identity of a server.
 pub mod Decides
 pub mod Deciding
 pub mod DomainRows

@@ -8,7 +8,7 @@ use Rattle.ks_machine.specs.declared.change.Entry.{Entry}
 use Rattle.ks_machine.specs.Changes.{events_at}
 use Rattle.ks_revoke.specs.Histories.{Kept}
 
--- what contracts see of a log
+-- | what contracts see of a log
 pub record Logged : Type 0 where
   -- the live revocations
   pub revoked : Kept
@@ -17,11 +17,11 @@ pub record Logged : Type 0 where
   -- how many changes were made
   pub made : ℕ
 
--- with so many more revocations no more are live than these, nor than may ever be
+-- | with so many more revocations no more are live than these, nor than may ever be
 abbrev pub is_room : ℕ → List EventRow → ℕ → Bool
 is_room most live more = (more == 0) || (nat_le (length live + more) most && nat_le (length live + more) EVENTS)
 
--- the log with one change more, and with what it revoked
+-- | the log with one change more, and with what it revoked
 abbrev pub written : List Revoke → Change → List EventRow → ℕ → Logged → Logged
 written things change marks room log = record {
   revoked = record log.revoked { events = log.revoked.events ++ events_at log.revoked.high things; marks = marks; room = room };

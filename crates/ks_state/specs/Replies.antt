@@ -14,7 +14,7 @@ use Rattle.ks_state.specs.declared.unmade.Unmade.TheVariants as unmade
 use Rattle.ks_state.specs.Shown.{HasRoom, Shown, changed, has_room}
 use Rattle.ks_state.specs.Standing.{Stands}
 
--- the reply is the machine's, and the identity stands for the front after the call; or there was no memory, and it stands for
+-- | the reply is the machine's, and the identity stands for the front after the call; or there was no memory, and it stands for
 -- the front at the call's moment, with no change
 abbrev pub IsReply : Front → Call → Reply → Shown → Type 0
 IsReply f call said new =
@@ -27,7 +27,7 @@ told_if (Ok _) told = reply.Ok told
 told_if (Err unmade.Full) told = reply.Refused (cause.Full kind.Event)
 told_if (Err unmade.Memory) told = reply.Refused cause.Memory
 
--- what was planned is told, and its change is made, if there is one; or there is no room for its revocations, or no memory, and
+-- | what was planned is told, and its change is made, if there is one; or there is no room for its revocations, or no memory, and
 -- then nothing changes
 abbrev pub CarriesOut : BodyOut → Option Change → ℕ → Shown → Reply → Shown → Type 0
 CarriesOut told None most old said new = (said ≡ reply.Ok told) × (new ≡ old)

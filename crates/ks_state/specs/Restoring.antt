@@ -20,15 +20,15 @@ unfoldable pub last_moment_in : ℕ → List Entry → ℕ
 last_moment_in moment [] = moment
 last_moment_in moment (entry ∷ entries) = last_moment_in entry.moment entries
 
--- what a restart goes on from: an opening and all changes that were kept
+-- | what a restart goes on from: an opening and all changes that were kept
 abbrev pub restored_front : PlainOpening → List Entry → Front
 restored_front opening entries = record { opening = opening; changes = entries; high = last_moment_in 0 entries; kept = length entries }
 
--- an entry can follow
+-- an entry can follow: its moment is not before the highest, and the front with it is lawful
 abbrev pub MayFollow : Front → Entry → Type 0
 MayFollow f entry = (f.high ≤ entry.moment) × IsLawful (redone f entry)
 
--- the entry with this number is the first that can't follow those before it
+-- | the entry with this number is the first that can't follow those before it
 pub record IsFirstUnfit (opening : PlainOpening) (entries : List Entry) (number : ℕ) : Type 0 where
   pub before : List Entry
   pub entry : Entry

@@ -1,1 +1,2 @@
+-- What commands ask for, and what rules see.
 pub mod Views

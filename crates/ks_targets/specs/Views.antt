@@ -18,7 +18,7 @@ requirements_of asked = record {
   lacks = option_copied asked.lacks;
 }
 
--- a rule alone
+-- | a rule alone
 abbrev pub asks_for : Text → machine.Requirements
 asks_for action = record { action = Some action; draws = false; loads = false; subject = false; late = false; lacks = None }
 

@@ -1,7 +1,9 @@
 -- Civil times of the Gregorian calendar in UTC, in the years 1970 to 9999, and the moments that they name.
+-- Source: the Gregorian calendar.
 use Rattle.std.specs.Prelude.{ℕ, zero, suc, ◌+◌, ◌-◌, ◌*◌, ◌/◌, ◌%◌, ◌<◌, Bool, true, false, not, ◌&&◌, ◌||◌, ◌==◌, nat_lt, if◌then◌else◌}
 use Rattle.std.specs.Int.{IsInRange}
 
+-- | a date of the Gregorian calendar from 1970 to 9999, with the time of a clock
 pub record Civil : Type 0 where
   pub year : ℕ
   pub month : ℕ
@@ -23,7 +25,7 @@ days_in_month y m =
     if m == 2 then (if is_leap_year y then 29 else 28)
     else (if (m == 4) || (m == 6) || (m == 9) || (m == 11) then 30 else 31)
 
--- the calendar has this date, and a clock shows this time; no minute has a leap second
+-- | the calendar has this date, and a clock shows this time; no minute has a leap second
 pub record IsCivil (c : Civil) : Type 0 where
   pub year : IsInRange 1970 9999 c.year
   pub month : IsInRange 1 12 c.month
@@ -46,7 +48,7 @@ days_of_months y (suc n) = days_of_months y n + days_in_month y (suc n)
 abbrev pub days_before : Civil → ℕ
 days_before c = days_of_years (c.year - 1970) + days_of_months c.year (c.month - 1) + (c.day - 1)
 
--- the seconds from 1970-01-01T00:00:00Z to a civil time
+-- | the seconds from 1970-01-01T00:00:00Z to a civil time
 abbrev pub moment_of : Civil → ℕ
 moment_of c = days_before c * 86_400 + c.hour * 3_600 + c.minute * 60 + c.second
 
@@ -86,7 +88,7 @@ civil_from years months second = record {
   second = second % 3_600 % 60;
 }
 
--- the civil time at a moment, for moments before the year 10000
+-- | the civil time at a moment, for moments before the year 10000
 unfoldable pub civil_at : ℕ → Civil
 civil_at moment =
     let years : Walk = walk_years 8_029 0 (moment / 86_400) in

@@ -1,3 +1,4 @@
+-- Moments as texts.
 pub mod Calendar
 pub mod TimeTexts
 pub mod Laws

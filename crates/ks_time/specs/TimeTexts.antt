@@ -1,4 +1,5 @@
 -- The texts of moments, as the Identity API v3 writes them: `YYYY-MM-DDTHH:MM:SS.ffffffZ`.
+-- Source: Identity API v3; RFC 3339, 5.6, narrowed.
 use Rattle.std.specs.Prelude.{◌≡◌, ℕ, ◌+◌, ◌/◌, ◌%◌, Bool, true, ◌&&◌, ◌==◌, IsTrue, List, [], ◌∷◌, ◌++◌, length, codes}
 use Rattle.std.specs.Int.{is_in_range}
 use Rattle.std.specs.Char.{is_ascii_digit}
@@ -33,7 +34,7 @@ abbrev pub is_fraction : List ℕ → Bool
 is_fraction [] = true
 is_fraction (point ∷ digits) = (point == 46) && is_in_range 1 6 (length digits) && list_all is_ascii_digit digits
 
--- the one text that is written for a moment
+-- the one text that is written for a moment, with `.000000Z`
 abbrev pub IsWritten : ℕ → List ℕ → Type 0
 IsWritten moment text = (civil : List ℕ) × IsCivilText civil moment × (text ≡ civil ++ codes ".000000Z")
 
@@ -42,7 +43,7 @@ unfoldable pub time_text : ℕ → List ℕ
 time_text moment =
     let civil : Civil = civil_at moment in (date_text civil ++ codes "T" ++ clock_text civil) ++ codes ".000000Z"
 
--- a text that names a moment, to the second
+-- a text that names a moment, to the second: its fraction is left out
 abbrev pub IsTimeText : List ℕ → ℕ → Type 0
 IsTimeText text moment =
     (civil : List ℕ) × (fraction : List ℕ) × IsCivilText civil moment × IsTrue (is_fraction fraction)

@@ -1,2 +1,3 @@
+-- When a token is valid.
 pub mod ValidTokens
 pub mod Laws

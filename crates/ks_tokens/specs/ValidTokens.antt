@@ -1,4 +1,6 @@
 -- When a text is a valid token, as a relation: nothing of it is a list that is computed.
+-- Source: Fernet specification; Keystone's guide to Fernet keys; Identity API v3, tokens, role assignments and application credentials;
+-- OS-TRUST; OS-REVOKE.
 use Rattle.std.specs.Prelude.{◌≡◌, ◌↔◌, ℕ, ◌+◌, ◌<◌, ◌≤◌, Bool, true, false, List, ◌∷◌, ◌++◌, Option, Some, None}
 use Rattle.std.specs.List.{AllByRecursion}
 use Rattle.ks_base.specs.declared.app_creds.AppCredRow.{AppCredRow}
@@ -20,7 +22,7 @@ use Rattle.ks_payload.specs.declared.payload.Payload.{Payload}
 use Rattle.ks_payload.specs.Readings.{payload_of}
 use Rattle.ks_ring.specs.declared.held_key.HeldKey.{HeldKey}
 
--- a held key opens the text, of which those before it in the ring's order make nothing: it was sealed at this time, over these bytes
+-- | a held key opens the text, of which those before it in the ring's order make nothing: it was sealed at this time, over these bytes
 pub record IsOpened (keys : List HeldKey) (text : Text) (issued : ℕ) (plain : List ℕ) : Type 0 where
   pub before : List HeldKey
   pub held : HeldKey
@@ -29,7 +31,7 @@ pub record IsOpened (keys : List HeldKey) (text : Text) (issued : ℕ) (plain : 
   pub none_before : AllByRecursion (λ key. open_of key.key text ≡ No) before
   pub opens : open_of held.key text ≡ Yes issued plain
 
--- a role of a token, by its trust, its application credential, its project and its domain: one that the roles of the trust or of the
+-- | a role of a token, by its trust, its application credential, its project and its domain: one that the roles of the trust or of the
 -- credential imply, or one that is effective for its user at its scope
 abbrev pub IsRoleBy : Rows → Payload → Option Id → Option Id → Option Id → Option Id → Id → Type 0
 IsRoleBy rows payload (Some trust) credential project domain role =
@@ -43,7 +45,7 @@ IsRoleBy rows payload None None None None role = (is_system payload ≡ true) ×
 abbrev pub IsRole : Rows → Payload → Id → Type 0
 IsRole rows payload role = IsRoleBy rows payload payload.trust payload.credential payload.project payload.domain role
 
--- these are its roles, in their order; there is one where it has a scope, each is still effective for the first trustor of its trust, and
+-- | these are its roles, in their order; there is one where it has a scope, each is still effective for the first trustor of its trust, and
 -- each that the roles of its application credential imply is still effective for the credential's user
 pub record HasRoles (rows : Rows) (payload : Payload) (roles : List Id) : Type 0 where
   pub order : IsAscending id_cmp (λ id. id) roles
@@ -54,7 +56,8 @@ pub record HasRoles (rows : Rows) (payload : Payload) (roles : List Id) : Type 0
   pub had : (id : Id) (cred : AppCredRow) (role : Id) → payload.credential ≡ Some id → cred_of id rows.app_creds ≡ Some cred
       → IsImplied rows.implications cred.roles role → Effective rows cred.user (target.Project cred.project) role
 
--- the text is a valid token in this state; `late` says whether the request allows an expired one
+-- | the text is a valid token in this state: opened by a held key to its payload, in time, matched by no event of the whole history, with a
+-- user, a scope, a trust, an application credential and roles that hold; `late` says whether the request allows an expired one
 pub record IsValid (S : State) (moment : ℕ) (late : Bool) (text : Text) (token : Valid) : Type 0 where
   pub plain : List ℕ
   pub opened : IsOpened S.ring.held text token.issued plain

@@ -5,7 +5,8 @@ use Rattle.ks_commands.specs.declared.fault.Fault.TheVariants as fault
 use Rattle.ks_commands.specs.KeyFolders.{HasBegun}
 use Rattle.ks_drill.specs.Drill.{IsDrill}
 
--- its line, with its line feed, is written behind what was there before, after a fault of the output a front of it, and for want of memory nothing
+-- how a drill ends: its line, with its line feed, is written behind what was there before, after a fault of the output a front of it, and
+-- for want of memory nothing
 abbrev pub EndsDrill : ℕ → ℕ → List ℕ → Option (List ℕ) → Result (Unit {0}) Fault → Type 0
 EndsDrill start count before written (Ok done) = (line : List ℕ) × IsDrill start count line × (written ≡ Some (before ++ line))
 EndsDrill start count before written (Err fault.Write) = (line : List ℕ) × IsDrill start count line × HasBegun line before written
@@ -23,7 +24,7 @@ EndsDrill start count before written (Err fault.Folder) = ⊥
 EndsDrill start count before written (Err (fault.Keys reason)) = ⊥
 EndsDrill start count before written (Err fault.Desk) = ⊥
 
--- its faults, told or not
+-- the faults of a drill, told or not
 abbrev pub IsDrillFault : Fault → Type 0
 IsDrillFault fault.Write = Unit {0}
 IsDrillFault fault.Memory = Unit {0}

@@ -25,7 +25,7 @@ use Rattle.ks_top.specs.Serve.{serving}
 use Rattle.ks_top.specs.World.{World, link_of}
 use Rattle.ks_turn.specs.Sums.{below, times}
 
--- a worker: its desk and folder at first and at the end, and the connections that it served, each with its link as it came and as it went
+-- | a worker: its desk and folder at first and at the end, and the connections that it served, each with its link as it came and as it went
 pub record Worker (Link : Type 0) : Type 0 where
   pub before : Place Link
   pub after : Place Link
@@ -34,7 +34,8 @@ pub record Worker (Link : Type 0) : Type 0 where
 abbrev pub exchanges_by : {Link : Type 0} → List (Worker Link) → List Exchange
 exchanges_by workers = flat_map (λ w. exchanges_of w.connections) workers
 
--- a worker served its connections one after the other, from what was seen at first
+-- | a worker served its connections one after the other, from what was seen at first: its exchanges are tied to its desk and folder and in
+-- the order of the journal, and what was written on each link is the plain machine's reply at its receipt
 pub record TellsOf {Link : Type 0} (first journal : Front) (w : Worker Link) : Type 0 where
   -- each exchange asks what its request says; its receipt, its reading and its random bytes are its desk's, and its keys its folder's
   pub tied : Tied w.before.desk w.after.desk w.before.dir w.after.dir (exchanges_of w.connections)
@@ -44,7 +45,7 @@ pub record TellsOf {Link : Type 0} (first journal : Front) (w : Worker Link) : T
   -- what was written on its link is the plain machine's reply after that front
   pub told : AreVisited (λ link. link) journal 0 w.connections
 
--- the links of `serve` came from the desk in their order, and went back to it
+-- | the links of `serve` came from the desk in their order, and went back to it
 pub record HasLinks {Link : Type 0} (stream : Link → StreamState) (w : Worker Link) : Type 0 where
   pub came : List Link
   pub went : List Link
@@ -52,17 +53,21 @@ pub record HasLinks {Link : Type 0} (stream : Link → StreamState) (w : Worker 
   pub coming : (links : List Link) → w.before.desk.coming ≡ Some links → (rest : List Link) × (links ≡ came ++ rest) × (w.after.desk.coming ≡ Some rest)
   pub returned : Appends went w.before.desk.returned w.after.desk.returned
 
--- the one link of `talk` is over the input and the output; there was no other, and none where there was no memory to serve it
+-- | the one link of `talk` is over the input and the output; there was no other, and none where there was no memory to serve it
 abbrev pub HasEnds : {Link Seat K : Type 0} → World Link Seat K → World Link Seat K → Option Fault → Worker Link → Type 0
 HasEnds old new f w =
     ((accepted_of w.connections ≡ link_of old ∷ []) × (returned_of w.connections ≡ link_of new ∷ []))
     ⊎ ((w.connections ≡ []) × (f ≡ Some fault.Memory))
 
--- by its words the program serves with its first desk alone, or with so many, each with a worker of its own
+-- | by its words the program serves with its first desk alone, or with so many, each with a worker of its own
 pub data AreWorkers {Link Seat K : Type 0} (view : Seat → Place Link) (stream : Link → StreamState) (old new : World Link Seat K) (f : Option Fault) (workers : List (Worker Link)) : ℕ → Words → Type 0 where
   talks : (places : Places) → AllByRecursion (HasEnds old new f) workers → AreWorkers view stream old new f workers 1 (asked.Talk places)
   serves : (places : Places) (connections : ℕ) → AllByRecursion (HasLinks stream) workers → AreWorkers view stream old new f workers places.workers (asked.Serve places connections)
 
+-- | wherever the program opened an identity: it began with the opening of the file, the folder and the bytes of the first desk, or with all
+-- that its keeper held; there is one journal, which goes on from there and for which the identity with its keeper stands at the end; each
+-- change behind that is one exchange's, and its highest moment is the first one or some call's reading; each desk that served had a worker,
+-- who told its clients of it
 pub record Headline {Link Seat K : Type 0} (keeping : Keeping K) (view : Seat → Place Link) (stream : Link → StreamState) (what : Words) (old new : World Link Seat K) (f : Option Fault) (state : BookedState K) : Type 0 where
   pub first : Front
   pub desk : DeskState Link

@@ -24,14 +24,15 @@ use Rattle.ks_top.specs.World.{World}
 abbrev pub HasNoHeader : {Link Seat K : Type 0} → Keeping K → World Link Seat K → World Link Seat K → Type 0
 HasNoHeader keeping old new = keeping.whole new.keeper → (keeping.kept old.keeper).header ≡ None
 
--- a server begins with the opening of its file, before any change; its keeper had no header
+-- | a server begins with the opening of its file, before any change; its keeper had no header
 pub record BeginsAnew {Link Seat K : Type 0} (keeping : Keeping K) (old new : World Link Seat K) (desk : DeskState Link) (first : Front) : Type 0 where
   pub opening : PlainOpening
   pub opened : IsOpening old.file old.dir old.desk desk opening
   pub is_first : first ≡ first_front opening
   pub no_header : HasNoHeader keeping old new
 
--- a server goes on from what its keeper holds: the opening that its header gives, and all its entries; the folder and the desk are left alone
+-- | a server goes on from what its keeper holds: the opening that its header gives, and all its entries; the folder and the desk are left
+-- alone
 pub record GoesOn {Link Seat K : Type 0} (keeping : Keeping K) (old new : World Link Seat K) (desk : DeskState Link) (first : Front) : Type 0 where
   pub header : Header
   pub opening : PlainOpening
@@ -43,11 +44,11 @@ pub record GoesOn {Link Seat K : Type 0} (keeping : Keeping K) (old new : World 
   pub same_desk : desk ≡ old.desk
   pub folder : new.dir ≡ old.dir
 
--- the front that a server begins with, behind which the first desk was this
+-- | the front that a server begins with, behind which the first desk was this
 abbrev pub Begins : {Link Seat K : Type 0} → Keeping K → World Link Seat K → World Link Seat K → DeskState Link → Front → Type 0
 Begins keeping old new desk first = BeginsAnew keeping old new desk first ⊎ GoesOn keeping old new desk first
 
--- an identity was opened, and then this was done, from the front with which it began and with the first desk as that left it
+-- | an identity was opened, and then this was done, from the front with which it began and with the first desk as that left it
 pub record Opened {Link Seat K : Type 0} (keeping : Keeping K) (Done : Front → DeskState Link → Type 0) (old new : World Link Seat K) : Type 0 where
   pub first : Front
   pub desk : DeskState Link
@@ -67,8 +68,8 @@ pub record StopsGiven {Link Seat K : Type 0} (keeping : Keeping K) (old new : Wo
   pub desk : new.desk ≡ old.desk
   pub folder : new.dir ≡ old.dir
 
--- a server does not begin, for this: its header could not be read, or there is none and its file is refused, or it is another's, or what it
--- gives is refused. Whatever the header is, the form of the file may be refused
+-- | a server does not begin, for this: its header could not be read, or there is none and its file is refused, or it is another's, or what
+-- it gives is refused. Whatever the header is, the form of the file may be refused
 pub data Stops {Link Seat K : Type 0} (keeping : Keeping K) (old new : World Link Seat K) : Fault → Type 0 where
   unread : new.desk ≡ old.desk → Stops keeping old new (fault.Keeper None)
   unformed : (reason : ShapeFault) → RefusesForm old.file reason → new.desk ≡ old.desk → Stops keeping old new (fault.Opening (refusal.Shape reason))
@@ -86,12 +87,12 @@ pub record HasPut {Link Seat K : Type 0} (keeping : Keeping K) (old new : World 
   pub header : HasHeader (keeping.kept new.keeper) opening
   pub entries : (keeping.kept new.keeper).entries ≡ (keeping.kept old.keeper).entries
 
--- a keeper holds what it held; or the call that was to put its header failed, and put it all the same
+-- | a keeper holds what it held; or the call that was to put its header failed, and put it all the same
 abbrev pub StaysKept : {Link Seat K : Type 0} → Keeping K → World Link Seat K → World Link Seat K → Fault → Type 0
 StaysKept keeping old new f =
     (keeping.kept new.keeper ≡ keeping.kept old.keeper) ⊎ (((f ≡ fault.Keeper None) ⊎ (f ≡ fault.Memory)) × HasPut keeping old new)
 
--- no identity was opened, for this fault; nothing was read of the input, nothing written, and nothing served
+-- | no identity was opened, for this fault; nothing was read of the input, nothing written, and nothing served
 pub record Stopped {Link Seat K : Type 0} (keeping : Keeping K) (old new : World Link Seat K) (f : Fault) : Type 0 where
   pub stops : Stops keeping old new f
   pub file : OnlyReads (f ≡ fault.Read) old.file new.file
@@ -102,13 +103,13 @@ pub record Stopped {Link Seat K : Type 0} (keeping : Keeping K) (old new : World
   pub kept : keeping.whole new.keeper → StaysKept keeping old new f
   pub others : new ≡ record old { file = new.file; dir = new.dir; desk = new.desk; keeper = new.keeper }
 
--- an identity was opened and then this was done, and the keeper is the one beside it; or none was
+-- | an identity was opened and then this was done, and the keeper is the one beside it; or none was
 abbrev pub OpensThen : {Link Seat K : Type 0} → Keeping K → (Front → DeskState Link → BookedState K → Type 0) → World Link Seat K → World Link Seat K → Option Fault → Option (BookedState K) → Type 0
 OpensThen keeping Done old new (Some f) None = Stopped keeping old new f
 OpensThen keeping Done old new None None = ⊥
 OpensThen keeping Done old new f (Some state) = (new.keeper ≡ state.keeper) × Opened keeping (λ first desk. Done first desk state) old new
 
--- there was no memory to serve: the identity is as it began, and nothing was read, written or served
+-- | there was no memory to serve: the identity is as it began, and nothing was read, written or served
 pub record HadNoRoom {Link Seat K : Type 0} (keeping : Keeping K) (old new : World Link Seat K) (first : Front) (opened : DeskState Link) (f : Option Fault) (state : BookedState K) : Type 0 where
   pub memory : f ≡ Some fault.Memory
   pub stands : StandsBooked keeping state first

@@ -1,4 +1,5 @@
 -- What holds of every run: its end where nothing outside failed, the faults of its desks, and what determines its changes and replies.
+-- Source: own; Identity API v3, revoke token; OS-REVOKE.
 use Rattle.std.specs.Prelude.{◌≡◌, ◌≢◌, ◌⊎◌, ℕ, ◌≤◌, false, List, [], ◌∷◌, length, map, take, Option, Some, None}
 use Rattle.std.specs.List.{AllZip}
 use Rattle.ks_base.specs.declared.faults.KeysFault.TheVariants as keys
@@ -45,7 +46,7 @@ StoodStill before after = Rose before after → ⊥
 abbrev pub places_of : {Link Seat K : Type 0} → (Seat → Place Link) → World Link Seat K → List (Place Link)
 places_of view world = record { desk = world.desk; dir = world.place } ∷ map view world.others
 
--- nothing outside failed: no count of faults rose
+-- | nothing outside failed: no count of faults rose
 pub record NothingFailed {Link Seat K : Type 0} (keeping : Keeping K) (view : Seat → Place Link) (old new : World Link Seat K) : Type 0 where
   pub input : StoodStill old.input.read_faults new.input.read_faults
   pub file : StoodStill old.file.read_faults new.file.read_faults
@@ -56,7 +57,7 @@ pub record NothingFailed {Link Seat K : Type 0} (keeping : Keeping K) (view : Se
   -- of the accepts of each desk
   pub accepts : AllZip (λ (before after : Place Link). StoodStill before.desk.accept_faults after.desk.accept_faults) (places_of view old) (places_of view new)
 
--- the words or what was read is refused
+-- | the words or what was read is refused
 abbrev pub IsRefusal : Fault → Type 0
 IsRefusal fault.Usage = Unit {0}
 IsRefusal fault.BadPassword = Unit {0}
@@ -87,19 +88,19 @@ IsRefusal (fault.Keeper why) = ⊥
 abbrev pub IsUnkept : Fault → Type 0
 IsUnkept f = (why : KeeperFailed) × (f ≡ fault.Keeper (Some why))
 
--- a command ended whole, or for want of memory, or by a refusal, or since changes could not be kept
+-- | a command ended whole, or for want of memory, or by a refusal, or since changes could not be kept
 abbrev pub EndsUnfailed : Option Fault → Type 0
 EndsUnfailed None = Unit {0}
 EndsUnfailed (Some f) = (f ≡ fault.Memory) ⊎ (IsRefusal f ⊎ IsUnkept f)
 
--- where nothing outside failed, a command ends so
+-- law: where nothing outside failed, a command ends so
 abbrev pub CommandsComplete : (Link Seat : Type 0) {K : Type 0} → Keeping K → Type 0
 CommandsComplete Link Seat {K} keeping =
     (view : Seat → Place Link) (stream : Link → StreamState) (words : List (List ℕ)) (old new : World Link Seat K) (f : Option Fault) (state : Option (BookedState K))
     → Runs keeping view stream words old new f state → NothingFailed keeping view old new → EndsUnfailed f
 
--- a connection ended with its input, with a request or bytes that end it, for want of memory, or since changes could not be kept, or it rests
--- between two requests
+-- | a connection ended with its input, with a request or bytes that end it, for want of memory, or since changes could not be kept, or it
+-- rests between two requests
 abbrev pub IsUnfailed : Closed KeeperFailed → Type 0
 IsUnfailed closed.End = Unit {0}
 IsUnfailed closed.Asked = Unit {0}
@@ -111,13 +112,13 @@ IsUnfailed closed.ReadFault = ⊥
 IsUnfailed closed.WriteFault = ⊥
 IsUnfailed (closed.KeeperFault why) = Unit {0}
 
--- where no read and no write of its link failed, a connection of `talk` or of `serve` ended so; none of a talk rests (`Talked`)
+-- law: where no read and no write of its link failed, a connection of `talk` or of `serve` ended so; none of a talk rests (`Talked`)
 abbrev pub ConnectionsComplete : Type 0
 ConnectionsComplete =
     (journal : Front) (number : ℕ) (visit : Visit KeeperFailed StreamState) → IsVisited (λ link. link) journal number visit
     → StoodStill visit.accepted.read_faults visit.returned.read_faults → StoodStill visit.accepted.write_faults visit.returned.write_faults → IsUnfailed visit.why
 
--- an accept of some desk failed
+-- | an accept of some desk failed
 abbrev pub SomeAcceptRose : {Link : Type 0} → List (Place Link) → List (Place Link) → Type 0
 SomeAcceptRose [] news = ⊥
 SomeAcceptRose (old ∷ olds) [] = ⊥
@@ -135,7 +136,7 @@ DeskFaultsAreCounted Link Seat {K} keeping =
 
 -- what determines a run
 
--- two connections had the same bytes to read, and their exchanges have the same receipts; what was written on each before is told
+-- | two connections had the same bytes to read, and their exchanges have the same receipts; what was written on each before is told
 pub record SameBytes (v w : Visit KeeperFailed StreamState) : Type 0 where
   pub bytes : List ℕ
   pub told : (v.accepted.left ≡ Some bytes) × (w.accepted.left ≡ Some bytes)
@@ -143,7 +144,7 @@ pub record SameBytes (v w : Visit KeeperFailed StreamState) : Type 0 where
   pub written_too : (before : List ℕ) × (w.accepted.written ≡ Some before)
   pub receipts : receipts_of v.exchanges ≡ receipts_of w.exchanges
 
--- two workers had such connections one after the other, the same readings of their clocks, and folders that hold the same
+-- | two workers had such connections one after the other, the same readings of their clocks, and folders that hold the same
 pub record TellsAlike {Link : Type 0} (v w : Worker Link) : Type 0 where
   pub links : AllZip SameBytes v.connections w.connections
   pub readings : List ℕ
@@ -151,8 +152,8 @@ pub record TellsAlike {Link : Type 0} (v w : Worker Link) : Type 0 where
   pub files : List KeyFile
   pub held : (v.before.dir.files ≡ Some files) × (w.before.dir.files ≡ Some files)
 
--- two runs that began alike, and whose workers had the same bytes, receipts, readings and folders, have made the same changes: what was
--- outside, and the places that the receipts name, determine them
+-- law: two runs that began alike, and whose workers had the same bytes, receipts, readings and folders, have made the same changes: what
+-- was outside, and the places that the receipts name, determine them
 abbrev pub ChangesAreDetermined : (Link Seat : Type 0) {K : Type 0} → Keeping K → Type 0
 ChangesAreDetermined Link Seat {K} keeping =
     (view : Seat → Place Link) (stream : Link → StreamState) (what what_too : Words) (old new old_too new_too : World Link Seat K) (f f_too : Option Fault) (state state_too : BookedState K)
@@ -161,12 +162,12 @@ ChangesAreDetermined Link Seat {K} keeping =
 
 -- requests
 
--- the checks of a call at a front, and what it gives where all pass
+-- | the checks of a call at a front, and what it gives where all pass
 abbrev pub checked_at : Front → Call → Attempt Cause Outcome
 checked_at front call = let moment = moment_of front.high call.reading in checked everything (raised (replay front) moment) moment call
 
--- where all checks of a call pass at its front, which needs room in the tables, an id that is free, and that no draw and no folder failed, the
--- exchange has the Ok reply of that call; and it makes the call's change unless there was no memory for it
+-- law: where all checks of a call pass at its front, which needs room in the tables, an id that is free, and that no draw and no folder
+-- failed, the exchange has the Ok reply of that call; and it makes the call's change unless there was no memory for it
 abbrev pub RequestsComplete : Type 0
 RequestsComplete =
     (journal : Front) (x : Exchange) (call : Call) (outcome : Outcome) → x.asked ≡ calls call → checked_at (cut_at journal x.receipt) call ≡ Go outcome
@@ -174,20 +175,20 @@ RequestsComplete =
 
 -- tokens that were ended
 
--- an exchange ended this token: it was asked to revoke the token of its subject, did so, and there was memory for it
+-- | an exchange ended this token: it was asked to revoke the token of its subject, did so, and there was memory for it
 pub record EndsToken (journal : Front) (x : Exchange) (token : Valid) : Type 0 where
   pub call : Call
   pub asked : x.asked ≡ calls call
   pub decided : x.receipt.memory ≡ false
   pub ended : HasEnded (cut_at journal x.receipt) call token
 
--- an exchange has seen this one, and asks about this token
+-- | an exchange has seen this one, and asks about this token
 pub record AsksLater (journal : Front) (x y : Exchange) (call : Call) (token : Valid) : Type 0 where
   pub asked : y.asked ≡ calls call
   pub seen : front_after journal x ⊑ cut_at journal y.receipt
   pub about : AsksFor (cut_at journal y.receipt) call token
 
--- such an exchange of a run is not answered Ok; where its caller's own token is valid, it is refused for its subject's (404)
+-- law: such an exchange of a run is not answered Ok; where its caller's own token is valid, it is refused for its subject's (404)
 abbrev pub RefusedEverAfter : (Link Seat : Type 0) {K : Type 0} → Keeping K → Type 0
 RefusedEverAfter Link Seat {K} keeping =
     (view : Seat → Place Link) (stream : Link → StreamState) (what : Words) (old new : World Link Seat K) (f : Option Fault) (state : BookedState K)
@@ -198,7 +199,7 @@ RefusedEverAfter Link Seat {K} keeping =
 
 -- what is kept
 
--- each change that a response can show which was written stands with the keeper at the end of the run, and so does each before it
+-- law: each change that a response can show which was written stands with the keeper at the end of the run, and so does each before it
 abbrev pub ToldIsKept : (Link Seat : Type 0) {K : Type 0} → Keeping K → Type 0
 ToldIsKept Link Seat {K} keeping =
     (view : Seat → Place Link) (stream : Link → StreamState) (what : Words) (old new : World Link Seat K) (f : Option Fault) (state : BookedState K)
@@ -206,7 +207,7 @@ ToldIsKept Link Seat {K} keeping =
     → x.asked ≡ calls call → IsTold run.journal x → keeping.whole new.keeper
     → Stand (keeping.kept new.keeper).entries 0 (take (length (front_after run.journal x).changes) run.journal.changes)
 
--- a run that finds with its keeper what another left there, which nobody else wrote, goes on from its journal: it has the first of its
+-- law: a run that finds with its keeper what another left there, which nobody else wrote, goes on from its journal: it has the first of its
 -- changes, those at least that count as kept, and so each that a response could show; and the one header gives the opening of both
 abbrev pub RestartForgetsNothing : (Link Seat : Type 0) {K : Type 0} → Keeping K → Type 0
 RestartForgetsNothing Link Seat {K} keeping =

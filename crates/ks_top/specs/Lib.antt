@@ -1,3 +1,5 @@
+-- The program.
+
 -- What the public contracts mean, in the order in which it is read: what `talk` and `serve` do behind an opening; how a drill
 -- ends; what the program does by its words; what holds wherever it opened an identity; and what holds of every run. Of `steps` only private
 -- clauses speak.

@@ -21,7 +21,7 @@ use Rattle.ks_top.specs.Serve.{Serves}
 use Rattle.ks_top.specs.Talk.{Talks}
 use Rattle.ks_top.specs.World.{World}
 
--- a check reads its input and writes its output, and touches nothing else
+-- | a check reads its input and writes its output, and touches nothing else
 pub record Checks {Link Seat K : Type 0} (old new : World Link Seat K) (f : Option Fault) : Type 0 where
   pub told : (text before : List ℕ) → old.input.left ≡ Some text → old.output.written ≡ Some before
       → EndsCheck text before new.input.left new.output.written (result_of f)
@@ -34,7 +34,7 @@ pub record Checks {Link Seat K : Type 0} (old new : World Link Seat K) (f : Opti
 abbrev pub outside : {Link Seat K : Type 0} → World Link Seat K → Outside
 outside world = record { random = world.desk.random; files = world.dir.files; written = world.output.written }
 
--- a command on keys draws from the desk, changes the folder and writes its output, and touches nothing else
+-- | a command on keys draws from the desk, changes the folder and writes its output, and touches nothing else
 pub record ChangesKeys {Link Seat K : Type 0} (old new : World Link Seat K) (f : Option Fault) : Type 0 where
   pub causes : IfSome f IsFolderFault
   pub folder : Counts (f ≡ Some fault.Folder) old.dir.faults new.dir.faults
@@ -43,6 +43,7 @@ pub record ChangesKeys {Link Seat K : Type 0} (old new : World Link Seat K) (f :
   pub desk : OnlyDraws old.desk new.desk
   pub others : new ≡ record old { output = new.output; dir = new.dir; desk = new.desk }
 
+-- | a setup of the folder
 pub record SetsUp {Link Seat K : Type 0} (old new : World Link Seat K) (f : Option Fault) : Type 0 where
   pub told : (random before : List ℕ) (files : List KeyFile) → old.desk.random ≡ Some random → old.dir.files ≡ Some files → old.output.written ≡ Some before
       → EndsSetup random files before (outside new) (result_of f)
@@ -50,13 +51,14 @@ pub record SetsUp {Link Seat K : Type 0} (old new : World Link Seat K) (f : Opti
   -- all its bytes at once
   pub fills : Makes (desk_call.Fill 64 ∷ []) old.desk.calls new.desk.calls
 
+-- | a rotation of it
 pub record Rotates {Link Seat K : Type 0} (max : ℕ) (old new : World Link Seat K) (f : Option Fault) : Type 0 where
   pub told : (random before : List ℕ) (files : List KeyFile) → old.desk.random ≡ Some random → old.dir.files ≡ Some files → old.output.written ≡ Some before
       → EndsRotation max random files before (outside new) (result_of f)
   pub changes : ChangesKeys old new f
   pub fills : Makes (desk_call.Fill 32 ∷ []) old.desk.calls new.desk.calls
 
--- the record of a password: its input is read and its output written, the desk gives 16 bytes at most, and nothing else is touched
+-- | the record of a password: its input is read and its output written, the desk gives 16 bytes at most, and nothing else is touched
 pub record MakesRecord {Link Seat K : Type 0} (rounds : ℕ) (old new : World Link Seat K) (f : Option Fault) : Type 0 where
   pub told : (text before : List ℕ) → old.input.left ≡ Some text → old.output.written ≡ Some before
       → EndsPassword rounds text before old.desk new.desk new.output.written (result_of f)
@@ -68,14 +70,14 @@ pub record MakesRecord {Link Seat K : Type 0} (rounds : ℕ) (old new : World Li
   pub writes : OnlyWrites (f ≡ Some fault.Write) old.output new.output
   pub others : new ≡ record old { input = new.input; output = new.output; desk = new.desk }
 
--- a drill writes its output, and touches nothing else
+-- | a drill writes its output, and touches nothing else
 pub record Drills {Link Seat K : Type 0} (start count : ℕ) (old new : World Link Seat K) (f : Option Fault) : Type 0 where
   pub told : (before : List ℕ) → old.output.written ≡ Some before → EndsDrill start count before new.output.written (result_of f)
   pub causes : IfSome f IsDrillFault
   pub writes : OnlyWrites (f ≡ Some fault.Write) old.output new.output
   pub others : new ≡ record old { output = new.output }
 
--- a command does this, and `talk` and `serve` alone have an identity at their end and touch the keeper
+-- | what each command does to what the program stands over: `talk` and `serve` alone have an identity at their end and touch the keeper
 unfoldable pub Does : {Link Seat K : Type 0} → Keeping K → (Seat → Place Link) → (Link → StreamState) → Words → World Link Seat K → World Link Seat K → Option Fault → Option (BookedState K) → Type 0
 Does keeping view stream asked.Check old new f state = Checks old new f × (state ≡ None)
 Does keeping view stream (asked.Talk places) old new f state = Talks keeping old new f state
@@ -86,10 +88,10 @@ Does keeping view stream (asked.Password rounds) old new f state = MakesRecord r
 Does keeping view stream (asked.Drill start count) old new f state = Drills start count old new f × (state ≡ None)
 Does keeping view stream asked.Usage old new f state = (f ≡ Some fault.Usage) × (new ≡ old) × (state ≡ None)
 
--- there was no memory to read the words: nothing happened
+-- | there was no memory to read the words: nothing happened
 abbrev pub HasNotBegun : {Link Seat K : Type 0} → World Link Seat K → World Link Seat K → Option Fault → Option (BookedState K) → Type 0
 HasNotBegun old new f state = (f ≡ Some fault.Memory) × (new ≡ old) × (state ≡ None)
 
--- the program does what its words say, or there was no memory to read them; this is what the keeper, the other desks and the links tell
+-- | the program does what its words say, or there was no memory to read them; this is what the keeper, the other desks and the links tell
 unfoldable pub Runs : {Link Seat K : Type 0} → Keeping K → (Seat → Place Link) → (Link → StreamState) → List (List ℕ) → World Link Seat K → World Link Seat K → Option Fault → Option (BookedState K) → Type 0
 Runs keeping view stream words old new f state = Does keeping view stream (words_of words) old new f state ⊎ HasNotBegun old new f state

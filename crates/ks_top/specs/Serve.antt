@@ -18,11 +18,11 @@ use Rattle.ks_top.specs.Identities.{HadNoRoom, OpensThen}
 use Rattle.ks_top.specs.World.{World}
 use Rattle.ks_turn.specs.Sums.{below, times}
 
--- the desks that so many workers serve, the first of which is this: as many as there are, at most
+-- | the desks that so many workers serve, the first of which is this: as many as there are, at most
 abbrev pub serving : {Link Seat : Type 0} → (Seat → Place Link) → ℕ → DeskState Link → DirState → List Seat → List (Place Link)
 serving view workers desk place others = record { desk = desk; dir = place } ∷ map view (take (workers - 1) others)
 
--- the fault that is told of the workers, by the first fault of keeping changes and by whether an accept failed
+-- | the fault that is told of the workers, by the first fault of keeping changes and by whether an accept failed
 abbrev pub workers_fault : Option KeeperFailed → Bool → Option Fault
 workers_fault (Some why) failed = Some (fault.Keeper (Some why))
 workers_fault None true = Some fault.Desk
@@ -54,6 +54,10 @@ abbrev pub Served : {Link Seat K : Type 0} → Keeping K → (Seat → Place Lin
 Served keeping view stream workers connections old new f first opened state =
     ServedDesks keeping view stream workers connections old new f first opened state ⊎ HadNoRoom keeping old new first opened f state
 
--- what `serve` does
+-- | what `serve` does behind its opening: it served with as many desks as there are workers, or with all where they are fewer, and left the
+-- others as they were: each by a worker of its own, whose exchanges are in order from the front with which it began to the one journal for
+-- which the identity with its keeper stands; each change behind that front is one exchange's; the highest moment is that front's or some
+-- call's reading, and no decided call has a later one; it ends by the first fault of keeping changes, else by a fault of the desks exactly
+-- where an accept failed
 abbrev pub Serves : {Link Seat K : Type 0} → Keeping K → (Seat → Place Link) → (Link → StreamState) → ℕ → ℕ → World Link Seat K → World Link Seat K → Option Fault → Option (BookedState K) → Type 0
 Serves keeping view stream workers connections old new f state = OpensThen keeping (Served keeping view stream workers connections old new f) old new f state

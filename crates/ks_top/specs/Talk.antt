@@ -19,7 +19,7 @@ use Rattle.ks_top.specs.Identities.{HadNoRoom, OpensThen}
 use Rattle.ks_top.specs.World.{World}
 use Rattle.ks_turn.specs.Sums.{below, times}
 
--- the fault that an end of a connection is; it is served to its end, and never rests
+-- | the fault that an end of a connection is; it is served to its end, and never rests
 abbrev pub ending : Closed KeeperFailed → Option Fault → Type 0
 ending closed.End f = f ≡ None
 ending closed.Rests f = ⊥
@@ -70,6 +70,9 @@ pub record ServesOne {Link Seat K : Type 0} (keeping : Keeping K) (old new : Wor
 abbrev pub ServedOne : {Link Seat K : Type 0} → Keeping K → World Link Seat K → World Link Seat K → Option Fault → Front → DeskState Link → BookedState K → Type 0
 ServedOne keeping old new f first opened state = ServesOne keeping old new first opened f state ⊎ HadNoRoom keeping old new first opened f state
 
--- what a talk does
+-- | what a talk does behind its opening: it served its connection, whose exchanges are in order from the front with which it began to the
+-- journal for which the identity with its keeper stands, each change behind that front is one exchange's, the highest moment is that
+-- front's or some call's reading, and the bytes of their session were written; the other desks are as they were; or there was no memory to
+-- serve it
 abbrev pub Talks : {Link Seat K : Type 0} → Keeping K → World Link Seat K → World Link Seat K → Option Fault → Option (BookedState K) → Type 0
 Talks keeping old new f state = OpensThen keeping (ServedOne keeping old new f) old new f state

@@ -5,7 +5,7 @@ use Rattle.ks_outside.specs.Desks.{DeskState}
 use Rattle.ks_outside.specs.Files.{DirState}
 use Rattle.ks_outside.specs.Streams.{StreamState}
 
--- its input, opening file and output, the folder of the opening and of the commands on keys, the first desk with its folder, the
+-- | its input, opening file and output, the folder of the opening and of the commands on keys, the first desk with its folder, the
 -- other desks, each with its own, and the keeper of its journal
 pub record World (Link Seat K : Type 0) : Type 0 where
   pub input : StreamState
@@ -17,7 +17,7 @@ pub record World (Link Seat K : Type 0) : Type 0 where
   pub others : List Seat
   pub keeper : K
 
--- a link over the input and the output
+-- | a link over the input and the output
 abbrev pub link_of : {Link Seat K : Type 0} → World Link Seat K → StreamState
 link_of world = record {
   left = world.input.left;

@@ -1,4 +1,5 @@
 -- Base32 (RFC 4648, section 6) on lists of bytes.
+-- Source: RFC 4648, 6.
 use Rattle.std.specs.Prelude.{◌≡◌, ◌<◌, ◌⊎◌, ℕ, ◌+◌, ◌-◌, ◌*◌, ◌/◌, ◌%◌, ◌^◌, List, ◌++◌, length, map, replicate, slice_index, codes}
 use Rattle.std.specs.List.{range_with_len}
 

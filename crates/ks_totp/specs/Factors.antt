@@ -1,4 +1,5 @@
 -- Whose codes fit, and which methods suffice (TOTP, RFC 6238).
+-- Source: RFC 6238; Identity API v3, multi-factor authentication rules.
 use Rattle.std.specs.Prelude.{ℕ, ◌==◌, Bool, true, not, ◌&&◌, ◌||◌, List, [], ◌∷◌, Option, Some, None, bit_and, filter}
 use Rattle.std.specs.List.{list_any}
 use Rattle.ks_base.specs.declared.factors.MfaRow.{MfaRow}
@@ -6,7 +7,7 @@ use Rattle.ks_base.specs.Factors.{FactorState, is_secret_of, rules_of}
 use Rattle.ks_base.specs.Rows.{Id}
 use Rattle.ks_totp.specs.Hotp.{fits_at}
 
--- what contracts see of `Factors`
+-- | what contracts see of `Factors`: its lists, and room for rules
 pub record Kept : Type 0 where
   pub state : FactorState
   -- how many rows of rules may be put before there is a need of more room
@@ -27,7 +28,7 @@ fits state user code moment = list_any (λ row. is_secret_of user row && fits_at
 abbrev pub is_within : ℕ → ℕ → Bool
 is_within methods rule = bit_and rule methods == rule
 
--- no rules ask for nothing, and of others one has to be met
+-- | no rules ask for nothing, and of others one has to be met
 abbrev pub some_met : ℕ → List ℕ → Bool
 some_met methods [] = true
 some_met methods (rule ∷ rules) = list_any (is_within methods) (rule ∷ rules)

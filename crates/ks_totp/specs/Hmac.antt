@@ -1,4 +1,5 @@
--- HMAC (RFC 2104) over SHA-1 (FIPS 180-4), on lists of bytes.
+-- HMAC over SHA-1, on lists of bytes.
+-- Source: RFC 2104; FIPS 180-4.
 use Rattle.std.specs.Prelude.{ℕ, ◌-◌, List, ◌++◌, length, replicate, map, nat_lt, if◌then◌else◌, bit_xor}
 use Rattle.sha1.specs.Sha1.{sha1}
 
@@ -14,7 +15,8 @@ block_key key = zero_filled (if nat_lt 64 (length key) then sha1 key else key)
 abbrev pub padded : List ℕ → ℕ → List ℕ
 padded bytes pad = map (λ byte. bit_xor byte pad) bytes
 
--- H(K XOR opad, H(K XOR ipad, message)), where each byte of ipad is 0x36, and of opad 0x5c
+-- H(K XOR opad, H(K XOR ipad, message)), where each byte of ipad is 0x36, and of opad 0x5c; of a key that is longer than a block the digest
+-- is taken
 unfoldable pub hmac_sha1_of : List ℕ → List ℕ → List ℕ
 hmac_sha1_of key message =
     sha1 (padded (block_key key) 0x5c ++ sha1 (padded (block_key key) 0x36 ++ message))

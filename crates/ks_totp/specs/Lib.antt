@@ -1,3 +1,4 @@
+-- One-time codes.
 pub mod Hmac
 pub mod Hotp
 pub mod Base32

@@ -1,1 +1,2 @@
+-- Trusts.
 pub mod State

@@ -7,6 +7,7 @@ use Rattle.ks_base.specs.Rows.{Id, has_id}
 use Rattle.ks_base.specs.Tables.{id_cmp, put_row, Among}
 use Rattle.ks_base.specs.Trusts.{has_role, names_trust, parent_trust}
 
+-- the ids of trusts; those that a list of ids names
 abbrev pub ids_of : List TrustRow → List Id
 ids_of trusts = map (λ trust. trust.id) trusts
 

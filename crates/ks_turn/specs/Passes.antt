@@ -43,7 +43,9 @@ released p f = record p {
   top = risen p.seen.high f.high p.top;
 }
 
--- what holds of a turn with all its passes, at a time when this is the front of its value
+-- | what holds of a turn with all its passes, at a time when this is the front of its value: all that any of them saw is before that front,
+-- any two of them saw ordered fronts, the weights are 1,000,000 together, each change after the first front's was made through exactly one
+-- of them, and the highest moment is the first front's or was raised by one of them
 pub record Turning (first front : Front) (passes : List Passed) : Type 0 where
   pub start : first ⊑ front
   pub sound : IsSound front
@@ -60,7 +62,7 @@ pub record Turning (first front : Front) (passes : List Passed) : Type 0 where
 abbrev pub IsAmong : Front → Front → Passed → Type 0
 IsAmong first front p = (passes : List Passed) × (by : ℕ) × (slice_get passes by ≡ Some p) × Turning first front passes
 
--- a pass took the turn, and with it a value
+-- a pass took the turn, and with it a value that stands for a front which goes on from what it saw
 pub record Took (first : Front) {S : Type 0} (means : S → Front → Type 0) (old new : Passed) (value : S) : Type 0 where
   pub turn : IsAmong first new.seen old
   pub pass : new ≡ record old { seen = new.seen }

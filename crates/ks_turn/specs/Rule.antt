@@ -9,7 +9,7 @@ use Rattle.ks_turn.specs.declared.view.View.{View}
 use Rattle.ks_turn.specs.Sums.{below, times, total}
 use Rattle.ks_turn.specs.Views.{front_at, given, holding}
 
--- one of two fronts goes on from the other
+-- | one of two fronts goes on from the other
 abbrev pub AreOrdered : Front → Front → Type 0
 AreOrdered f g = (f ⊑ g) ⊎ (g ⊑ f)
 

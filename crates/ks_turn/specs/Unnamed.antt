@@ -21,5 +21,6 @@ no_opening = record {
   assignments = [];
 }
 
+-- a front that tells of nothing: a caller of a turn names its own
 abbrev pub no_front : Front
 no_front = record { opening = no_opening; changes = []; high = 0; kept = 0 }

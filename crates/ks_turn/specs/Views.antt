@@ -13,11 +13,11 @@ front_at first seen = record { opening = first.opening; changes = seen.changes; 
 abbrev pub seen_of : Front → Seen
 seen_of f = record { changes = f.changes; high = f.high; kept = f.kept }
 
--- the numbers of the changes that came since
+-- | the numbers of the changes that came since
 abbrev pub since : List Entry → List Entry → List ℕ
 since old new = numbers (length old) (length new - length old)
 
--- the highest moment where it rose, else the top so far
+-- | the highest moment where it rose, else the top so far
 abbrev pub risen : ℕ → ℕ → ℕ → ℕ
 risen old new top = if nat_lt old new then new else top
 
@@ -25,11 +25,11 @@ risen old new top = if nat_lt old new then new else top
 abbrev pub first_view : Front → View
 first_view first = record { seen = seen_of first; told = seen_of first; own = []; top = 0; weight = 1000000; holds = false }
 
--- who takes the turn sees all that happened
+-- | who takes the turn sees all that happened
 abbrev pub holding : Seen → View → View
 holding base v = record v { seen = base; told = base; holds = true }
 
--- who gives the turn back, with a value that stands for this front
+-- | who gives the turn back, with a value that stands for this front
 abbrev pub given : Front → View → View
 given f v = record v {
   seen = seen_of f;
@@ -46,7 +46,7 @@ left_over v = record v { weight = v.weight - 1 }
 abbrev pub cut_off : View → View
 cut_off v = record v { told = v.seen; own = []; top = 0; weight = 1; holds = false }
 
--- two passes meet: the one is told what the other has seen, and the other is spent
+-- | two passes meet: the one is told what the other has seen, and the other is spent
 abbrev pub met : View → View → View
 met v w = record v { told = w.seen; own = v.own ++ w.own; top = max v.top w.top; weight = v.weight + w.weight }
 

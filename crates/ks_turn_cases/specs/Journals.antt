@@ -3,7 +3,7 @@ use Rattle.std.specs.Prelude.{◌≡◌, ◌⊎◌, ℕ, ◌+◌, List, [], ◌�
 use Rattle.ks_machine.specs.declared.change.Entry.{Entry}
 use Rattle.ks_machine.specs.Fronts.{Front, IsSound}
 
--- a journal of these changes, all of them kept, stands for the front
+-- | a journal of these changes, all of them kept, with this highest moment, stands for the front
 pub record IsJournalOf (entries : List Entry) (high : ℕ) (f : Front) : Type 0 where
   pub changes : f.changes ≡ entries
   pub last : f.high ≡ high

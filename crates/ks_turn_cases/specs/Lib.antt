@@ -1,2 +1,3 @@
+-- Whole turns, tried.
 pub mod Journals
 pub mod Makes

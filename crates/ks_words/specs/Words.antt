@@ -79,10 +79,11 @@ talk = record {
 abbrev pub setup_app : App
 setup_app = with_rule (new_app (codes "setup")) (required_word (codes "folder"))
 
--- where the keys of a folder are made or rotated
+-- what a command works on that makes or rotates the keys of a folder
 abbrev pub folder_places : Option (List ℕ) → Places
 folder_places folder = record { file = None; folder = folder; address = None; workers = 1; log = None }
 
+-- the command that sets a folder up
 abbrev pub setup : Form
 setup = record { app = setup_app; meaning = λ rows. Setup (folder_places (first_of (codes "folder") rows)) }
 
@@ -106,7 +107,7 @@ valued_word id = record (new_rule id) { long = Some id }
 abbrev pub rotate_app : App
 rotate_app = with_rule (with_rule (new_app (codes "rotate")) (required_word (codes "folder"))) (valued_word (codes "max"))
 
--- how many keys a rotation leaves: 3 where nothing is said
+-- | how many keys a rotation leaves: 3 where nothing is said
 abbrev pub max_said : Option (List ℕ) → Option ℕ
 max_said None = Some DEFAULT_KEYS
 max_said (Some word) = number_between FEWEST_KEYS KEYS word
@@ -118,32 +119,34 @@ places_app = with_rule (with_rule (with_rule (new_app (codes "serve")) (required
 abbrev pub serve_app : App
 serve_app = with_rule (with_rule (with_rule places_app (valued_word (codes "workers"))) (valued_word (codes "connections"))) (valued_word (codes "log"))
 
--- what so many workers serve with; the address stays a text, of which the program makes a socket, and so does the path of the log
+-- | what so many workers serve with; the address stays a text, of which the program makes a socket, and so does the path of the log
 abbrev pub serve_places : Option (List ℕ) → Option (List ℕ) → Option (List ℕ) → Option (List ℕ) → ℕ → Places
 serve_places file folder address log workers = record { file = file; folder = folder; address = address; workers = workers; log = log }
 
--- how many workers serve: 4 where nothing is said
+-- | how many workers serve: 4 where nothing is said
 abbrev pub workers_said : Option (List ℕ) → Option ℕ
 workers_said None = Some DEFAULT_WORKERS
 workers_said (Some word) = number_between 1 WORKERS word
 
--- how many connections each serves: 0, by which they are not counted, where nothing is said
+-- | how many connections each serves: 0, by which they are not counted, where nothing is said
 abbrev pub connections_said : Option (List ℕ) → Option ℕ
 connections_said None = Some 0
 connections_said (Some word) = number_between 0 CONNECTIONS word
 
+-- the words of `password`
 abbrev pub password_app : App
 password_app = with_rule (new_app (codes "password")) (valued_word (codes "rounds"))
 
--- by how many rounds a password is derived: 10,000 where nothing is said
+-- | by how many rounds a password is derived: 10,000 where nothing is said
 abbrev pub rounds_said : Option (List ℕ) → Option ℕ
 rounds_said None = Some DEFAULT_ROUNDS
 rounds_said (Some word) = number_between 1 ROUNDS word
 
+-- the words of `drill`
 abbrev pub drill_app : App
 drill_app = with_rule (with_rule (new_app (codes "drill")) (required_word (codes "start"))) (required_word (codes "count"))
 
--- the number within these bounds, where a word was said
+-- | the number within these bounds, where a word was said
 abbrev pub number_said : ℕ → ℕ → Option (List ℕ) → Option ℕ
 number_said least most None = None
 number_said least most (Some word) = number_between least most word
@@ -202,6 +205,7 @@ address_in words = option_and_then (λ places. places.address) (serving_in words
 abbrev pub log_in : Words → Option (List ℕ)
 log_in words = option_and_then (λ places. places.log) (serving_in words)
 
+-- what the words of a command mean, one command after the other
 abbrev pub rotated_with : Option (List ℕ) → Option ℕ → Words
 rotated_with folder None = Usage
 rotated_with folder (Some max) = Rotate (folder_places folder) max
@@ -231,11 +235,13 @@ derived_by (Some rounds) = Password rounds
 abbrev pub password : Form
 password = record { app = password_app; meaning = λ rows. derived_by (rounds_said (first_of (codes "rounds") rows)) }
 
+-- | a drill by two such numbers, or no command
 abbrev pub drilled_with : Option ℕ → Option ℕ → Words
 drilled_with None count = Usage
 drilled_with (Some start) None = Usage
 drilled_with (Some start) (Some count) = Drill start count
 
+-- the command of a drill, and all commands
 abbrev pub drill : Form
 drill = record {
   app = drill_app;
@@ -249,7 +255,8 @@ forms = check ∷ talk ∷ setup ∷ rotate ∷ serve ∷ password ∷ drill ∷
 unfoldable pub read_by : Form → List (List ℕ) → Words
 read_by form words = option_map_or form.meaning (rows_read form.app words) Usage
 
--- the command whose name is the first word, where its command of clap takes the rest
+-- the command whose name is the first word, where its command of `clap` takes the rest; no word may begin with a dash but as an option of
+-- that command
 unfoldable pub words_of : List (List ℕ) → Words
 words_of [] = Usage
 words_of (name ∷ words) =

@@ -26,13 +26,13 @@ if_listed entry names file (Some items) = do
   rows ← entries_from entry names file 0 items
   Ok (Some rows)
 
--- the entries of a list, where it is given
+-- | the entries of a list, where it is given, each known by the list's name with its place in brackets
 unfoldable pub listed : {A : Type 0} → Entry A → List (List ℕ) → Place → Result (Option (List A)) ShapeFault
 listed entry names file = do
   items ← optional (list_of OPENING_BYTES) names file
   if_listed entry names file items
 
--- an absent list is empty
+-- | an absent list is empty
 unfoldable pub entries : {A : Type 0} → Entry A → List (List ℕ) → Place → Result (List A) ShapeFault
 entries entry names file = do
   rows ← listed entry names file

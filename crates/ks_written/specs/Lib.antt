@@ -1,3 +1,4 @@
+-- The opening file.
 pub mod Entries
 pub mod Records
 pub mod Written

@@ -1,5 +1,6 @@
 -- What is kept of a password, as a text: `pbkdf2_sha256$ROUNDS$SALT$DIGEST`. ROUNDS is a decimal, and the salt and the digest stand in
 -- base64 with padding (RFC 4648, section 4).
+-- Source: RFC 4648, 4; RFC 8018; own.
 use Rattle.std.specs.Prelude.{◌≡◌, ℕ, ◌==◌, nat_lt, Bool, if◌then◌else◌, List, [], ◌∷◌, length, Option, Some, None, option_and_then, codes, decimal, Result, Ok}
 use Rattle.std.specs.List.{after_first, before_first, concat, position_or_len}
 use Rattle.std.specs.Str.{bytes_eq}
@@ -17,6 +18,7 @@ use Rattle.ks_words.specs.Words.{number_between}
 abbrev pub scheme : List ℕ
 scheme = codes "pbkdf2_sha256"
 
+-- the text `pbkdf2_sha256$ROUNDS$SALT$DIGEST` of what is kept of a password
 unfoldable pub record_text : PasswordRow → List ℕ
 record_text row =
     concat (scheme ∷ codes "$" ∷ decimal row.rounds ∷ codes "$" ∷ encode_of standard row.salt ∷ codes "$" ∷ encode_of standard row.digest ∷ [])
@@ -60,14 +62,14 @@ counted_in text = do
   rounds ← found (rounds_in parts.0) misfit.Range
   salted_in rounds parts.1
 
--- the record that a text says
+-- | the record that a text says: a decimal from 1 to 100,000 without sign and leading zero, and 16 and 32 bytes in base64 with padding
 unfoldable pub record_in : List ℕ → Result PasswordRow Misfit
 record_in text = do
   parts ← found (cut text) misfit.Range
   _ ← need (bytes_eq parts.0 scheme) misfit.Range
   counted_in parts.1
 
--- what is kept of a password, in range
+-- | what is kept of a password, in range
 pub record IsRow (row : PasswordRow) : Type 0 where
   pub rounds : AreRounds row.rounds
   pub salt_long : length row.salt ≡ 16
@@ -75,6 +77,6 @@ pub record IsRow (row : PasswordRow) : Type 0 where
   pub salt_bytes : IsBytes row.salt
   pub digest_bytes : IsBytes row.digest
 
--- the text of each such row says it
+-- law: the text of each such row says it
 abbrev pub RecordsAreRead : Type 0
 RecordsAreRead = (row : PasswordRow) → IsRow row → record_in (record_text row) ≡ Ok row

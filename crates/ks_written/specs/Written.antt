@@ -1,6 +1,7 @@
 -- What an opening file says, apart from its policy. Its members, the entries of each list and the fields of each entry are
 -- read in the order in which they stand here, and the first fault is the file's. Null counts as absent for a member of the
 -- file and for a field that is not needed.
+-- Source: Identity API v3; own limits; own.
 use Rattle.std.specs.Prelude.{ℕ, ◌==◌, ◌&&◌, ◌||◌, Bool, true, false, nat_lt, nat_le, List, [], ◌∷◌, length, Option, Some, None, option_map, Result, Ok, Err, codes, unwrap_or}
 use Rattle.std.specs.List.{list_all, starts_with}
 use Rattle.std.specs.Str.{bytes_eq}
@@ -78,6 +79,7 @@ abbrev pub settings_in : Option Data → Result Settings ShapeFault
 settings_in None = Ok default_settings
 settings_in (Some value) = settings_at (record { path = codes "settings"; value = Some value })
 
+-- | the settings that an opening file says
 unfoldable pub settings_of : Place → Result Settings ShapeFault
 settings_of file = do
   value ← optional_value (names (codes "settings")) file
@@ -112,6 +114,7 @@ abbrev pub keys_from : Option Data → Place → Result KeysFrom ShapeFault
 keys_from None file = Ok keys.Folder
 keys_from (Some value) file = listed_or_named (as_array value) file
 
+-- | its keys: the text `folder`, for which an absent member stands too, or a list of 1 to 32 texts
 unfoldable pub keys_of : Place → Result KeysFrom ShapeFault
 keys_of file = do
   value ← optional_value (names (codes "keys")) file
@@ -119,6 +122,7 @@ keys_of file = do
 
 -- rows
 
+-- | a domain of the file
 unfoldable pub domain_in : Entry DomainRow
 domain_in entry = do
   id ← needed id_text (names (codes "id")) entry
@@ -127,7 +131,7 @@ domain_in entry = do
   enabled ← optional truth (names (codes "enabled")) entry
   Ok (record { id = id; name = name; description = unwrap_or description []; enabled = unwrap_or enabled true })
 
--- the parent of a top project is its domain
+-- | the parent of a top project is its domain
 unfoldable pub project_in : Entry ProjectRow
 project_in entry = do
   id ← needed id_text (names (codes "id")) entry
@@ -175,6 +179,7 @@ password_in entry = do
   plain ← optional password_text (names (codes "password")) entry
   plain_or_record plain entry
 
+-- | a user, with a plain password, or the record of one, or neither
 unfoldable pub user_in : Entry WrittenUser
 user_in entry = do
   id ← needed id_text (names (codes "id")) entry
@@ -184,6 +189,7 @@ user_in entry = do
   password ← password_in entry
   Ok (record { id = id; domain = domain; name = name; enabled = unwrap_or enabled true; password = password })
 
+-- | the other rows of the file, by kind
 unfoldable pub group_in : Entry GroupRow
 group_in entry = do
   id ← needed id_text (names (codes "id")) entry
@@ -250,7 +256,7 @@ endpoint_in entry = do
     enabled = unwrap_or enabled true;
   })
 
--- exactly one of a user and a group; where neither is given, the user is needed
+-- | exactly one of a user and a group; where neither is given, the user is needed
 
 abbrev pub group_or_needed : Option (List ℕ) → Entry Actor
 group_or_needed (Some id) entry = Ok (actor.Group id)
@@ -271,7 +277,7 @@ actor_in entry = do
   user ← optional id_text (names (codes "user")) entry
   user_or_group user entry
 
--- exactly one of a project, a domain and the system, which true alone names; where none is given, the project is needed
+-- | exactly one of a project, a domain and the system, which true alone names; where none is given, the project is needed
 
 abbrev pub system_or_needed : Option Bool → Entry Target
 system_or_needed (Some all) entry = Ok target.System
@@ -301,7 +307,7 @@ target_in entry = do
   project ← optional id_text (names (codes "project")) entry
   project_or_other project entry
 
--- no grant on the system is inherited
+-- | no grant on the system is inherited
 abbrev pub inherited_at : Target → Place → Result (Option Bool) ShapeFault
 inherited_at (target.Project id) entry = optional truth (names (codes "inherited")) entry
 inherited_at (target.Domain id) entry = optional truth (names (codes "inherited")) entry
@@ -317,6 +323,7 @@ grant_in entry = do
 
 -- the whole file
 
+-- the keys are those of the folder
 abbrev pub is_folder : KeysFrom → Bool
 is_folder keys.Folder = true
 is_folder (keys.File texts) = false
@@ -325,6 +332,7 @@ is_folder (keys.File texts) = false
 abbrev pub default_domain : DomainRow
 default_domain = record { id = codes "default"; name = codes "Default"; description = []; enabled = true }
 
+-- what a document says, or its first fault
 unfoldable pub written_in : Place → Result Written ShapeFault
 written_in file = do
   settings ← settings_of file
@@ -356,12 +364,13 @@ written_in file = do
     assignments = assignments;
   })
 
--- the document that a file is, of 16 MiB at most
+-- the JSON document that a file is, of 16 MiB at most
 unfoldable pub document_of : List ℕ → Result Data ShapeFault
 document_of text = do
   _ ← need (nat_le (length text) OPENING_BYTES) (fault.Range [])
   found (document text) fault.NotJson
 
+-- | what an opening file says apart from its policy, or its first fault in the order of its members, entries and fields
 unfoldable pub file_of : List ℕ → Result Written ShapeFault
 file_of text = do
   value ← document_of text
