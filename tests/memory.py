@@ -26,6 +26,9 @@ USERS = 50
 
 LOGINS = 4
 
+# Where the stacks of two workers hold pieces of the last requests that they read, at up to three depths each.
+PLACES = 6
+
 
 def tunables():
     """What bin/ks tells the C library."""
@@ -115,8 +118,7 @@ def run(words):
             return "skipped, since the memory of a process may not be read"
     line = (f"copies of {USERS} passwords: of a file of records {told(kept)} behind the opening, {told(old)} of the old and "
             f"{told(new)} of the new ones at the end; of a file of plain ones {told(plain_kept)}, {told(plain_old)} and {told(plain_new)}")
-    # The stack of a worker holds the last piece of a request that it read.
-    if not plain and (kept or sum((old + new).values()) > 2 or sum(plain_new.values()) > 2):
+    if not plain and (kept or sum((old + new).values()) > PLACES or sum(plain_new.values()) > PLACES):
         raise Failure(line)
     return line
 
