@@ -4,7 +4,7 @@ ghost use Rattle.std.specs.Prelude.{◌≡◌};
 use crate::causes::cause_text;
 use crate::number::RequestNumber;
 use ks_auth::is_system;
-use ks_base::{Memory, Text};
+use ks_base::{Boxed, Memory, Text};
 use ks_http::Request;
 use ks_machine::{Call, Command, CredNamed, Named, Proof, Reply, UserNamed};
 use ks_outside::{Answered, Desk, Scope, Who};
@@ -56,7 +56,7 @@ impl Account {
     }
 
     /// Notes of whom a call speaks.
-    pub fn note_who(&mut self, call: &Call, caller: Option<&Payload>) {
+    pub fn note_who(&mut self, call: &Call, caller: Option<&Boxed<Payload>>) {
         if let Some(answered) = &mut self.answered {
             answered.who = who_of(self.alloc, &call.command, caller);
         }
@@ -103,14 +103,17 @@ impl Account {
 }
 
 /// Of whom a command speaks: the user that it names to log in, or the holder of the caller's token.
-fn who_of(alloc: Global, command: &Command, caller: Option<&Payload>) -> Who {
+fn who_of(alloc: Global, command: &Command, caller: Option<&Boxed<Payload>>) -> Who {
     if let Command::Login(body) = command {
         if let Some(user) = user_named(&body.get().proof) {
             return who_logs_in(alloc, user).unwrap_or(Who::Nobody);
         }
     }
     match caller {
-        Some(payload) => Who::Caller(payload.user, scope_of(payload)),
+        Some(payload) => {
+            let payload = payload.get();
+            Who::Caller(payload.user, scope_of(payload))
+        }
         None => Who::Nobody,
     }
 }

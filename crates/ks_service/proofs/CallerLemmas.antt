@@ -1,5 +1,5 @@
 -- What a fact says of a caller's token.
-use Rattle.std.proofs.Common.{◌≡◌, ℕ, Bool, true, false, List, Option, Some, None, IfSome, ap, if◌then◌else◌}
+use Rattle.std.proofs.Common.{◌≡◌, ℕ, Bool, true, false, List, Option, Some, None, IfSome, ap, sym, subst, if◌then◌else◌}
 use Rattle.ks_base.specs.Rows.{Text}
 use Rattle.ks_auth.specs.Facts.{FactsState, has_opened, told}
 use Rattle.ks_fernet.specs.declared.opening.OpenAnswer.{OpenAnswer}
@@ -14,7 +14,8 @@ opened_if : (b : Bool) (made answer : OpenAnswer) → (if b then Some made else 
 opened_if true made answer is = let P : Option OpenAnswer → OpenAnswer = λ o. elim o [ Some a ↦ a | None ↦ made ] in ap P is
 opened_if false made answer is = cc
 
-said_by : (facts : FactsState) (held : HeldKey) (text : Text) (time : ℕ) (plain : List ℕ) (payload : Payload)
+-- where a fact says that the key opens the text, what that spells is what the text says
+pub said_by : (facts : FactsState) (held : HeldKey) (text : Text) (time : ℕ) (plain : List ℕ) (payload : Payload)
     → (told facts).answer held text ≡ Some (Yes time plain) → IsPayload plain payload → Says text payload
 unfolding told
 said_by facts held text time plain payload is spelled = record {
@@ -25,8 +26,7 @@ said_by facts held text time plain payload is spelled = record {
   is = spelled;
 }
 
--- where a fact says that the key opens the text, what that spells is what the text says
-pub said_if : (facts : FactsState) (held : HeldKey) (text : Text) (time : ℕ) (plain : List ℕ) (read : Option Payload)
-    → (told facts).answer held text ≡ Some (Yes time plain) → IfSome read (IsPayload plain) → IfSome read (Says text)
-said_if facts held text time plain None is spelled = tt
-said_if facts held text time plain (Some payload) is spelled = said_by facts held text time plain payload is spelled
+-- and the same behind a pointer, where there is memory for it
+pub said_apart : (P : Payload → Type 0) (payload : Payload) (apart : Option Payload) → IfSome apart (λ p. p ≡ payload) → P payload → IfSome apart P
+said_apart P payload None is says = tt
+said_apart P payload (Some other) is says = subst P (sym is) says

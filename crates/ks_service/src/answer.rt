@@ -1,3 +1,4 @@
+use ks_base::Boxed;
 use ks_machine::Reply;
 use ks_payload::Payload;
 use ks_state::Kept;
@@ -13,6 +14,7 @@ pub struct Answer<F> {
     /// What became of the changes that were not kept yet: `Memory` also where no event decided the call, so that its moment is
     /// below its reading.
     pub kept: Kept<F>,
-    /// What the caller's token says of its holder, whether that is valid or not, where it was asked for and found out.
-    pub caller: Option<Payload>,
+    /// What the caller's token says of its holder, whether that is valid or not, where it was asked for and found out, and
+    /// there was memory for it.
+    pub caller: Option<Boxed<Payload>>,
 }

@@ -59,7 +59,7 @@ pub fn next_call<I: Decides, N: First, R: Wait, G: Gate>(
     ensures unheard { hears ≡ false → result.1.caller ≡ None }
 {
     let mut facts = recent.begin(call, gate);
-    let mut caller = first_heard(hears, &facts, recent.keys(), call);
+    let mut caller = first_heard(alloc, hears, &facts, recent.keys(), call);
     for _ in 0..ROUNDS {
         gate.at(Place::BeforeHold);
         let (next, outcome) = round(turn, rt, pass, call, &facts);
@@ -73,7 +73,14 @@ pub fn next_call<I: Decides, N: First, R: Wait, G: Gate>(
                 if work(alloc, &needs, call, &mut facts, gate).is_err() {
                     return without_memory(next);
                 }
-                hear(&mut caller, hears, &facts, needs.keys.as_slice(), call);
+                hear(
+                    alloc,
+                    &mut caller,
+                    hears,
+                    &facts,
+                    needs.keys.as_slice(),
+                    call,
+                );
                 recent.learn(needs.keys.as_slice());
             }
         }
