@@ -127,14 +127,14 @@ stands_beside {A} across seen p next gone sides x among none = ((among_drop acro
     other row (inl is) also = not_itself across p (seen next) x (among_drop across (λ r. r) (seen next) sides x among).1 (sym (ap seen is ∙ also))
     other row (inr later) also = none row later also
 
-stands_without : {A B : Type 0} (across : B → B → Ordering) (seen : A → B) → IsTotalOrder across → (gone : List A) (sides : List B) (x : B) →
+pub stands_without : {A B : Type 0} (across : B → B → Ordering) (seen : A → B) → IsTotalOrder across → (gone : List A) (sides : List B) (x : B) →
     Among (without_sides across seen sides gone) x → Among sides x × ((row : A) → Among gone row → seen row ≡ x → ⊥)
 stands_without across seen p [] sides x among = (among, λ row none is. none)
 stands_without across seen p (next ∷ gone) sides x among =
     let rest = stands_without across seen p gone (drop_row across (λ r. r) (seen next) sides) x among in
     stands_beside across seen p next gone sides x rest.0 rest.1
 
-without_stands : {A B : Type 0} (across : B → B → Ordering) (seen : A → B) → IsExact across → (gone : List A) (sides : List B) (x : B) → Among sides x →
+pub without_stands : {A B : Type 0} (across : B → B → Ordering) (seen : A → B) → IsExact across → (gone : List A) (sides : List B) (x : B) → Among sides x →
     ((row : A) → Among gone row → seen row ≡ x → ⊥) → Among (without_sides across seen sides gone) x
 without_stands across seen exactly [] sides x among other = among
 without_stands across seen exactly (next ∷ gone) sides x among other =

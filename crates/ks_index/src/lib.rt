@@ -7,6 +7,6 @@ mod ordered;
 mod runs;
 mod table;
 
-pub use links::Links;
+pub use links::{FEW, Links};
 pub use ordered::in_order;
 pub use table::Table;

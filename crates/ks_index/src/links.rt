@@ -8,9 +8,9 @@ use ks_base::{Boxed, Far, Memory, Near, Ordered, RowSet, Side, Test};
 use std::alloc::{AllocError, Global};
 use std::marker::{Model, PhantomData};
 
-// How many rows of a run go one by one at most, each by a search and a move of those behind it. Where more go, a pass over all
-// rows takes less.
-const FEW: usize = 128;
+/// How many rows go one by one at most, each by a search and a move of those behind it. Where more go, a pass over all rows takes
+/// less.
+pub const FEW: usize = 128;
 
 /// Rows in their order, each once, and beside them their sides in the second order.
 #[derive(Drop)]

@@ -9,12 +9,14 @@ ghost use Rattle.ks_machine.specs.Changes.{is_actor_gone, is_left, is_target_gon
 
 use crate::ended::{Ends, end_each, one};
 use crate::ids::IdSet;
+use crate::trusts_gone::Touches;
 use ks_base::{
-    Actor, AppCredRow, GrantRow, GroupRow, Id, ListOf, MemberRow, Memory, Revoke, Target, Test,
-    TrustRow, UserRow,
+    Actor, AppCredRow, GrantRow, GroupRow, Id, IdList, ListOf, MemberRow, Memory, Revoke, Target,
+    Test, TrustRow, UserRow,
 };
 use ks_people::People;
 use ks_tree::Tree;
+use ks_trust::Trusts;
 use std::alloc::Global;
 
 /// A domain, and its projects, users and groups.
@@ -111,6 +113,14 @@ impl Test<TrustRow> for DomainRows {
     fn test(&self, trust: &TrustRow) -> bool {
         self.users.has(&trust.trustor)
             || (self.users.has(&trust.trustee) || self.projects.has(&trust.project))
+    }
+}
+
+impl Touches for DomainRows {
+    ghost touches = { λ gone trust. has_id gone.users trust.trustor || (has_id gone.users trust.trustee || has_id gone.projects trust.project) };
+
+    fn ids(&self, trusts: &Trusts) -> Result<IdList, Memory> {
+        trusts.ids_where(self)
     }
 }
 

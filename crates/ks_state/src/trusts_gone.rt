@@ -1,6 +1,7 @@
 //! The trusts that go with a change.
-ghost use Rattle.std.specs.Prelude.{◌≡◌, ◌++◌, map, IfOk};
+ghost use Rattle.std.specs.Prelude.{◌≡◌, ◌++◌, Bool, filter, map, IfOk};
 ghost use Rattle.ks_base.specs.declared.events.Revoke.{Revoke};
+ghost use Rattle.ks_base.specs.declared.trusts.TrustRow.{TrustRow};
 ghost use Rattle.ks_base.specs.Tables.{id_cmp, IsAscending};
 ghost use Rattle.ks_base.specs.Trusts.{has_role, names_trust, trusts_gone, trusts_left};
 ghost use Rattle.ks_trust.specs.State.{ids_of, without_trusts, IsClosed};
@@ -9,22 +10,27 @@ use crate::ended::{Ends, end_each};
 use ks_base::{Id, IdList, ListOf, Memory, Revoke, Test, TrustRow};
 use ks_trust::{Trusts, gone_by_their_ids, left_without_their_ids, named_by_their_ids};
 
+/// What a change touches of the trusts.
+pub(crate) trait Touches {
+    ghost touches: { Self → TrustRow → Bool };
+
+    /// The ids of the trusts that are touched, in their order.
+    fn ids(&self, trusts: &Trusts) -> Result<IdList, Memory>
+        ensures ids { IfOk result (λ ids. ids ≡ ids_of (filter (touches self.now) trusts.now)) }
+        ensures ascending { IfOk result (λ ids. IsAscending id_cmp (λ id. id) ids) };
+}
+
 /// Trusts of what a revocation names.
 #[derive(Drop)]
 pub(crate) struct Naming<'a> {
     pub(crate) what: &'a Revoke,
 }
 
-impl Test<TrustRow> for Naming<'_> {
-    ghost test = { λ wanted trust. names_trust wanted.what.now trust };
+impl Touches for Naming<'_> {
+    ghost touches = { λ wanted trust. names_trust wanted.what.now trust };
 
-    fn test(&self, trust: &TrustRow) -> bool {
-        match self.what {
-            Revoke::User(id) => trust.trustor == *id || trust.trustee == *id,
-            Revoke::Project(id) => trust.project == *id,
-            Revoke::Trust(id) => trust.id == *id,
-            Revoke::Audit(_) | Revoke::Domain(_) => false,
-        }
+    fn ids(&self, trusts: &Trusts) -> Result<IdList, Memory> {
+        trusts.ids_naming(self.what)
     }
 }
 
@@ -42,18 +48,26 @@ impl Test<TrustRow> for WithRole<'_> {
     }
 }
 
-/// The ids of the trusts that pass, and of all that descend from one of them.
-fn gone_with<T: Test<TrustRow>>(trusts: &Trusts, test: &T) -> Result<IdList, Memory>
-    ensures ids { IfOk result (λ ids. ids ≡ ids_of (trusts_gone trusts.now (T.test test.now))) }
+impl Touches for WithRole<'_> {
+    ghost touches = { λ wanted trust. has_role wanted.role.now trust };
+
+    fn ids(&self, trusts: &Trusts) -> Result<IdList, Memory> {
+        trusts.ids_where(self)
+    }
+}
+
+/// The ids of the trusts that are touched, and of all that descend from one of them.
+fn gone_with<T: Touches>(trusts: &Trusts, change: &T) -> Result<IdList, Memory>
+    ensures ids { IfOk result (λ ids. ids ≡ ids_of (trusts_gone trusts.now (T.touches change.now))) }
     ensures ascending { IfOk result (λ ids. IsAscending id_cmp (λ id. id) ids) }
     ensures closed { IfOk result (λ ids. IsClosed trusts.now ids) }
-    ensures left { IfOk result (λ ids. without_trusts ids trusts.now ≡ trusts_left trusts.now (T.test test.now)) }
+    ensures left { IfOk result (λ ids. without_trusts ids trusts.now ≡ trusts_left trusts.now (T.touches change.now)) }
 {
     named_by_their_ids();
     gone_by_their_ids();
     left_without_their_ids();
     let _in_order = trusts.rows();
-    let touched = trusts.ids_where(test)?;
+    let touched = change.ids(trusts)?;
     trusts.with_children(&touched)
 }
 
@@ -69,18 +83,18 @@ impl Drop for TrustsGone {
     }
 }
 
-/// The trusts that pass, and all that descend from one of them, and their ends behind those that come first.
-pub(crate) fn trusts_gone<T: Test<TrustRow>>(
+/// The trusts that are touched, and all that descend from one of them, and their ends behind those that come first.
+pub(crate) fn trusts_gone<T: Touches>(
     trusts: &Trusts,
-    test: &T,
+    change: &T,
     first: ListOf<Revoke>,
 ) -> Result<TrustsGone, Memory>
-    ensures things { IfOk result (λ gone. gone.things ≡ first ++ map (λ trust. Revoke.Trust trust.id) (trusts_gone trusts.now (T.test test.now))) }
+    ensures things { IfOk result (λ gone. gone.things ≡ first ++ map (λ trust. Revoke.Trust trust.id) (trusts_gone trusts.now (T.touches change.now))) }
     ensures ascending { IfOk result (λ gone. IsAscending id_cmp (λ id. id) gone.ids) }
     ensures closed { IfOk result (λ gone. IsClosed trusts.now gone.ids) }
-    ensures left { IfOk result (λ gone. without_trusts gone.ids trusts.now ≡ trusts_left trusts.now (T.test test.now)) }
+    ensures left { IfOk result (λ gone. without_trusts gone.ids trusts.now ≡ trusts_left trusts.now (T.touches change.now)) }
 {
-    let ids = gone_with(trusts, test)?;
+    let ids = gone_with(trusts, change)?;
     let things = end_trusts(first, &ids)?;
     Ok(TrustsGone { ids, things })
 }

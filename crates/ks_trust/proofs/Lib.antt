@@ -1,4 +1,7 @@
+pub mod DescentLemmas
+pub mod FoundTrusts
 pub mod IdLists
 pub mod RowChanges
+pub mod SideLemmas
 pub mod UseLemmas
 pub mod WalkSteps

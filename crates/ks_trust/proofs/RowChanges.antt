@@ -1,5 +1,5 @@
 -- Changes of trusts, by the places of their rows and by lists of their ids.
-use Rattle.std.proofs.Common.{◌≡◌, ℕ, zero, suc, ◌-◌, Bool, true, false, not, List, [], ◌∷◌, get_or, Option, None, refl, sym, ap, subst, ◌∙◌}
+use Rattle.std.proofs.Common.{◌≡◌, ℕ, zero, suc, ◌+◌, ◌-◌, ◌<◌, ◌≤◌, Bool, true, false, not, ◌||◌, cond, List, [], ◌∷◌, length, drop, filter, get_or, Option, None, refl, sym, ap, subst, ◌∙◌}
 use Rattle.std.proofs.Math.ListN.{set}
 use Rattle.std.specs.List.{insert}
 use Rattle.std.specs.declared.cmp.Ordering.TheVariants.{Less, Equal}
@@ -7,16 +7,19 @@ use Rattle.std.specs.Option.{option_map}
 use Rattle.std.specs.Ordering.{is_eq}
 use Rattle.std.proofs.lemmas.Bool.{both_ways, not-true}
 use Rattle.std.proofs.lemmas.Cmp.{nat_list_cmp_total, tied_itself}
+use Rattle.std.proofs.lemmas.List.{drop_all}
 use Rattle.std.proofs.lemmas.Slice.Eq.{bytes_eq-Decides}
 use Rattle.ks_base.specs.declared.trusts.TrustRow.{TrustRow}
 use Rattle.ks_base.specs.Places.{IsFoundAt, IsGapAt}
 use Rattle.ks_base.specs.Rows.{Id, same, trust_of}
-use Rattle.ks_base.specs.Tables.{id_cmp, AreAbove, IsAscending}
+use Rattle.ks_base.specs.Tables.{id_cmp, AreAbove, IsAscending, drop_row}
 use Rattle.ks_base.specs.OrderLaws.{id_exact}
 use Rattle.ks_base.specs.Trusts.{AreChained, IsChained, used, use_trust}
+use Rattle.ks_base.proofs.ListLemmas.{drop_at}
 use Rattle.ks_base.proofs.PlaceLemmas.{put_gap}
 use Rattle.ks_base.proofs.RowLemmas.{id_same}
 use Rattle.ks_base.proofs.TrustLemmas.{chained_left, chained_put}
+use Rattle.ks_base.proofs.TruthLemmas.{equal_truths}
 use Rattle.ks_trust.specs.State.{is_listed, without_trusts, IsClosed}
 
 -- where with each named trust its redelegations are named
@@ -62,3 +65,32 @@ set_used id trusts i row left up there is lower =
 pub chained_insert : (trusts : List TrustRow) (row : TrustRow) (i : ℕ) → IsGapAt id_cmp (λ r. r.id) row.id trusts i → AreChained trusts →
     trust_of row.id trusts ≡ None → IsChained trusts row → AreChained (insert trusts i row)
 chained_insert trusts row i gap all none chained = subst AreChained (put_gap id_cmp (λ r. r.id) row trusts i gap) (chained_put trusts row all none chained)
+
+-- listed trusts go one by one
+
+without_by : (trust : TrustRow) (kept left : List TrustRow) (test : TrustRow → Bool) (b c : Bool) → test trust ≡ not c → kept ≡ filter test left →
+    cond (not (b || c)) (trust ∷ kept) kept ≡ filter test (cond (not b) (trust ∷ left) left)
+without_by trust kept left test true c is rest = rest
+without_by trust kept left test false c is rest = rw (is, rest) refl
+
+pub without_next : (id : Id) (ids : List Id) (trusts : List TrustRow) → without_trusts (id ∷ ids) trusts ≡ without_trusts ids (drop_row id_cmp (λ row. row.id) id trusts)
+unfolding drop_row
+without_next id ids [] = refl
+without_next id ids (trust ∷ trusts) =
+    without_by trust (without_trusts (id ∷ ids) trusts) (filter (λ row. not (is_eq (id_cmp row.id id))) trusts) (λ t. not (is_listed ids t)) (same id trust.id) (is_listed ids trust) refl
+    (without_next id ids trusts)
+    ∙ ap (λ b. without_trusts ids (cond (not b) (trust ∷ filter (λ row. not (is_eq (id_cmp row.id id))) trusts) (filter (λ row. not (is_eq (id_cmp row.id id))) trusts)))
+    (sym (id_same trust.id id ∙ equal_truths (same trust.id id) (same id trust.id) (λ is. (bytes_eq-Decides id trust.id).1 (sym ((bytes_eq-Decides trust.id id).0 is)))
+    (λ is. (bytes_eq-Decides trust.id id).1 (sym ((bytes_eq-Decides id trust.id).0 is)))))
+
+pub without_at : (ids : List Id) (i : ℕ) (id : Id) (trusts after whole : List TrustRow) → i < length ids → id ≡ get_or ids i id →
+    after ≡ drop_row id_cmp (λ row. row.id) id trusts → without_trusts (drop i ids) trusts ≡ whole → without_trusts (drop (i + 1) ids) after ≡ whole
+without_at ids i id trusts after whole lt is gone so_far =
+    ap (without_trusts (drop (i + 1) ids)) gone ∙ sym (without_next id (drop (i + 1) ids) trusts) ∙ sym (ap (λ l. without_trusts l trusts) (drop_at ids i id lt is)) ∙ so_far
+
+all_stay : (trusts : List TrustRow) → without_trusts [] trusts ≡ trusts
+all_stay [] = refl
+all_stay (trust ∷ trusts) = ap (λ (rest : List TrustRow). trust ∷ rest) (all_stay trusts)
+
+pub without_all : (ids : List Id) (i : ℕ) (trusts whole : List TrustRow) → length ids ≤ i → without_trusts (drop i ids) trusts ≡ whole → trusts ≡ whole
+without_all ids i trusts whole past so_far = sym (all_stay trusts) ∙ ap (λ l. without_trusts l trusts) (sym (drop_all i ids past)) ∙ so_far

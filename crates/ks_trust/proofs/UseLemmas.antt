@@ -1,6 +1,5 @@
 -- Why a trust is not used, by the row that is found.
-use Rattle.std.proofs.Common.{◌≡◌, ℕ, Bool, true, false, not, List, [], ◌∷◌, Option, Some, None, get_or, refl, sym, ap, ◌∙◌}
-use Rattle.ks_base.specs.declared.faults.TrustFault.{TrustFault}
+use Rattle.std.proofs.Common.{◌≡◌, ℕ, Bool, true, false, not, List, [], ◌∷◌, Some, None, get_or, sym, ap, ◌∙◌}
 use Rattle.ks_base.specs.declared.faults.TrustFault.TheVariants as fault
 use Rattle.ks_base.specs.declared.trusts.TrustRow.{TrustRow}
 use Rattle.ks_base.specs.Places.{IsFoundAt}

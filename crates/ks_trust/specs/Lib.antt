@@ -1,2 +1,3 @@
 -- Trusts.
 pub mod State
+pub mod Sides

@@ -1,10 +1,14 @@
 -- Trusts as a list of rows in the order of their ids, and the lists of ids that are told of them.
-use Rattle.std.specs.Prelude.{◌≡◌, Bool, true, false, not, ◌||◌, List, filter, map, Option, Some}
+use Rattle.std.specs.Prelude.{◌≡◌, Bool, true, false, not, ◌||◌, List, [], ◌∷◌, filter, map, Option, Some}
+use Rattle.std.specs.declared.cmp.Ordering.TheVariants.{Less}
+use Rattle.std.specs.List.{AllByRecursion-prop}
 use Rattle.std.specs.Option.{option_map_or}
+use Rattle.std.specs.Ordering.{Ordering-set}
+use Rattle.std.specs.Coded.{Unit-prop, ×_prop}
 use Rattle.ks_base.specs.declared.events.Revoke.{Revoke}
 use Rattle.ks_base.specs.declared.trusts.TrustRow.{TrustRow}
 use Rattle.ks_base.specs.Rows.{Id, has_id}
-use Rattle.ks_base.specs.Tables.{id_cmp, put_row, Among}
+use Rattle.ks_base.specs.Tables.{id_cmp, put_row, Among, IsAscending}
 use Rattle.ks_base.specs.Trusts.{has_role, names_trust, parent_trust}
 
 -- the ids of trusts; those that a list of ids names
@@ -30,3 +34,8 @@ with_trust trust trusts = put_row id_cmp (λ row. row.id) trust trusts
 
 abbrev pub without_trusts : List Id → List TrustRow → List TrustRow
 without_trusts ids trusts = filter (λ trust. not (is_listed ids trust)) trusts
+
+-- that ids ascend can be so in one way alone
+pub ids_ascend-prop : (ids : List Id) → IsProp (IsAscending id_cmp (λ id. id) ids)
+ids_ascend-prop [] = Unit-prop
+ids_ascend-prop (id ∷ ids) = ×_prop (AllByRecursion-prop (λ other. id_cmp id other ≡ Less) (λ other. Ordering-set (id_cmp id other) Less) ids) (ids_ascend-prop ids)

@@ -7,8 +7,10 @@ ghost use Rattle.ks_trust.specs.State.{with_trust, without_trusts, IsClosed};
 
 use crate::Trusts;
 use crate::checks::usable;
+use crate::sides::{Unlisted, drop_few, insert};
 use ks_base::by_id::place;
-use ks_base::{Boxed, Id, IdList, Memory, Row, TrustFault, TrustRow, has_id};
+use ks_base::{Id, IdList, Memory, Row, TrustFault, TrustRow, has_id};
+use ks_index::FEW;
 
 /// How often a trust serves yet after one use more.
 fn lowered(remaining: Option<u64>) -> Option<u64>
@@ -53,14 +55,34 @@ impl Trusts {
         Ok(())
     }
 
-    /// Takes the trusts with these ids out. It takes no memory.
+    /// Takes the trusts with these ids out. It takes no memory. Where they are few, no other trust is looked at.
     pub fn drop_all(&mut self, ids: &IdList)
         requires closed { IsClosed self.old ids.now }
         requires ascending { IsAscending id_cmp (λ id. id) ids.now }
         ensures { self.new ≡ without_trusts ids.now self.old }
     {
         let ids = ids.as_slice();
+        if ids.len() > FEW {
+            self.keep_others(ids);
+        } else {
+            self.drop_few(ids);
+        }
+    }
+
+    fn keep_others(&mut self, ids: &[Id])
+        requires closed { IsClosed self.old ids.now }
+        requires ascending { IsAscending id_cmp (λ id. id) ids.now }
+        ensures { self.new ≡ without_trusts ids.now self.old }
+    {
         self.rows.retain(|row| !has_id(ids, row.id()));
+        self.sides.keep(&Unlisted { ids });
+    }
+
+    fn drop_few(&mut self, ids: &[Id])
+        requires { IsClosed self.old ids.now }
+        ensures { self.new ≡ without_trusts ids.now self.old }
+    {
+        drop_few(&mut self.rows, &mut self.sides, ids);
     }
 
     /// Puts a new trust in its place.
@@ -73,7 +95,7 @@ impl Trusts {
         let Err(at) = place(self.rows.as_slice(), &row.id) else {
             unreachable!()
         };
-        Boxed::insert(&mut self.rows, at, row)?;
+        insert(&mut self.rows, &mut self.sides, at, row)?;
         Ok(())
     }
 }

@@ -3,8 +3,10 @@
 
 mod changes;
 mod checks;
+mod descent;
 mod laws;
 mod lists;
+mod sides;
 mod trusts;
 mod walk;
 

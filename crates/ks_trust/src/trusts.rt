@@ -3,8 +3,9 @@ ghost use Rattle.ks_base.specs.Rows.{trust_of, has_id};
 ghost use Rattle.ks_base.specs.Tables.{id_cmp, IsAscending};
 ghost use Rattle.ks_base.specs.Trusts.{parent_trust, AreChained};
 
+use crate::sides::TrustSide;
 use ks_base::by_id::place;
-use ks_base::{Boxed, Id, IdList, TrustRow};
+use ks_base::{Boxed, Id, IdList, RowSet, TrustRow};
 use std::alloc::Global;
 use std::marker::Model;
 
@@ -15,6 +16,8 @@ use std::marker::Model;
 #[derive(Drop)]
 pub struct Trusts {
     pub(crate) rows: Vec<Boxed<TrustRow>>,
+    /// What they name.
+    pub(crate) sides: RowSet<TrustSide>,
 }
 
 impl Model for Trusts {
@@ -22,12 +25,13 @@ impl Model for Trusts {
     ghost use Rattle.ks_base.specs.declared.trusts.TrustRow.{TrustRow};
     ghost use Rattle.ks_base.specs.Tables.{id_cmp, IsAscending};
     ghost use Rattle.ks_base.specs.Trusts.{AreChained};
+    ghost use Rattle.ks_trust.specs.Sides.{AreSides};
 
     ghost Value = { List TrustRow };
 
     ghost view = { λ trusts. trusts.rows.items };
 
-    ghost invariant = { λ trusts. IsAscending id_cmp (λ row. row.id) trusts.rows.items × AreChained trusts.rows.items };
+    ghost invariant = { λ trusts. IsAscending id_cmp (λ row. row.id) trusts.rows.items × AreChained trusts.rows.items × AreSides trusts.rows.items trusts.sides };
 }
 
 /// Whether the role is one of these, which stand in any order.
@@ -44,6 +48,7 @@ impl Trusts {
     {
         Trusts {
             rows: Vec::new(alloc),
+            sides: RowSet::new(alloc),
         }
     }
 

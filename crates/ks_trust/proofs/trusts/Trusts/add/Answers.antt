@@ -5,6 +5,7 @@ use Rattle.ks_base.specs.Rows.{trust_of}
 use Rattle.ks_base.specs.Tables.{id_cmp}
 use Rattle.ks_base.specs.Trusts.{IsChained}
 use Rattle.ks_base.proofs.PlaceLemmas.{find_found, put_gap, ascending_insert}
+use Rattle.ks_trust.specs.Sides.{AreSides}
 use Rattle.ks_trust.specs.State.{with_trust}
 use Rattle.ks_trust.proofs.RowChanges.{chained_insert}
 use Rattle.ks_trust.proofs.trusts.Trusts.add.Goals as goal
@@ -24,6 +25,7 @@ invariant_of-self-2 c =
     rw c.in_ok-insert.ensures.ok (
       ascending_insert id_cmp (λ row. row.id) nat_list_cmp_total c.args.row c.self.inside.rows.items c.in-Err.at c.self.invariant.0 gap,
       chained_insert c.self.inside.rows.items c.args.row c.in-Err.at gap c.self.invariant.1 none chained,
+      subst (λ (trusts : List TrustRow). AreSides trusts c.insert.new.index) c.in_ok-insert.ensures.ok c.in_ok-insert.ensures.sides,
     )
 
 pub returns-clause-ok : goal.returns-clause-ok
