@@ -15,8 +15,9 @@ use Rattle.ks_machine.proofs.FrontLemmas.{reflexive, same}
 use Rattle.ks_turn.proofs.StepLemmas.{begins, gives_turn, named}
 
 -- the word that a compare-exchange leaves is never 0, and neither is the one that a swap puts there
-pub never_free : (n : ℕ) → either (eqb n 0) 1 n ≢ 0
-never_free n = dite (ℕ_discrete n 0) (λ free. subst (λ b. either b 1 n ≢ 0) (sym (eq-eqb n 0 free)) (λ e. omega arith)) (λ held. subst (λ b. either b 1 n ≢ 0) (sym (ne_eqb n 0 held)) held)
+pub never_free : (taken : ℕ) → taken ≢ 0 → (n : ℕ) → either (eqb n 0) taken n ≢ 0
+never_free taken more n =
+    dite (ℕ_discrete n 0) (λ free. subst (λ b. either b taken n ≢ 0) (sym (eq-eqb n 0 free)) more) (λ held. subst (λ b. either b taken n ≢ 0) (sym (ne_eqb n 0 held)) held)
 
 pub waited_for : ℕ → ◌≢◌ {A = ℕ} 2 0
 waited_for n e = omega arith

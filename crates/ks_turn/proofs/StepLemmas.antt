@@ -1,5 +1,5 @@
 -- Each step of the turn keeps its rule.
-use Rattle.std.proofs.Common.{◌≡◌, ◌≢◌, ◌⊎◌, inl, inr, ⊎_elim, ℕ, zero, suc, ◌+◌, ◌-◌, ◌<◌, ◌≤◌, List, [], ◌∷◌, ◌++◌, length, max, set, get_or, Option, None, Some, true, false, refl, sym, ap, subst, ◌∙◌, arith, length-append, length-set, get_or-set_same}
+use Rattle.std.proofs.Common.{◌≡◌, ◌≢◌, ◌⊎◌, inl, inr, ⊎_elim, ℕ, zero, suc, ◌+◌, ◌-◌, ◌<◌, ◌≤◌, List, [], ◌∷◌, ◌++◌, length, max, set, get_or, Option, None, Some, true, false, refl, sym, ap, subst, ◌∙◌, arith, length-append, length-set, get_or-set_same, get_or-set_other}
 use Rattle.std.proofs.lemmas.Bool.Decides.{nat_tests}
 use Rattle.std.proofs.lemmas.Bool.{false≢true}
 use mathlib.Core.Logic.{dite}
@@ -13,7 +13,7 @@ use Rattle.ks_machine.specs.Fronts.{Front, IsSound, ◌⊑◌}
 use Rattle.ks_machine.proofs.FrontLemmas.{reflexive, transitive}
 use Rattle.ks_turn.specs.declared.view.Seen.{Seen}
 use Rattle.ks_turn.specs.declared.view.View.{View}
-use Rattle.ks_turn.specs.Rule.{AreOrdered, HasLast, HasTop, IsLast, HeldBy, Knows, Saw, Turned, gave, tried}
+use Rattle.ks_turn.specs.Rule.{AreOrdered, HasLast, HasTop, IsLast, HeldBy, Knows, Saw, Turned, gave, looked, tried}
 use Rattle.ks_turn.specs.Sums.{below, times, total}
 use Rattle.ks_turn.specs.Views.{cut_off, first_view, front_at, given, holding, left_over, met, risen, seen_of, since, spent}
 use Rattle.ks_turn.proofs.SumLemmas.{length-numbers, times-append, times-numbers, total_set, total_snoc}
@@ -133,6 +133,31 @@ module _ (first : Front) where
           lengths = r.lengths;
           high = r.high;
         }
+
+    -- the other word says nothing about the turn
+    unspoken : (s : St) (r : Rule s) (n : ℕ) → Rule (record { words = set s.words 0 n; homes = s.homes; views = s.views })
+    unspoken s r n =
+        let same : get_or (set s.words 0 n) 1 0 ≡ get_or s.words 1 0 = get_or-set_other s.words 0 1 n 0 (omega arith) in record {
+          base = r.base;
+          holder = r.holder;
+          two = length-set s.words 0 n ∙ r.two;
+          begun = r.begun;
+          start = r.start;
+          sound = r.sound;
+          free = λ z. r.free (sym same ∙ z);
+          taken = λ held. r.taken (λ z. held (same ∙ z));
+          each = λ by v e. subst (λ word. Knows first r.base word r.holder by v) (sym same) (r.each by v e);
+          ordered = r.ordered;
+          last = r.last;
+          weights = r.weights;
+          owned = r.owned;
+          lengths = r.lengths;
+          high = r.high;
+        }
+
+    pub looks : (slots id : ℕ) (me : Me (Option T) View) (n : ℕ) → Allows Rule slots id me 0 (λ _. n) (looked (step slots 0 n 0 none) me)
+    looks slots id me n s r wide at small =
+        (me.0, keeps, tt, subst (λ (vs : List View). Rule (record { words = set s.words 0 n; homes = s.homes; views = vs })) (sym (set_again s.views id me.0 at)) (unspoken s r n), refl)
 
     pub waits : (s : St) (r : Rule s) (id n : ℕ) (v : View) (cs : List (ℕ × Option T)) → get_elem? s.views id ≡ some v → word_of s ≢ 0 → n ≢ 0 → Rule (stepped s 1 n id cs v keeps)
     waits s r id n v cs at held more =

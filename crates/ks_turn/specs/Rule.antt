@@ -85,3 +85,7 @@ module _ (first : Front) {T : Type 0} (means : T → Front → Type 0) where
   abbrev pub gave : Step (Option T) → Me (Option T) View → ℕ → Me (Option T) View → Type 0
   gave st m n m' =
       (x : T) → m.1 ≡ (0, Some x) ∷ [] → (f : Front) → front_at first m.0.seen ⊑ f → means x f → (m'.0 ≡ given f m.0) × (m'.1 ≡ [])
+
+-- | a step that says nothing about the turn
+abbrev pub looked : {T : Type 0} → Step (Option T) → Me (Option T) View → ℕ → Me (Option T) View → Type 0
+looked st m n m' = m' ≡ m

@@ -1,4 +1,4 @@
-ghost use Rattle.std.specs.Prelude.{◌≡◌, ℕ, ◌≤◌, ◌<◌, false, true, [], ◌∷◌, length, Ok, Some, IfOk, IfErr};
+ghost use Rattle.std.specs.Prelude.{◌≡◌, ◌≢◌, ℕ, ◌≤◌, ◌<◌, false, true, [], ◌∷◌, length, Ok, Some, IfOk, IfErr};
 ghost use Rattle.ks_machine.specs.Fronts.{Front, IsSound, ◌⊑◌};
 ghost use Rattle.std.specs.Borrow.{Lends, sem};
 ghost use Rattle.ks_turn.specs.Passes.{Ends, IsPass, Lands, Met, Took, first_pass, keeping, passed, released, splitting};
@@ -7,14 +7,16 @@ ghost use Rattle.ks_turn.specs.Views.{front_at, given};
 
 use crate::first::{First, Journaled};
 use crate::pass::{NoSplit, Pass};
-use crate::view::{Cut, Give, Law, Meet, Take, View};
+use crate::view::{Cut, Give, Law, Look, Meet, Take, View};
 use atomic_table::{Refused, Seat, Table};
 use ks_base::Boxed;
 use std::alloc::{AllocFailed, Global};
 use std::marker::{Model, PhantomData};
 use std::sync::Wait;
 
-// The word that tells whether the turn is taken. The other is loaded where a pass is split and where two meet.
+// The word that tells whether one of those that wait looks for long. It says nothing about the turn.
+const LOOKER: usize = 0;
+// The word that tells whether the turn is taken.
 const TURN: usize = 1;
 
 const FREE: u64 = 0;
@@ -26,6 +28,9 @@ const WAITED_FOR: u64 = 2;
 // How often a caller looks whether the turn is free before it sleeps. A look is one load, and so many take about as long as
 // falling asleep and being woken do, which is longer than most holds.
 const LOOKS: u32 = 20_000;
+// How often one of those that wait looks, and it alone: for about as long as a disk takes to keep a change, so that the turn
+// goes on without a sleeper to be woken first. If all looked for so long, they would take the processors from those that work.
+const LONG_LOOKS: u32 = 150_000;
 
 /// A value that many callers use, one at a time. It stands behind a pointer, so that a hold moves no more than that.
 #[derive(Drop)]
@@ -156,21 +161,22 @@ impl<S: Journaled, N: First> Turn<S, N> {
         Ok((keeping, splitting))
     }
 
-    // Takes the turn where it is given back within a moment.
-    fn seize_soon(&self, seat: &mut Seat<Option<Boxed<S>>, View>) -> bool
+    // Takes the turn where it is given back within so many looks, and leaves this in its word.
+    fn seize_within(&self, seat: &mut Seat<Option<Boxed<S>>, View>, looks: u32, taken: u64) -> bool
         requires own { seat.old.table_id ≡ self.now }
         requires free { seat.old.me.1 ≡ [] }
         requires can { (0 < seat.old.me.0.weight) × (seat.old.me.0.holds ≡ false) }
+        requires taken { taken ≢ 0 }
         ensures own { seat.new.table_id ≡ seat.old.table_id }
         ensures took { result ≡ true → (x : S) × (seat.new.me.1 ≡ (0, Some x) ∷ []) × Told N.front S.stands seat.old.me.0 seat.new.me.0 x }
         ensures missed { result ≡ false → seat.new.me ≡ seat.old.me }
     {
-        for _ in 0..LOOKS {
+        for _ in 0..looks {
             if self.table.shared.peek(TURN) == FREE
                 && self
                     .table
                     .shared
-                    .compare_exchange::<Take<N>>(seat, TURN, FREE, HELD)
+                    .compare_exchange::<Take<N>>(seat, TURN, FREE, taken)
                     == FREE
             {
                 return true;
@@ -179,7 +185,29 @@ impl<S: Journaled, N: First> Turn<S, N> {
         false
     }
 
-    // Takes the turn. A caller that finds it taken for long sleeps until it is given back.
+    // Takes the turn where it is given back soon. Of all that wait, the first looks longest.
+    fn seize_soon(&self, seat: &mut Seat<Option<Boxed<S>>, View>, taken: u64) -> bool
+        requires own { seat.old.table_id ≡ self.now }
+        requires free { seat.old.me.1 ≡ [] }
+        requires can { (0 < seat.old.me.0.weight) × (seat.old.me.0.holds ≡ false) }
+        requires taken { taken ≢ 0 }
+        ensures own { seat.new.table_id ≡ seat.old.table_id }
+        ensures took { result ≡ true → (x : S) × (seat.new.me.1 ≡ (0, Some x) ∷ []) × Told N.front S.stands seat.old.me.0 seat.new.me.0 x }
+        ensures missed { result ≡ false → seat.new.me ≡ seat.old.me }
+    {
+        if self.seize_within(seat, 1, taken) {
+            return true;
+        }
+        if self.table.shared.swap::<Look>(seat, LOOKER, HELD) != FREE {
+            return self.seize_within(seat, LOOKS, taken);
+        }
+        let seized = self.seize_within(seat, LONG_LOOKS, taken);
+        self.table.shared.swap::<Look>(seat, LOOKER, FREE);
+        seized
+    }
+
+    // Takes the turn. A caller that finds it taken for long sleeps until it is given back. Since others may sleep as well, who
+    // slept leaves word that somebody waits.
     fn seize<R: Wait>(&self, rt: &R, seat: &mut Seat<Option<Boxed<S>>, View>)
         requires own { seat.old.table_id ≡ self.now }
         requires free { seat.old.me.1 ≡ [] }
@@ -187,7 +215,7 @@ impl<S: Journaled, N: First> Turn<S, N> {
         ensures own { seat.new.table_id ≡ seat.old.table_id }
         ensures took { (x : S) × (seat.new.me.1 ≡ (0, Some x) ∷ []) × Told N.front S.stands seat.old.me.0 seat.new.me.0 x }
     {
-        if self.seize_soon(seat) {
+        if self.seize_soon(seat, HELD) {
             return;
         }
         for _ in rt.forever() {
@@ -195,6 +223,9 @@ impl<S: Journaled, N: First> Turn<S, N> {
                 return;
             }
             self.table.shared.park(rt, TURN, WAITED_FOR as u32);
+            if self.seize_soon(seat, WAITED_FOR) {
+                return;
+            }
         }
         unreachable!()
     }

@@ -48,6 +48,15 @@ impl<S: Journaled, N: First> Play<Option<Boxed<S>>, View> for Take<N> {
     ghost then = { tried N.front S.stands };
 }
 
+// Somebody begins or ends to look for long.
+pub struct Look;
+
+impl<S: Journaled> Play<Option<Boxed<S>>, View> for Look {
+    ghost use Rattle.ks_turn.specs.Rule.{looked};
+
+    ghost then = { looked };
+}
+
 // The turn is given back.
 pub struct Give<N> {
     of: PhantomData<N>,

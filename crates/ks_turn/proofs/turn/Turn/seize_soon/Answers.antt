@@ -1,11 +1,10 @@
-use Rattle.std.proofs.Common.{◌<◌, rules, subst, sym, ◌∙◌}
-use Rattle.ks_turn.proofs.CallLemmas.{never_free}
-use Rattle.ks_turn.proofs.StepLemmas.{tries}
+use Rattle.std.proofs.Common.{rules, sym, ◌∙◌}
+use Rattle.ks_turn.proofs.StepLemmas.{looks}
 use Rattle.ks_turn.proofs.turn.Turn.seize_soon.Goals as goal
 
-pub compare_exchange-requires : goal.compare_exchange-requires
-compare_exchange-requires g c = (
-  c.loop.invariant.0 ∙ c.requires.own ∙ sym c.self.view_is,
-  search rules,
-  tries _ _ _ _ _ _ never_free (subst (λ m. 0 < m.0.weight) (sym c.loop.invariant.1) c.requires.can.0),
-)
+pub swap-requires : goal.swap-requires
+swap-requires g c = (c.seize_within.ensures.own ∙ c.requires.own ∙ sym c.self.view_is, search rules, looks _ _ _ _ _ 1)
+
+pub swap-requires-2 : goal.swap-requires-2
+swap-requires-2 g c =
+    (c.seize_within-seized.ensures.own ∙ c.swap.ensures.0 ∙ c.seize_within.ensures.own ∙ c.requires.own ∙ sym c.self.view_is, search rules, looks _ _ _ _ _ 0)
