@@ -82,6 +82,7 @@ def measure(words):
         made = server.all_of([request("POST", "/v3/OS-TRUST/trusts", body, tokens[1])] * trusts, 201)
         one = json.loads(made[0][2])["trust"]["id"]
         server.timed(f"one of {trusts:,} trusts ended", request("DELETE", f"/v3/OS-TRUST/trusts/{one}", None, tokens[1]), 204)
+        server.timed(f"a user's trusts listed, who has none of {trusts - 1:,}", request("GET", "/v3/OS-TRUST/trusts?trustor_user_id=nobody", None, tokens[0]), 200)
         server.timed(f"a user's effective assignments among {PROJECTS:,} projects",
                      request("GET", f"/v3/role_assignments?effective&user.id={user}", None, tokens[0]), 200)
         server.timed(f"one of {PROJECTS:,} projects listed by its name", request("GET", f"/v3/projects?name=project{PROJECTS - 1}", None, tokens[0]), 200)

@@ -162,7 +162,8 @@ def page(told):
             place = file.relative_to(CRATES / crate / "specs")
             section += [f"### `{place}`{f': {source}' if source else ''}\n\n{''.join(lines)}"] if lines else []
         if section:
-            parts += [f"## `{crate}`: {title.rstrip('.')}\n", *([f"{below}\n"] if below else []), *section]
+            named = title.rstrip(".")
+            parts += [f"## `{crate}`{f': {named}' if named else ''}\n", *([f"{below}\n"] if below else []), *section]
     return "\n".join(parts)
 
 

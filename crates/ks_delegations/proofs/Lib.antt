@@ -1,3 +1,4 @@
 pub mod AskedLemmas
 pub mod CredLemmas
+pub mod ListedLemmas
 pub mod TrustLemmas

@@ -1,1 +1,2 @@
 pub mod Creds
+pub mod Listed

@@ -1,5 +1,5 @@
 //! Trusts: making one, and what is told of them (OS-TRUST).
-ghost use Rattle.std.specs.Prelude.{◌≡◌, IfOk, Err, Some, true, map, filter, length, nat_lt, codes};
+ghost use Rattle.std.specs.Prelude.{◌≡◌, IfOk, IfSome, Err, Some, true, map, filter, length, nat_lt, codes};
 ghost use Rattle.std.specs.Option.{option_copied};
 ghost use Rattle.ks_auth.specs.Answers.{rows_told};
 ghost use Rattle.ks_base.specs.declared.receipt.Drawn.TheVariants as drawns;
@@ -15,13 +15,14 @@ ghost use Rattle.ks_machine.specs.declared.cause.Cause.TheVariants as causes;
 ghost use Rattle.ks_machine.specs.Tables.{standing_trust};
 ghost use Rattle.ks_checks.specs.declared.halt.Halt.TheVariants as halts;
 ghost use Rattle.ks_checks.specs.Checked.{after_trust};
+ghost use Rattle.ks_delegations.specs.Listed.{IsOfAll};
 ghost use Rattle.ks_checks.specs.Plans.{Gives, Passes, Plans, outcome_of, valid_of};
 
 use ks_auth::{Tables, cred_in_payload, roles_to_give};
 use ks_base::limits::REDELEGATIONS;
 use ks_base::{
-    Boxed, FieldList, Filter, Id, IdList, Kind, Memory, RoleList, RoleRow, ShapeFault, Text,
-    TrustFault, TrustRow,
+    Boxed, FieldList, Filter, Id, IdList, Kind, Memory, Revoke, RoleList, RoleRow, ShapeFault,
+    Text, TrustFault, TrustRow,
 };
 use ks_checks::checks::{need, standing_project, standing_user};
 use ks_checks::draws::made_id;
@@ -319,12 +320,56 @@ fn trusts_listed(
     Ok(rows)
 }
 
+/// The user whom each trust that passes the filters has as its trustor or its trustee, if they name one.
+fn user_asked(filters: &FieldList) -> Option<Id>
+    ensures { IfSome result (λ user. IsOfAll (is_trust_listed filters.now) user) }
+{
+    let wanted = match value_in(filters, "trustor_user_id") {
+        Some(trustor) => trustor,
+        None => value_in(filters, "trustee_user_id")?,
+    };
+    Id::read(wanted.as_slice()).ok()
+}
+
+/// The trusts that pass the filters, all of which are this user's. No other trust is looked at.
+fn trusts_of_user(
+    alloc: Global,
+    tables: &Tables,
+    filters: &FieldList,
+    user: &Id,
+) -> Result<RowList, Memory>
+    requires { IsOfAll (is_trust_listed filters.now) user.now }
+    ensures { IfOk result (λ rows. rows ≡ map (told_trust (rows_told tables.now)) (filter (is_trust_listed filters.now) tables.now.trusts.now)) }
+{
+    let ids = tables.trusts.ids_naming(&Revoke::User(*user))?;
+    let mut rows = RowList::new(alloc);
+    for id in ids.as_slice() {
+        let Some(trust) = tables.trusts.trust(id) else {
+            unreachable!()
+        };
+        if is_trust_listed(filters, trust) {
+            rows.push(told_trust(alloc, tables, trust)?)?;
+        }
+    }
+    Ok(rows)
+}
+
+/// The trusts that pass the filters.
+fn trusts_asked(alloc: Global, tables: &Tables, filters: &FieldList) -> Result<RowList, Memory>
+    ensures { IfOk result (λ rows. rows ≡ map (told_trust (rows_told tables.now)) (filter (is_trust_listed filters.now) tables.now.trusts.now)) }
+{
+    match user_asked(filters) {
+        Some(user) => trusts_of_user(alloc, tables, filters, &user),
+        None => trusts_listed(alloc, tables, filters, tables.trusts.rows()),
+    }
+}
+
 /// The trusts, or those of one trustor, one trustee or both.
 #[tactic(auto, unfolding(ks_machine::specs::TrustCommands::list_trusts))]
 pub fn list_trusts(alloc: Global, tables: &Tables, filters: &Filter) -> Result<Plan, Memory>
     ensures { IfOk result (λ plan. outcome_of plan ≡ list_trusts (rows_told tables.now) filters.now) }
 {
-    let rows = trusts_listed(alloc, tables, &filters.fields, tables.trusts.rows())?;
+    let rows = trusts_asked(alloc, tables, &filters.fields)?;
     let path = Text::of(alloc, "/v3/OS-TRUST/trusts")?;
     Ok(Plan::tells(BodyOut::Trusts(rows, path)))
 }
