@@ -60,6 +60,7 @@ pub fn derived_or(
 }
 
 /// The change of one's own password.
+#[inline(never)]
 #[tactic(auto, unfolding(ks_machine::specs::Passwords::change_password))]
 pub fn change_password(
     alloc: Global,

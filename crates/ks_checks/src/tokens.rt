@@ -101,6 +101,7 @@ pub fn missing(alloc: Global, name: &str) -> Result<Cause, Memory>
 }
 
 /// The caller, by the text of a token.
+#[inline(never)]
 #[tactic(auto, unfolding(ks_machine::specs::Admission::caller_of))]
 pub fn caller_of(
     alloc: Global,

@@ -186,6 +186,7 @@ fn create_in_parts(
 }
 
 /// A credential of the user on the project of the caller's token. Its secret is told this once.
+#[inline(never)]
 pub fn create_app_cred(
     alloc: Global,
     tables: &Tables,

@@ -47,6 +47,7 @@ fn creds_of(alloc: Global, tables: &Tables, user: &Id) -> Result<RowList, Memory
 }
 
 /// The user's credentials, of which alone there is a walk.
+#[inline(never)]
 #[tactic(auto, unfolding(ks_machine::specs::AppCredCommands::list_app_creds))]
 pub fn list_app_creds(alloc: Global, tables: &Tables, user: &Id) -> Result<Plan, Halt>
     ensures { Plans result (list_app_creds (rows_told tables.now) user.now) }
@@ -62,6 +63,7 @@ pub fn list_app_creds(alloc: Global, tables: &Tables, user: &Id) -> Result<Plan,
     Ok(Plan::tells(BodyOut::AppCreds(rows, path)))
 }
 
+#[inline(never)]
 #[tactic(auto, unfolding(ks_machine::specs::AppCredCommands::get_app_cred))]
 pub fn get_app_cred(alloc: Global, tables: &Tables, user: &Id, id: &Id) -> Result<Plan, Halt>
     ensures { Plans result (get_app_cred (rows_told tables.now) user.now id.now) }
@@ -72,6 +74,7 @@ pub fn get_app_cred(alloc: Global, tables: &Tables, user: &Id, id: &Id) -> Resul
     Ok(Plan::tells(BodyOut::one(alloc, told, false)?))
 }
 
+#[inline(never)]
 #[tactic(auto, unfolding(ks_machine::specs::AppCredCommands::delete_app_cred))]
 pub fn delete_app_cred(tables: &Tables, caller: &Caller, user: &Id, id: &Id) -> Result<Plan, Halt>
     ensures { Plans result (delete_app_cred (rows_told tables.now) (valid_of caller.now) user.now id.now) }

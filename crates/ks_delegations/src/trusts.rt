@@ -256,6 +256,7 @@ fn put_trust(alloc: Global, tables: &Tables, moment: u64, new: TrustRow) -> Resu
 }
 
 /// A trust that the caller gives. Its roles are in the order of their ids, each once.
+#[inline(never)]
 #[tactic(auto, unfolding(ks_machine::specs::TrustCommands::create_trust))]
 pub fn create_trust(
     alloc: Global,
@@ -365,6 +366,7 @@ fn trusts_asked(alloc: Global, tables: &Tables, filters: &FieldList) -> Result<R
 }
 
 /// The trusts, or those of one trustor, one trustee or both.
+#[inline(never)]
 #[tactic(auto, unfolding(ks_machine::specs::TrustCommands::list_trusts))]
 pub fn list_trusts(alloc: Global, tables: &Tables, filters: &Filter) -> Result<Plan, Memory>
     ensures { IfOk result (λ plan. outcome_of plan ≡ list_trusts (rows_told tables.now) filters.now) }
@@ -375,6 +377,7 @@ pub fn list_trusts(alloc: Global, tables: &Tables, filters: &Filter) -> Result<P
 }
 
 /// One trust.
+#[inline(never)]
 #[tactic(auto, unfolding(ks_machine::specs::TrustCommands::get_trust))]
 pub fn get_trust(alloc: Global, tables: &Tables, id: &Id) -> Result<Plan, Halt>
     ensures { Plans result (get_trust (rows_told tables.now) id.now) }
@@ -385,6 +388,7 @@ pub fn get_trust(alloc: Global, tables: &Tables, id: &Id) -> Result<Plan, Halt>
 }
 
 /// Ends a trust.
+#[inline(never)]
 #[tactic(auto, unfolding(ks_machine::specs::TrustCommands::delete_trust))]
 pub fn delete_trust(tables: &Tables, id: &Id) -> Result<Plan, Halt>
     ensures { Plans result (delete_trust (rows_told tables.now) id.now) }
@@ -415,6 +419,7 @@ fn roles_among(alloc: Global, rows: &[Boxed<RoleRow>], ids: &IdList) -> Result<R
 }
 
 /// The roles that a trust gives, in the order of their ids.
+#[inline(never)]
 #[tactic(auto, unfolding(ks_machine::specs::TrustCommands::roles_of_trust))]
 pub fn roles_of_trust(alloc: Global, tables: &Tables, id: &Id) -> Result<Plan, Halt>
     ensures { Plans result (roles_of_trust (rows_told tables.now) id.now) }

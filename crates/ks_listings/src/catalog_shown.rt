@@ -25,6 +25,7 @@ fn services_of(alloc: Global, tables: &Tables, payload: &Payload) -> Result<Serv
 }
 
 /// What the caller's own token tells of services.
+#[inline(never)]
 #[tactic(auto, unfolding(ks_machine::specs::CatalogCommands::show_catalog))]
 pub fn show_catalog(alloc: Global, tables: &Tables, caller: &Caller) -> Result<Plan, Memory>
     ensures { IfOk result (λ plan. outcome_of plan ≡ show_catalog (rows_told tables.now) (valid_of caller.now)) }

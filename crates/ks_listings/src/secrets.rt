@@ -35,6 +35,7 @@ fn all_secrets(alloc: Global, factors: &Factors) -> Result<RowList, Memory>
     secrets_of(alloc, factors, ids.as_slice())
 }
 
+#[inline(never)]
 #[tactic(auto, unfolding(ks_machine::specs::FactorCommands::list_secrets))]
 pub fn list_secrets(alloc: Global, tables: &Tables) -> Result<Plan, Memory>
     ensures { IfOk result (λ plan. outcome_of plan ≡ list_secrets (rows_told tables.now)) }
@@ -44,6 +45,7 @@ pub fn list_secrets(alloc: Global, tables: &Tables) -> Result<Plan, Memory>
     Ok(Plan::tells(BodyOut::Secrets(rows, path)))
 }
 
+#[inline(never)]
 #[tactic(auto, unfolding(ks_machine::specs::FactorCommands::get_secret))]
 pub fn get_secret(alloc: Global, tables: &Tables, id: &Id) -> Result<Plan, Halt>
     ensures { Plans result (get_secret (rows_told tables.now) id.now) }

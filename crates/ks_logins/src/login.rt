@@ -170,6 +170,7 @@ fn token_given(
 }
 
 /// A login.
+#[inline(never)]
 #[tactic(auto, unfolding(ks_machine::specs::Login::login))]
 pub fn login(
     alloc: Global,

@@ -170,6 +170,7 @@ fn subject_in<'a>(
 }
 
 /// What is told of the token that the call is about.
+#[inline(never)]
 fn told_subject(
     alloc: Global,
     tables: &Tables,
@@ -190,6 +191,7 @@ fn told_subject(
 }
 
 /// Ends the token that the call is about.
+#[inline(never)]
 fn revoked_subject(
     alloc: Global,
     tables: &Tables,
@@ -205,6 +207,8 @@ fn revoked_subject(
 }
 
 /// The command's own checks, once its caller and its subject are admitted.
+///
+/// Each is a function that stays one, since the compiler fills the places of all that is made part of this one at its entry.
 #[tactic(auto, unfolding(ks_machine::specs::Steps::own_checks))]
 fn own_checks(
     alloc: Global,

@@ -35,6 +35,7 @@ fn live(alloc: Global, life: u64, moment: u64, kept: &[EventRow]) -> Result<Even
 }
 
 /// The revocations that are live at this moment.
+#[inline(never)]
 #[tactic(auto, unfolding(ks_machine::specs::Listings::events))]
 pub fn events(alloc: Global, tables: &Tables, moment: u64) -> Result<Plan, Memory>
     requires moment { tables.now.revoked.now.high ≤ moment }

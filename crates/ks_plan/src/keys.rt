@@ -114,6 +114,7 @@ fn is_below_end(tables: &Tables) -> Result<(), Halt>
 }
 
 /// Moves the keys on, and stages a new one.
+#[inline(never)]
 #[tactic(auto, unfolding(ks_machine::specs::Keys::rotate_keys))]
 pub fn rotate_keys(alloc: Global, tables: &Tables, drawn: &[u8; 64]) -> Result<Plan, Halt>
     ensures { (S : State) → Tells tables.now S → Plans result (rotate_keys S (drawns.Bytes drawn.now)) }
@@ -160,6 +161,7 @@ fn indices_loaded(alloc: Global, found: &KeyList) -> Result<IndexList, Memory>
 }
 
 /// Holds the keys of the folder.
+#[inline(never)]
 #[tactic(auto, unfolding(ks_machine::specs::Keys::load_keys))]
 pub fn load_keys(alloc: Global, tables: &Tables, read: &FolderRead) -> Result<Plan, Halt>
     requires { IsFolder read.now }

@@ -177,6 +177,7 @@ fn rows_asked(alloc: Global, tables: &Tables, fields: &FieldList) -> Result<Gran
     }
 }
 
+#[inline(never)]
 #[tactic(auto, unfolding(ks_machine::specs::Assignments::assignments))]
 pub fn assignments(alloc: Global, tables: &Tables, filters: &Filter) -> Result<Plan, Memory>
     ensures { IfOk result (λ plan. outcome_of plan ≡ assignments (rows_told tables.now) filters.now) }

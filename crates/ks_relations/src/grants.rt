@@ -92,6 +92,7 @@ fn has_grant(tables: &Tables, who: &Actor, at: &Target, inherited: bool, role: &
     })
 }
 
+#[inline(never)]
 #[tactic(auto, unfolding(ks_machine::specs::Members::grants_of))]
 pub fn grants_of(
     alloc: Global,
@@ -109,6 +110,7 @@ pub fn grants_of(
     Ok(Plan::tells(BodyOut::Grants(found, path)))
 }
 
+#[inline(never)]
 #[tactic(auto, unfolding(ks_machine::specs::Members::grant))]
 pub fn grant(tables: &Tables, granted: &GrantRow) -> Result<Plan, Halt>
     ensures { Plans result (grant (rows_told tables.now) granted.now) }
@@ -119,6 +121,7 @@ pub fn grant(tables: &Tables, granted: &GrantRow) -> Result<Plan, Halt>
     Ok(unless_standing(stands, Change::Grant(*granted), BodyOut::Nothing))
 }
 
+#[inline(never)]
 #[tactic(auto, unfolding(ks_machine::specs::Members::is_granted))]
 pub fn is_granted(tables: &Tables, granted: &GrantRow) -> Result<Plan, Halt>
     ensures { Plans result (is_granted (rows_told tables.now) granted.now) }
@@ -128,6 +131,7 @@ pub fn is_granted(tables: &Tables, granted: &GrantRow) -> Result<Plan, Halt>
     Ok(Plan::tells(BodyOut::Nothing))
 }
 
+#[inline(never)]
 #[tactic(auto, unfolding(ks_machine::specs::Members::ungrant))]
 pub fn ungrant(tables: &Tables, granted: &GrantRow) -> Result<Plan, Halt>
     ensures { Plans result (ungrant (rows_told tables.now) granted.now) }

@@ -75,6 +75,7 @@ fn users_found(alloc: Global, tables: &Tables, group: &Id) -> Result<RowList, Me
 }
 
 /// The groups that the user is in.
+#[inline(never)]
 #[tactic(auto, unfolding(ks_machine::specs::Members::list_groups_of))]
 pub fn groups_of(alloc: Global, tables: &Tables, user: &Id) -> Result<Plan, Halt>
     ensures { Plans result (list_groups_of (rows_told tables.now) user.now) }
@@ -86,6 +87,7 @@ pub fn groups_of(alloc: Global, tables: &Tables, user: &Id) -> Result<Plan, Halt
 }
 
 /// The users in the group.
+#[inline(never)]
 #[tactic(auto, unfolding(ks_machine::specs::Members::list_members_of))]
 pub fn members_of(alloc: Global, tables: &Tables, group: &Id) -> Result<Plan, Halt>
     ensures { Plans result (list_members_of (rows_told tables.now) group.now) }
@@ -96,6 +98,7 @@ pub fn members_of(alloc: Global, tables: &Tables, group: &Id) -> Result<Plan, Ha
     Ok(Plan::tells(BodyOut::Many(RowKind::User, rows, path)))
 }
 
+#[inline(never)]
 #[tactic(auto, unfolding(ks_machine::specs::Members::join))]
 pub fn join(tables: &Tables, member: &MemberRow) -> Result<Plan, Halt>
     ensures { Plans result (join (rows_told tables.now) member.now) }
@@ -105,6 +108,7 @@ pub fn join(tables: &Tables, member: &MemberRow) -> Result<Plan, Halt>
     Ok(unless_standing(stands, Change::Join(*member), BodyOut::Nothing))
 }
 
+#[inline(never)]
 #[tactic(auto, unfolding(ks_machine::specs::Members::is_in))]
 pub fn is_in(tables: &Tables, member: &MemberRow) -> Result<Plan, Halt>
     ensures { Plans result (is_in (rows_told tables.now) member.now) }
@@ -113,6 +117,7 @@ pub fn is_in(tables: &Tables, member: &MemberRow) -> Result<Plan, Halt>
     Ok(Plan::tells(BodyOut::Nothing))
 }
 
+#[inline(never)]
 #[tactic(auto, unfolding(ks_machine::specs::Members::leave))]
 pub fn leave(tables: &Tables, member: &MemberRow) -> Result<Plan, Halt>
     ensures { Plans result (leave (rows_told tables.now) member.now) }
@@ -122,6 +127,7 @@ pub fn leave(tables: &Tables, member: &MemberRow) -> Result<Plan, Halt>
 }
 
 /// The roles that this one implies directly.
+#[inline(never)]
 #[tactic(auto, unfolding(ks_machine::specs::Members::implied))]
 pub fn implied(alloc: Global, tables: &Tables, prior: &Id) -> Result<Plan, Halt>
     ensures { Plans result (implied (rows_told tables.now) prior.now) }
@@ -147,6 +153,7 @@ fn told_inference(
     Ok(BodyOut::Inference(Boxed::new(alloc, prior)?, Boxed::new(alloc, implied)?, made))
 }
 
+#[inline(never)]
 #[tactic(auto, unfolding(ks_machine::specs::Members::imply))]
 pub fn imply(alloc: Global, tables: &Tables, inference: &ImplyRow) -> Result<Plan, Halt>
     ensures { Plans result (imply (rows_told tables.now) inference.now) }
@@ -164,6 +171,7 @@ fn implies(tables: &Tables, inference: &ImplyRow) -> Result<(), Halt>
     row(tables.roles.may_unimply(inference))
 }
 
+#[inline(never)]
 #[tactic(auto, unfolding(ks_machine::specs::Members::implication))]
 pub fn implication(alloc: Global, tables: &Tables, inference: &ImplyRow) -> Result<Plan, Halt>
     ensures { Plans result (implication (rows_told tables.now) inference.now) }
@@ -173,6 +181,7 @@ pub fn implication(alloc: Global, tables: &Tables, inference: &ImplyRow) -> Resu
     Ok(Plan::tells(told))
 }
 
+#[inline(never)]
 #[tactic(auto, unfolding(ks_machine::specs::Members::is_implied))]
 pub fn is_implied(tables: &Tables, inference: &ImplyRow) -> Result<Plan, Halt>
     ensures { Plans result (is_implied (rows_told tables.now) inference.now) }
@@ -181,6 +190,7 @@ pub fn is_implied(tables: &Tables, inference: &ImplyRow) -> Result<Plan, Halt>
     Ok(Plan::tells(BodyOut::Nothing))
 }
 
+#[inline(never)]
 #[tactic(auto, unfolding(ks_machine::specs::Members::unimply))]
 pub fn unimply(tables: &Tables, inference: &ImplyRow) -> Result<Plan, Halt>
     ensures { Plans result (unimply (rows_told tables.now) inference.now) }

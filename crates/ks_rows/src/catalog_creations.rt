@@ -137,6 +137,7 @@ fn create_endpoint(
 }
 
 /// A creation of a row of the catalog by what the body says.
+#[inline(never)]
 #[tactic(auto, unfolding(ks_machine::specs::CatalogCommands::create_catalog))]
 pub fn create_catalog(
     alloc: Global,

@@ -97,6 +97,7 @@ fn update_endpoint(alloc: Global, tables: &Tables, id: &Id, asked: &CatalogIn) -
 }
 
 /// A change of the row of the catalog with this id by what the body says.
+#[inline(never)]
 #[tactic(auto, unfolding(ks_machine::specs::CatalogCommands::update_catalog))]
 pub fn update_catalog(
     alloc: Global,

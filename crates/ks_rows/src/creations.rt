@@ -223,6 +223,7 @@ fn group_row(
 }
 
 /// A creation of a row by what the body says; its id is drawn.
+#[inline(never)]
 #[tactic(auto, unfolding(ks_machine::specs::Creations::create))]
 pub fn create(
     alloc: Global,

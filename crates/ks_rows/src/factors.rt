@@ -58,6 +58,7 @@ fn secret_row(id: Id, asked: &SecretBody) -> Result<SecretRow, Memory>
 }
 
 /// A new secret of a user that stands.
+#[inline(never)]
 #[tactic(auto, unfolding(ks_machine::specs::FactorCommands::create_secret))]
 pub fn create_secret(
     alloc: Global,
@@ -74,6 +75,7 @@ pub fn create_secret(
     Ok(Plan::changes(Change::PutSecret(new), told))
 }
 
+#[inline(never)]
 #[tactic(auto, unfolding(ks_machine::specs::FactorCommands::delete_secret))]
 pub fn delete_secret(tables: &Tables, id: &Id) -> Result<Plan, Halt>
     ensures { Plans result (delete_secret (rows_told tables.now) id.now) }

@@ -32,6 +32,7 @@ fn row_at(tables: &Tables, kind: RowKind, id: &Id) -> Result<Row, Halt>
     }
 }
 
+#[inline(never)]
 #[tactic(auto, unfolding(ks_machine::specs::Listings::get))]
 pub fn get(alloc: Global, tables: &Tables, kind: RowKind, id: &Id) -> Result<Plan, Halt>
     ensures { Plans result (get (rows_told tables.now) kind id.now) }
@@ -47,6 +48,7 @@ fn drops(change: Change) -> Result<Plan, Halt>
     Ok(Plan::changes(change, BodyOut::Nothing))
 }
 
+#[inline(never)]
 #[tactic(auto, unfolding(ks_machine::specs::Listings::delete))]
 pub fn delete(tables: &Tables, kind: RowKind, id: &Id) -> Result<Plan, Halt>
     ensures { Plans result (delete (rows_told tables.now) kind id.now) }

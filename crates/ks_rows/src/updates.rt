@@ -184,6 +184,7 @@ pub fn update_role(
 }
 
 /// A change of the row with this id by what the body says.
+#[inline(never)]
 #[tactic(auto, unfolding(ks_machine::specs::Updates::update))]
 pub fn update(
     alloc: Global,
