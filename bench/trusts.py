@@ -60,6 +60,7 @@ def opening(folder):
     with open(talk.O1, encoding="utf-8") as file:
         told = json.load(file)
     told["settings"]["life"] = 3600
+    told["users"].append({"id": "carol", "domain_id": "default", "name": "carol"})
     told["projects"] += [{"id": f"p{n}", "domain_id": "default", "name": f"project{n}"} for n in range(PROJECTS)]
     path = os.path.join(folder, "opening.json")
     with open(path, "w", encoding="utf-8") as out:
@@ -71,18 +72,24 @@ def measure(words):
     trusts = int(words[0]) if words else 65_536
     with tempfile.TemporaryDirectory(dir="/dev/shm" if os.path.isdir("/dev/shm") else None) as folder:
         path, told = opening(folder)
-        (admin, user), project = (row["id"] for row in told["users"]), told["projects"][0]
+        (admin, user, _), project = (row["id"] for row in told["users"]), told["projects"][0]
         server = Talk(program_of([]), path)
         tokens = [
             server.all_of([request("POST", "/v3/auth/tokens", login(name, secret, project_scope(project["name"])))], 201)[0][1]["x-subject-token"]
             for name, secret in (("ann", "secret"), ("bob", "hunter2"))
         ]
-        body = {"trust": {"trustor_user_id": user, "trustee_user_id": admin, "project_id": project["id"], "impersonation": True,
-                          "roles": [{"id": told["roles"][1]["id"]}]}}
-        made = server.all_of([request("POST", "/v3/OS-TRUST/trusts", body, tokens[1])] * trusts, 201)
+
+        def trust(trustee):
+            """A request of the user's for a trust to this one."""
+            body = {"trustor_user_id": user, "trustee_user_id": trustee, "project_id": project["id"], "impersonation": True,
+                    "roles": [{"id": told["roles"][1]["id"]}]}
+            return request("POST", "/v3/OS-TRUST/trusts", {"trust": body}, tokens[1])
+
+        made = server.all_of([trust(admin)] * trusts, 201)
         one = json.loads(made[0][2])["trust"]["id"]
         server.timed(f"one of {trusts:,} trusts ended", request("DELETE", f"/v3/OS-TRUST/trusts/{one}", None, tokens[1]), 204)
-        server.timed(f"a user's trusts listed, who has none of {trusts - 1:,}", request("GET", "/v3/OS-TRUST/trusts?trustor_user_id=nobody", None, tokens[0]), 200)
+        server.all_of([trust("carol")], 201)
+        server.timed(f"the one trust to a user listed, among {trusts:,}", request("GET", "/v3/OS-TRUST/trusts?trustee_user_id=carol", None, tokens[0]), 200)
         server.timed(f"a user's effective assignments among {PROJECTS:,} projects",
                      request("GET", f"/v3/role_assignments?effective&user.id={user}", None, tokens[0]), 200)
         server.timed(f"one of {PROJECTS:,} projects listed by its name", request("GET", f"/v3/projects?name=project{PROJECTS - 1}", None, tokens[0]), 200)
