@@ -195,11 +195,11 @@ impl<S: Journaled, N: First> Turn<S, N> {
         ensures took { result ≡ true → (x : S) × (seat.new.me.1 ≡ (0, Some x) ∷ []) × Told N.front S.stands seat.old.me.0 seat.new.me.0 x }
         ensures missed { result ≡ false → seat.new.me ≡ seat.old.me }
     {
-        if self.seize_within(seat, 1, taken) {
+        if self.seize_within(seat, LOOKS, taken) {
             return true;
         }
         if self.table.shared.swap::<Look>(seat, LOOKER, HELD) != FREE {
-            return self.seize_within(seat, LOOKS, taken);
+            return false;
         }
         let seized = self.seize_within(seat, LONG_LOOKS, taken);
         self.table.shared.swap::<Look>(seat, LOOKER, FREE);
