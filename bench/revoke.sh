@@ -2,15 +2,18 @@
 # Prints how long the crate ks_revoke takes to test a token that no event revokes, so that all eight things of its
 # holder are looked up: among 1,000 and among 262,144 greatest moments, on one core and as the best of several runs
 # in turn, for 64 tokens and for 1,024 that are tested over and over. Each thing of a token is drawn from those that
-# events name. The crate is measured from a program in a folder of its own, which goes afterwards; it is proved first,
+# events name. Then how long it takes to make room for an event of a new thing and to add it, among 1,000 and among
+# 260,144, the mean of 2,000 that come somewhere among the first fifth of the things. The crate is measured from a program in a folder of its own, which goes afterwards; it is proved first,
 # so a first run takes some minutes.
 set -e
 . "$(dirname "$0")/program.sh"
 
 begin revoke_bench 'ks_base ks_revoke anyhow'
 cat > src/main.rt <<'END'
-//! Times 1,024,000 tests among as many greatest moments as the first word says, of as many tokens as the second does.
+//! Times 1,024,000 tests among as many greatest moments as the first word says, of as many tokens as the second does,
+//! and then as many events more as the third says.
 #![tactic(auto)]
+ghost use Rattle.std.specs.Prelude.{◌≡◌, IfOk};
 
 use ks_base::{EventRow, Holder, Id, Revoke};
 use ks_revoke::{RevokeFault, Revoked};
@@ -50,7 +53,9 @@ fn thing(i: u64, count: u64) -> Option<Revoke> {
     }
 }
 
-fn filled(alloc: Global, count: u64) -> Result<Revoked, RevokeFault> {
+fn filled(alloc: Global, count: u64) -> Result<Revoked, RevokeFault>
+    ensures { IfOk result (λ revoked. revoked.high ≡ 1000) }
+{
     let mut revoked = Revoked::new(alloc, 3600);
     revoked.advance(1000);
     for i in 0..count {
@@ -61,6 +66,22 @@ fn filled(alloc: Global, count: u64) -> Result<Revoked, RevokeFault> {
         revoked.add(EventRow { what, moment: 1000 });
     }
     Ok(revoked)
+}
+
+/// Adds so many events of things that none names yet, somewhere among the tokens that events end.
+fn add_more(revoked: &mut Revoked, count: u64, more: u64) -> Result<(), RevokeFault>
+    requires { revoked.old.high ≡ 1000 }
+{
+    for i in 0..more {
+        let mut bytes = audit(i.wrapping_mul(0x9e37_79b9_7f4a_7c15) % (count / 5 + 1));
+        bytes[8..].copy_from_slice(&i.wrapping_add(1).to_be_bytes());
+        revoked.room(1)?;
+        revoked.add(EventRow {
+            what: Revoke::Audit(bytes),
+            moment: 1000,
+        });
+    }
+    Ok(())
 }
 
 /// The n-th of the holders, of things that events name.
@@ -130,7 +151,8 @@ fn main(rt: HostRuntime) -> anyhow::Result<()> {
     let _program = args.next();
     let count = number(args.next());
     let tokens = number(args.next());
-    let Ok(revoked) = filled(alloc, count) else {
+    let more = number(args.next());
+    let Ok(mut revoked) = filled(alloc, count) else {
         return Ok(());
     };
     let Ok(holders) = holders(alloc, count, tokens) else {
@@ -140,25 +162,34 @@ fn main(rt: HostRuntime) -> anyhow::Result<()> {
     let start = rt.process_cpu_time()?.as_nanos();
     let found = count_revoked(&revoked, holders.as_slice(), rounds);
     let end = rt.process_cpu_time()?.as_nanos();
-    println!(rt; "{start} {end} {} {} {found}", count_lent(&revoked), holders.len())?;
+    let lent = count_lent(&revoked);
+    let adding = rt.process_cpu_time()?.as_nanos();
+    if add_more(&mut revoked, count, more).is_err() {
+        return Ok(());
+    }
+    let added = rt.process_cpu_time()?.as_nanos();
+    let all = count_lent(&revoked);
+    println!(rt; "{start} {end} {lent} {} {found} {adding} {added} {all}", holders.len())?;
     Ok(())
 }
 END
-mkdir -p proofs/filled
-cat > proofs/filled/Invariants.antt <<'END'
+for function in filled add_more; do
+    mkdir -p "proofs/$function"
+    cat > "proofs/$function/Invariants.antt" <<END
 use Rattle.std.proofs.Common.{◌≡◌}
-use Rattle.revoke_bench.proofs.filled.Given as goal
+use Rattle.revoke_bench.proofs.$function.Given as goal
 
 abbrev pub invariant-loop-i : goal.invariant-loop-i
 invariant-loop-i l = l.revoked.high ≡ 1000
 END
+done
 run
 program=$PWD/out/revoke_bench
 
 # time_of N TOKENS: the nanoseconds of a test among N greatest moments; nothing where there are not as many, or where a
 # token is revoked.
 time_of() {
-    $one "$program" "$1" "$2" | awk -v n="$1" -v tokens="$2" \
+    $one "$program" "$1" "$2" 0 | awk -v n="$1" -v tokens="$2" \
         '$3 == n && $4 == tokens && $5 == 0 { printf "%.0f\n", ($2 - $1) / 1024000 }'
 }
 for tokens in 64 1024; do
@@ -177,3 +208,19 @@ for tokens in 64 1024; do
         printf "%.1f times as long\n", $3 / $2
     }'
 done
+
+# add_time_of N: the microseconds in which an event of a new thing finds room among N others and is added.
+add_time_of() {
+    $one "$program" "$1" 1 2000 | awk -v n="$1" '$3 == n && $8 == n + 2000 { printf "%.2f\n", ($7 - $6) / 2000000 }'
+}
+: > few
+: > many
+for _ in 1 2 3 4 5; do
+    add_time_of 1000 >> few
+    add_time_of 260144 >> many
+done
+if [ "$(cat few many | wc -l)" != 10 ]; then
+    echo 'revoke: an event is missing' >&2
+    exit 1
+fi
+echo "an event added: $(sort -n few | head -1) microseconds among 1,000, $(sort -n many | head -1) among 260,144"

@@ -1,5 +1,5 @@
 -- Lists of rows in general.
-use Rattle.std.proofs.Common.{◌≡◌, ◌+◌, ◌<◌, ◌≤◌, Bool, true, false, cond, inl, inr, List, [], ◌∷◌, ◌++◌, length, filter, refl, ap, ◌∙◌, arith}
+use Rattle.std.proofs.Common.{◌≡◌, ◌+◌, ◌≤◌, Bool, true, false, cond, inl, inr, List, [], ◌∷◌, ◌++◌, length, filter, refl, ap, ◌∙◌, arith}
 use Rattle.std.specs.Prelude.{not}
 use Rattle.std.specs.List.{AllByRecursion}
 use Rattle.std.specs.declared.cmp.Ordering.{Ordering}
@@ -8,7 +8,6 @@ use Rattle.std.specs.Ordering.{is_eq, ordering_reverse}
 use Rattle.std.specs.Cmp.{IsTotalOrder}
 use Rattle.std.proofs.lemmas.Cmp.{tied_itself}
 use Rattle.ks_base.specs.Tables.{Among, IsAscending, has_key, put_by, put_row}
-use Rattle.ks_base.proofs.ListLemmas.{fewer_behind, fewer_here, length_filter}
 use Rattle.ks_base.proofs.RowLemmas.{above_among, filter_among}
 use Rattle.ks_base.proofs.AmongLemmas.{fewer_left}
 

@@ -23,6 +23,7 @@ pub record IsHeld (life high : ℕ) (events marks : List EventRow) : Type 0 wher
   pub marks_are : AreMarks events (live life high marks)
   pub few : length marks ≤ length events + length events
 
--- how many events more may be added: as many as both lists have places for, and at most 262,144 in all
-abbrev pub room_of : ℕ → ℕ → ℕ → ℕ → ℕ
-room_of events event_places marks mark_places = min (EVENTS - events) (min (event_places - events) (mark_places - marks))
+-- how many events more may be added: as many as both lists have places for and as there are spare marks, and at most 262,144 in all
+abbrev pub room_of : ℕ → ℕ → ℕ → ℕ → ℕ → ℕ
+room_of events event_places marks mark_places spares =
+    min (min (EVENTS - events) spares) (min (event_places - events) (mark_places - marks))

@@ -27,3 +27,13 @@ impl From<AllocError> for RevokeFault {
         RevokeFault::Memory
     }
 }
+
+impl From<Memory> for RevokeFault {
+    ghost use Rattle.ks_revoke.specs.declared.fault.RevokeFault.TheVariants as variants;
+
+    ghost from_gives = { λ _ e. e ≡ variants.Memory };
+
+    fn from(_error: Memory) -> RevokeFault {
+        RevokeFault::Memory
+    }
+}

@@ -4,7 +4,7 @@ ghost use Rattle.std.specs.Iterator.{YieldsFirstRef, item_count};
 ghost use Rattle.ks_revoke.specs.Marks.{lent};
 
 use crate::live::is_live;
-use ks_base::EventRow;
+use ks_base::{Boxed, EventRow};
 use std::marker::Model;
 
 /// The rows of a table that are live at a moment, lent one after another in their order; contracts see those that are
@@ -13,7 +13,7 @@ use std::marker::Model;
 pub struct LiveMarks<'a> {
     life: u64,
     high: u64,
-    rows: &'a [EventRow],
+    rows: &'a [Boxed<EventRow>],
 }
 
 impl<'a> Model for LiveMarks<'a> {
@@ -25,7 +25,7 @@ impl<'a> Model for LiveMarks<'a> {
 }
 
 impl<'a> LiveMarks<'a> {
-    pub(crate) fn new(life: u64, high: u64, rows: &'a [EventRow]) -> LiveMarks<'a>
+    pub(crate) fn new(life: u64, high: u64, rows: &'a [Boxed<EventRow>]) -> LiveMarks<'a>
         ensures { result ≡ record { life = life; high = high; rows = rows.now } }
     {
         LiveMarks { life, high, rows }
@@ -42,8 +42,9 @@ impl<'a> Iterator for LiveMarks<'a> {
     fn next(&mut self) -> Option<&'a EventRow> {
         while let Some((first, others)) = self.rows.split_first() {
             self.rows = others;
-            if is_live(self.life, self.high, first) {
-                return Some(first);
+            let row = first.get();
+            if is_live(self.life, self.high, row) {
+                return Some(row);
             }
         }
         None

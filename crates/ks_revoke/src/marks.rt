@@ -1,5 +1,5 @@
 //! The greatest moments, a row a thing. A row whose events are all past may stand among them.
-ghost use Rattle.std.specs.Prelude.{◌≡◌, ◌+◌, ◌<◌, ◌≤◌, ◌↔◌, true, false, length, vec_len, vec_capacity};
+ghost use Rattle.std.specs.Prelude.{◌≡◌, ◌+◌, ◌<◌, ◌≤◌, ◌↔◌, true, false, length, vec_len, vec_capacity, IsOk, OnOk};
 ghost use Rattle.std.specs.List.{list_any};
 ghost use Rattle.std.specs.List.Sorted.{IsSearchInRange};
 ghost use Rattle.ks_base.specs.Places.{IsPlace};
@@ -9,8 +9,14 @@ ghost use Rattle.ks_revoke.specs.Marks.{ends_if};
 ghost use Rattle.ks_revoke.specs.Things.{rank_of, bytes_of, thing_cmp, thing_of, things_of};
 
 use crate::live::is_live;
-use ks_base::{EventRow, Holder, Revoke};
+use ks_base::{Boxed, EventRow, Holder, Memory, Revoke};
 use std::cmp::Ordering;
+
+/// What stands in a spare row.
+const BLANK: EventRow = EventRow {
+    what: Revoke::Audit([0; 16]),
+    moment: 0,
+};
 
 fn rank(thing: &Revoke) -> u8
     ensures { result ≡ rank_of thing.now }
@@ -43,26 +49,49 @@ fn compare(a: &Revoke, b: &Revoke) -> Ordering
 }
 
 /// The place of the row of this thing, or the one where it belongs.
-fn place(marks: &[EventRow], thing: &Revoke) -> Result<usize, usize>
+fn place(marks: &[Boxed<EventRow>], thing: &Revoke) -> Result<usize, usize>
     requires { IsAscending thing_cmp thing_of marks.now }
     ensures bound { IsSearchInRange result (length marks.now) }
     ensures place { IsPlace thing_cmp thing_of thing.now marks.now result }
 {
-    marks.binary_search_by(|mark| compare(&mark.what, thing))
+    marks.binary_search_by(|mark| compare(&mark.get().what, thing))
 }
 
-/// Puts the row in the place of its thing, over the one that stands there. There is room for it.
-pub(crate) fn put(marks: &mut Vec<EventRow>, row: &EventRow)
+/// Puts rows behind pointers until there are so many to spare. Where memory ends, those that were made stay.
+pub(crate) fn provide(spares: &mut Vec<Boxed<EventRow>>, count: usize) -> Result<(), Memory>
+    ensures ok { OnOk result (count ≤ length spares.new.items) }
+    ensures kept { length spares.old.items ≤ length spares.new.items }
+    ensures there { count ≤ length spares.old.items → IsOk result }
+{
+    let alloc = *spares.allocator();
+    while spares.len() < count {
+        spares.push(Boxed::new(alloc, BLANK)?)?;
+    }
+    Ok(())
+}
+
+/// Puts the row in the place of its thing, over the one that stands there or in one of the spare ones. There is room for it.
+pub(crate) fn put(
+    marks: &mut Vec<Boxed<EventRow>>,
+    spares: &mut Vec<Boxed<EventRow>>,
+    row: &EventRow,
+)
     requires ascending { IsAscending thing_cmp thing_of marks.old.items }
     requires room { vec_len marks.old < vec_capacity marks.old }
+    requires spare { 1 ≤ length spares.old.items }
     ensures rows { marks.new.items ≡ put_row thing_cmp thing_of row.now marks.old.items }
     ensures len { vec_len marks.new ≤ vec_len marks.old + 1 }
     ensures capacity { vec_capacity marks.new ≡ vec_capacity marks.old }
+    ensures spares { length spares.old.items ≤ length spares.new.items + 1 }
 {
     match place(marks.as_slice(), &row.what) {
-        Ok(at) => marks[at] = *row,
+        Ok(at) => marks[at].set(*row),
         Err(at) => {
-            let _inserted = marks.insert(at, *row);
+            let Some(mut spare) = spares.pop() else {
+                unreachable!()
+            };
+            spare.set(*row);
+            let _inserted = marks.insert(at, spare);
         }
     }
 }
@@ -97,7 +126,13 @@ fn things(holder: &Holder) -> [Option<Revoke>; 8]
 }
 
 /// Whether the live row of this thing, if there is one, ends the tokens that were issued then.
-fn ends(life: u64, high: u64, marks: &[EventRow], thing: &Option<Revoke>, issued: u64) -> bool
+fn ends(
+    life: u64,
+    high: u64,
+    marks: &[Boxed<EventRow>],
+    thing: &Option<Revoke>,
+    issued: u64,
+) -> bool
     requires { IsAscending thing_cmp thing_of marks.now }
     ensures { result ≡ ends_if issued (live life high marks.now) thing.now }
 {
@@ -106,7 +141,7 @@ fn ends(life: u64, high: u64, marks: &[EventRow], thing: &Option<Revoke>, issued
     };
     match place(marks, thing) {
         Ok(at) => {
-            let mark = &marks[at];
+            let mark = marks[at].get();
             is_live(life, high, mark) && issued <= mark.moment
         }
         Err(_) => false,
@@ -117,7 +152,7 @@ fn ends(life: u64, high: u64, marks: &[EventRow], thing: &Option<Revoke>, issued
 pub(crate) fn any_ends(
     life: u64,
     high: u64,
-    marks: &[EventRow],
+    marks: &[Boxed<EventRow>],
     holder: &Holder,
     issued: u64,
 ) -> bool

@@ -9,23 +9,26 @@ ghost use Rattle.ks_revoke.specs.Histories.{AreFew, History, Stands, added, adva
 ghost use Rattle.ks_revoke.specs.Things.{thing_cmp, thing_of, things_of};
 
 use crate::live::{drop_past, is_live};
-use crate::marks::{any_ends, is_sweep_due, put};
+use crate::marks::{any_ends, is_sweep_due, provide, put};
 use crate::{LiveMarks, RevokeFault};
 use ks_base::limits::EVENTS;
-use ks_base::{EventList, EventRow, Holder, Kind, Memory};
+use ks_base::{Boxed, EventList, EventRow, Holder, Kind, Memory};
 use std::alloc::Global;
 use std::collections::VecDeque;
 use std::marker::Model;
 
 /// The live events, in the order in which they were added, and the greatest moment of each thing that one of them
 /// names. The greatest moment of a thing that none of them names any more may stand for a while: it is past, and
-/// nothing that is told depends on it.
+/// nothing that is told depends on it. The moments stand behind pointers, so that making way for one among them moves
+/// little.
 #[derive(Drop)]
 pub struct Revoked {
     life: u64,
     high: u64,
     events: VecDeque<EventRow>,
-    marks: Vec<EventRow>,
+    marks: Vec<Boxed<EventRow>>,
+    /// Rows for marks to come, since an event that is added takes no memory.
+    spares: Vec<Boxed<EventRow>>,
 }
 
 impl Model for Revoked {
@@ -36,7 +39,7 @@ impl Model for Revoked {
 
     ghost Value = { Kept };
 
-    ghost view = { λ r. record { life = r.life; high = r.high; events = r.events.items; marks = r.marks.items; room = room_of (deque_len r.events) (deque_capacity r.events) (vec_len r.marks) (vec_capacity r.marks) } };
+    ghost view = { λ r. record { life = r.life; high = r.high; events = r.events.items; marks = r.marks.items; room = room_of (deque_len r.events) (deque_capacity r.events) (vec_len r.marks) (vec_capacity r.marks) (length r.spares.items) } };
 
     ghost invariant = { λ r. IsHeld r.life r.high r.events.items r.marks.items };
 }
@@ -52,6 +55,7 @@ impl Revoked {
             high: 0,
             events: VecDeque::new(alloc),
             marks: Vec::new(alloc),
+            spares: Vec::new(alloc),
         }
     }
 
@@ -71,6 +75,7 @@ impl Revoked {
         }
         self.events.reserve(more)?;
         self.marks.reserve(more)?;
+        provide(&mut self.spares, more)?;
         Ok(())
     }
 
@@ -83,7 +88,7 @@ impl Revoked {
         ensures history { (history : History) → Stands self.old history → Stands self.new (added row history) }
     {
         let _what = &row.what;
-        put(&mut self.marks, &row);
+        put(&mut self.marks, &mut self.spares, &row);
         self.events.push_back_reserved(row);
     }
 
@@ -104,7 +109,7 @@ impl Revoked {
         let life = self.life;
         drop_past(&mut self.events, life, high);
         if is_sweep_due(self.marks.len(), self.events.len()) {
-            self.marks.retain(|mark| is_live(life, high, mark));
+            self.marks.retain(|mark| is_live(life, high, mark.get()));
         }
     }
 

@@ -20,17 +20,17 @@ found_ends issued test found row b is passes = rw (is, sym passes) (by b)
 
 pub returns-then-is_live : goal.returns-then-is_live
 returns-then-is_live c =
-    let found = find_found thing_cmp thing_of c.in-Some.thing c.args.marks.now c.in-Ok.at c.index-marks-at.result c.in-Ok.ensures.place ∙ ap Some (sym c.index-marks-at.is) in
+    let found = find_found thing_cmp thing_of c.in-Some.thing c.args.marks.now c.in-Ok.at c.index-marks-at.result c.in-Ok.ensures.place ∙ ap Some (sym (c.get-mark.ensures ∙ c.index-marks-at.is)) in
     let left = find_filter thing_cmp thing_of thing_total (is_live c.args.life c.args.high) c.in-Some.thing c.args.marks.now c.requires in
-    rw c.in-Some.is (found_ends c.args.issued (is_live c.args.life c.args.high) _ c.index-marks-at.result true found (sym c.if-is_live.true ∙ c.is_live.ensures)
+    rw c.in-Some.is (found_ends c.args.issued (is_live c.args.life c.args.high) _ c.get-mark.result.now true found (sym c.if-is_live.true ∙ c.is_live.ensures)
     ∙ sym (ap (ends_then c.args.issued) left))
 
 pub returns-else-is_live : goal.returns-else-is_live
 returns-else-is_live c =
-    let found = find_found thing_cmp thing_of c.in-Some.thing c.args.marks.now c.in-Ok.at c.index-marks-at.result c.in-Ok.ensures.place ∙ ap Some (sym c.index-marks-at.is) in
+    let found = find_found thing_cmp thing_of c.in-Some.thing c.args.marks.now c.in-Ok.at c.index-marks-at.result c.in-Ok.ensures.place ∙ ap Some (sym (c.get-mark.ensures ∙ c.index-marks-at.is)) in
     let left = find_filter thing_cmp thing_of thing_total (is_live c.args.life c.args.high) c.in-Some.thing c.args.marks.now c.requires in
     rw c.in-Some.is (c.if-is_live.false
-    ∙ found_ends c.args.issued (is_live c.args.life c.args.high) _ c.index-marks-at.result false found (sym c.if-is_live.false ∙ c.is_live.ensures)
+    ∙ found_ends c.args.issued (is_live c.args.life c.args.high) _ c.get-mark.result.now false found (sym c.if-is_live.false ∙ c.is_live.ensures)
     ∙ sym (ap (ends_then c.args.issued) left))
 
 pub returns-in-Err : goal.returns-in-Err

@@ -6,10 +6,11 @@ use Rattle.ks_revoke.proofs.marks.put.Goals as goal
 pub returns-in-Ok-clause-rows : goal.returns-in-Ok-clause-rows
 returns-in-Ok-clause-rows c =
     let there = rw c.as_slice.ensures.value at c.in-Ok.ensures.place in
-    sym (put_found thing_cmp thing_of c.args.row.now c.args.marks.now.items c.in-Ok.at there)
+    rw c.set.ensures (sym (put_found thing_cmp thing_of c.args.row.now c.args.marks.now.items c.in-Ok.at there))
 
-pub returns-in-Err-clause-rows : goal.returns-in-Err-clause-rows
-returns-in-Err-clause-rows c =
+pub returns-in-Some-clause-rows : goal.returns-in-Some-clause-rows
+returns-in-Some-clause-rows c =
     let gap = rw c.as_slice.ensures.value at c.in-Err.ensures.place in
     let inserted = rw (c.insert-inserted.ensures.succeeds c.requires.room) at c.insert-inserted.ensures.items in
-    inserted ∙ sym (put_gap thing_cmp thing_of c.args.row.now c.args.marks.now.items c.in-Err.at gap)
+    let put = rw c.set-in-Err.ensures at inserted in
+    put ∙ sym (put_gap thing_cmp thing_of c.args.row.now c.args.marks.now.items c.in-Err.at gap)
