@@ -10,13 +10,14 @@ ghost use Rattle.ks_machine.specs.declared.body_out.BodyOut.TheVariants as bodie
 ghost use Rattle.ks_machine.specs.declared.change.Change.TheVariants as changed;
 ghost use Rattle.ks_machine.specs.Outcomes.{changes};
 ghost use Rattle.ks_machine.specs.Assignments.{agrees};
+ghost use Rattle.ks_machine.specs.Attempts.{Go};
 ghost use Rattle.ks_machine.specs.TrustCommands.{count_for, count_under, create_trust, delete_trust, get_trust, is_passed_on, is_trust_listed, list_trusts, may_count, needs, new_trust, parent_by, role_asked, roles_asked, roles_of_trust, roles_to_give, told_trust, unless_trust, unrestricted};
 ghost use Rattle.ks_machine.specs.declared.cause.Cause.TheVariants as causes;
 ghost use Rattle.ks_machine.specs.Tables.{standing_trust};
 ghost use Rattle.ks_checks.specs.declared.halt.Halt.TheVariants as halts;
 ghost use Rattle.ks_checks.specs.Checked.{after_trust};
 ghost use Rattle.ks_delegations.specs.Listed.{IsOfAll};
-ghost use Rattle.ks_checks.specs.Plans.{Gives, Passes, Plans, outcome_of, valid_of};
+ghost use Rattle.ks_checks.specs.Plans.{Gives, Passes, Plans, valid_of};
 
 use ks_auth::{Tables, cred_in_payload, roles_to_give};
 use ks_base::limits::REDELEGATIONS;
@@ -368,8 +369,8 @@ fn trusts_asked(alloc: Global, tables: &Tables, filters: &FieldList) -> Result<R
 /// The trusts, or those of one trustor, one trustee or both.
 #[inline(never)]
 #[tactic(auto, unfolding(ks_machine::specs::TrustCommands::list_trusts))]
-pub fn list_trusts(alloc: Global, tables: &Tables, filters: &Filter) -> Result<Plan, Memory>
-    ensures { IfOk result (λ plan. outcome_of plan ≡ list_trusts (rows_told tables.now) filters.now) }
+pub fn list_trusts(alloc: Global, tables: &Tables, filters: &Filter) -> Result<Plan, Halt>
+    ensures { Plans result (Go (list_trusts (rows_told tables.now) filters.now)) }
 {
     let rows = trusts_asked(alloc, tables, &filters.fields)?;
     let path = Text::of(alloc, "/v3/OS-TRUST/trusts")?;

@@ -1,15 +1,16 @@
 //! The catalog of the caller's own scope (Identity API v3, authentication).
 ghost use Rattle.std.specs.Prelude.{◌≡◌, [], unwrap_or, IfOk};
 ghost use Rattle.ks_auth.specs.Answers.{rows_told};
+ghost use Rattle.ks_machine.specs.Attempts.{Go};
 ghost use Rattle.ks_machine.specs.CatalogCommands.{show_catalog};
 ghost use Rattle.ks_machine.specs.Login.{catalog_with};
-ghost use Rattle.ks_checks.specs.Plans.{outcome_of, valid_of};
+ghost use Rattle.ks_checks.specs.Plans.{Plans, valid_of};
 
 use ks_auth::Tables;
 use ks_base::{Memory, Text};
 use ks_catalog::ServiceOutList;
 use ks_checks::told::catalog_told;
-use ks_checks::{Caller, Plan};
+use ks_checks::{Caller, Halt, Plan};
 use ks_machine::BodyOut;
 use ks_payload::Payload;
 use std::alloc::Global;
@@ -27,8 +28,8 @@ fn services_of(alloc: Global, tables: &Tables, payload: &Payload) -> Result<Serv
 /// What the caller's own token tells of services.
 #[inline(never)]
 #[tactic(auto, unfolding(ks_machine::specs::CatalogCommands::show_catalog))]
-pub fn show_catalog(alloc: Global, tables: &Tables, caller: &Caller) -> Result<Plan, Memory>
-    ensures { IfOk result (λ plan. outcome_of plan ≡ show_catalog (rows_told tables.now) (valid_of caller.now)) }
+pub fn show_catalog(alloc: Global, tables: &Tables, caller: &Caller) -> Result<Plan, Halt>
+    ensures { Plans result (Go (show_catalog (rows_told tables.now) (valid_of caller.now))) }
 {
     let services = services_of(alloc, tables, &caller.payload)?;
     let path = Text::of(alloc, "/v3/auth/catalog")?;

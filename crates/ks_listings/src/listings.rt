@@ -2,14 +2,15 @@
 //! are given agree.
 ghost use Rattle.std.specs.Prelude.{◌≡◌, filter, map, IfOk};
 ghost use Rattle.ks_auth.specs.Answers.{rows_told};
+ghost use Rattle.ks_machine.specs.Attempts.{Go};
 ghost use Rattle.ks_machine.specs.Listings.{is_domain_listed, is_group_listed, is_project_listed, is_role_listed, is_user_listed, list, path_of_kind, rows_listed};
-ghost use Rattle.ks_checks.specs.Plans.{outcome_of};
+ghost use Rattle.ks_checks.specs.Plans.{Plans};
 
 use crate::by_name::listed_on;
 use crate::catalog_listings::{endpoints_listed, regions_listed, services_listed};
 use ks_auth::Tables;
 use ks_base::{DomainRow, FieldList, Filter, GroupRow, Memory, ProjectRow, RoleRow, Text, UserRow};
-use ks_checks::Plan;
+use ks_checks::{Halt, Plan};
 use ks_machine::{BodyOut, Row, RowKind, RowList};
 use ks_people::People;
 use ks_roles::Roles;
@@ -79,9 +80,11 @@ fn path_of_kind(alloc: Global, kind: RowKind) -> Result<Text, Memory>
     Ok(Text::from_string(path))
 }
 
+/// The rows of a kind that pass the filters.
+#[inline(never)]
 #[tactic(auto, unfolding(ks_machine::specs::Listings::list))]
-pub fn list(alloc: Global, tables: &Tables, kind: RowKind, filters: &Filter) -> Result<Plan, Memory>
-    ensures { IfOk result (λ plan. outcome_of plan ≡ list (rows_told tables.now) kind filters.now) }
+pub fn list(alloc: Global, tables: &Tables, kind: RowKind, filters: &Filter) -> Result<Plan, Halt>
+    ensures { Plans result (Go (list (rows_told tables.now) kind filters.now)) }
 {
     let listed = rows_listed(alloc, tables, kind, filters)?;
     let path = path_of_kind(alloc, kind)?;

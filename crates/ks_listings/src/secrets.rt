@@ -1,8 +1,9 @@
 //! Secrets of one-time codes, as they are told (Identity API v3, credentials of type `totp`).
 ghost use Rattle.std.specs.Prelude.{◌≡◌, map, IfOk};
 ghost use Rattle.ks_auth.specs.Answers.{rows_told};
+ghost use Rattle.ks_machine.specs.Attempts.{Go};
 ghost use Rattle.ks_machine.specs.FactorCommands.{get_secret, list_secrets};
-ghost use Rattle.ks_checks.specs.Plans.{Plans, outcome_of};
+ghost use Rattle.ks_checks.specs.Plans.{Plans};
 
 use ks_auth::Tables;
 use ks_base::{Id, Memory, Text};
@@ -37,8 +38,8 @@ fn all_secrets(alloc: Global, factors: &Factors) -> Result<RowList, Memory>
 
 #[inline(never)]
 #[tactic(auto, unfolding(ks_machine::specs::FactorCommands::list_secrets))]
-pub fn list_secrets(alloc: Global, tables: &Tables) -> Result<Plan, Memory>
-    ensures { IfOk result (λ plan. outcome_of plan ≡ list_secrets (rows_told tables.now)) }
+pub fn list_secrets(alloc: Global, tables: &Tables) -> Result<Plan, Halt>
+    ensures { Plans result (Go (list_secrets (rows_told tables.now))) }
 {
     let rows = all_secrets(alloc, tables.factors)?;
     let path = Text::of(alloc, "/v3/credentials")?;

@@ -5,35 +5,31 @@ ghost use Rattle.ks_auth.specs.Facts.{told};
 ghost use Rattle.ks_base.specs.declared.receipt.Drawn.TheVariants as drawns;
 ghost use Rattle.ks_base.specs.Rows.{user_of};
 ghost use Rattle.ks_machine.specs.Actions.{requirements};
-ghost use Rattle.ks_machine.specs.Attempts.{found, need, unless};
+ghost use Rattle.ks_machine.specs.Attempts.{need, unless};
 ghost use Rattle.ks_machine.specs.declared.cause.Cause.TheVariants as causes;
 ghost use Rattle.ks_machine.specs.Fit.{Fit};
 ghost use Rattle.ks_machine.specs.Moment.{last_moment};
 ghost use Rattle.ks_machine.specs.Ranges.{IsSettings};
 ghost use Rattle.ks_machine.specs.States.{State};
-ghost use Rattle.ks_machine.specs.Steps.{bytes_drawn, has_drawn, lacking_of, on_subject, own_checks, planned, planned_by, revoked_subject, subject_shown, told_subject};
+ghost use Rattle.ks_machine.specs.Steps.{has_drawn, lacking_of, on_subject, own_checks, planned, planned_by, revoked_subject, subject_shown, told_subject};
 ghost use Rattle.ks_plan.specs.Parties.{AreUsable, parties_of};
 ghost use Rattle.ks_checks.specs.Plans.{Gives, HasBytes, Passes, Plans, valid_of};
 ghost use Rattle.ks_targets.specs.Views.{requirements_of};
 
 use crate::allowed::{Parties, admitted};
 use crate::events::events;
-use crate::keys::{is_failed, load_keys, rotate_keys};
+use crate::given;
+use crate::keys::{is_failed, load_keys};
 use ks_auth::{Facts, Tables};
 use ks_base::{Boxed, Drawn, Text};
 use ks_checks::checks::need;
-use ks_checks::draws::made_id;
-use ks_checks::passwords::change_password;
-use ks_checks::tokens::{caller_of, missing};
+use ks_checks::tokens::missing;
 use ks_checks::told::told_token;
 use ks_checks::{Caller, Halt, Plan};
-use ks_delegations::app_cred_creations::create_app_cred;
-use ks_delegations::app_creds::{delete_app_cred, get_app_cred, list_app_creds};
-use ks_delegations::trusts::{create_trust, delete_trust, get_trust, list_trusts, roles_of_trust};
-use ks_listings::catalog_shown::show_catalog;
+use ks_delegations::app_creds::{get_app_cred, list_app_creds};
+use ks_delegations::trusts::{delete_trust, get_trust, list_trusts, roles_of_trust};
 use ks_listings::listings::list;
 use ks_listings::secrets::{get_secret, list_secrets};
-use ks_logins::login::login;
 use ks_machine::{BodyOut, Call, Cause, Change, Command, RowKind};
 use ks_policy::Rules;
 use ks_relations::assignments::assignments;
@@ -41,10 +37,8 @@ use ks_relations::grants::{grant, grants_of, is_granted, ungrant};
 use ks_relations::members::{
     groups_of, implication, implied, imply, is_implied, is_in, join, leave, members_of, unimply,
 };
-use ks_rows::catalog_creations::create_catalog;
 use ks_rows::catalog_updates::update_catalog;
-use ks_rows::creations::create;
-use ks_rows::factors::{create_secret, delete_secret};
+use ks_rows::factors::delete_secret;
 use ks_rows::single::{delete, get};
 use ks_rows::updates::update;
 use ks_targets::{Requirements, required};
@@ -127,28 +121,6 @@ fn are_drawn(draws: bool, draw: &Drawn) -> Result<(), Halt>
     }
 }
 
-/// The random bytes that came.
-fn bytes_drawn(draw: &Drawn) -> Result<&[u8; 64], Halt>
-    ensures { Gives (λ bytes. drawns.Bytes bytes.now) result (bytes_drawn draw.now) }
-{
-    match draw {
-        Drawn::Bytes(bytes) => Ok(bytes),
-        Drawn::Unused | Drawn::Failed => Err(Halt::Refused(Cause::Random)),
-    }
-}
-
-/// The caller who was admitted.
-fn caller_in<'a>(tables: &Tables, who: &'a Parties) -> Result<&'a Caller, Halt>
-    requires { AreUsable tables.now.people.now.users who.now }
-    ensures caller { Gives (λ caller. valid_of caller.now) result (found (parties_of who.now).caller causes.NoToken) }
-    ensures stands { IfOk result (λ caller. IsSome (user_of caller.now.payload.user tables.now.people.now.users)) }
-{
-    match &who.caller {
-        Some(caller) => Ok(caller.get()),
-        None => Err(Halt::Refused(Cause::NoToken)),
-    }
-}
-
 /// The token that the call is about, and its text.
 fn subject_in<'a>(
     alloc: Global,
@@ -208,7 +180,8 @@ fn revoked_subject(
 
 /// The command's own checks, once its caller and its subject are admitted.
 ///
-/// Each is a function that stays one, since the compiler fills the places of all that is made part of this one at its entry.
+/// Each is one call of a function that stays one: the compiler fills the places of all that a call leaves to be looked at, and of
+/// all that is made part of this function, at its entry.
 #[tactic(auto, unfolding(ks_machine::specs::Steps::own_checks))]
 fn own_checks(
     alloc: Global,
@@ -229,22 +202,14 @@ fn own_checks(
 {
     match &call.command {
         Command::Version => Ok(Plan::tells(BodyOut::Version)),
-        Command::Login(asked) => {
-            let drawn = bytes_drawn(&call.draw)?;
-            login(alloc, tables, moment, drawn, asked.get(), facts)
-        }
+        Command::Login(asked) => given::login(alloc, tables, moment, call, asked.get(), facts),
         Command::ChangePassword(id, original, password) => {
-            let drawn = bytes_drawn(&call.draw)?;
-            change_password(alloc, tables, drawn, facts, id, original, password)
+            given::change_password(alloc, tables, call, facts, id, original, password)
         }
         Command::Validate(_) | Command::Check(_) => told_subject(alloc, tables, &call.subject, who),
         Command::RevokeToken => revoked_subject(alloc, tables, &call.subject, who),
-        Command::Create(made) => {
-            let caller = caller_in(tables, who)?;
-            let drawn = bytes_drawn(&call.draw)?;
-            create(alloc, tables, drawn, facts, caller, made.get())
-        }
-        Command::List(kind, filters) => Ok(list(alloc, tables, *kind, filters)?),
+        Command::Create(made) => given::create(alloc, tables, call, who, facts, made.get()),
+        Command::List(kind, filters) => list(alloc, tables, *kind, filters),
         Command::Get(kind, id) => get(alloc, tables, *kind, id),
         Command::Update(id, made) => update(alloc, tables, &call.draw, facts, id, made.get()),
         Command::Delete(kind, id) => delete(tables, *kind, id),
@@ -262,62 +227,31 @@ fn own_checks(
         Command::Grant(row) => grant(tables, row),
         Command::IsGranted(row) => is_granted(tables, row),
         Command::Ungrant(row) => ungrant(tables, row),
-        Command::Assignments(filters) => Ok(assignments(alloc, tables, filters)?),
+        Command::Assignments(filters) => assignments(alloc, tables, filters),
         Command::CreateTrust(asked) => {
-            let caller = caller_in(tables, who)?;
-            let drawn = bytes_drawn(&call.draw)?;
-            create_trust(alloc, tables, moment, drawn, caller, asked.get())
+            given::create_trust(alloc, tables, moment, call, who, asked.get())
         }
-        Command::Trusts(filters) => Ok(list_trusts(alloc, tables, filters)?),
+        Command::Trusts(filters) => list_trusts(alloc, tables, filters),
         Command::Trust(id) => get_trust(alloc, tables, id),
         Command::DeleteTrust(id) => delete_trust(tables, id),
         Command::TrustRoles(id) => roles_of_trust(alloc, tables, id),
-        Command::Events => Ok(events(alloc, tables, moment)?),
-        Command::RotateKeys => {
-            let drawn = bytes_drawn(&call.draw)?;
-            rotate_keys(alloc, tables, drawn)
-        }
+        Command::Events => events(alloc, tables, moment),
+        Command::RotateKeys => given::rotate_keys(alloc, tables, call),
         Command::LoadKeys => load_keys(alloc, tables, &call.folder),
-        Command::CreateCatalog(asked) => {
-            let drawn = bytes_drawn(&call.draw)?;
-            create_catalog(alloc, tables, made_id(drawn), asked.get())
-        }
-        Command::ListCatalog(of, filters) => {
-            let kind = RowKind::of_catalog(*of);
-            Ok(list(alloc, tables, kind, filters)?)
-        }
+        Command::CreateCatalog(asked) => given::create_catalog(alloc, tables, call, asked.get()),
+        Command::ListCatalog(of, filters) => list(alloc, tables, RowKind::of_catalog(*of), filters),
         Command::GetCatalog(of, id) => get(alloc, tables, RowKind::of_catalog(*of), id),
         Command::UpdateCatalog(id, asked) => update_catalog(alloc, tables, id, asked.get()),
         Command::DeleteCatalog(of, id) => delete(tables, RowKind::of_catalog(*of), id),
-        Command::ShowCatalog => {
-            let caller = caller_of(alloc, tables, moment, &call.caller, facts)?;
-            Ok(show_catalog(alloc, tables, &caller)?)
-        }
+        Command::ShowCatalog => given::show_catalog(alloc, tables, moment, call, facts),
         Command::CreateAppCred(user, asked) => {
-            let caller = caller_in(tables, who)?;
-            let drawn = bytes_drawn(&call.draw)?;
-            create_app_cred(
-                alloc,
-                tables,
-                moment,
-                drawn,
-                facts,
-                caller,
-                user,
-                asked.get(),
-            )
+            given::create_app_cred(alloc, tables, moment, call, who, facts, user, asked.get())
         }
         Command::ListAppCreds(user) => list_app_creds(alloc, tables, user),
         Command::GetAppCred(user, id) => get_app_cred(alloc, tables, user, id),
-        Command::DeleteAppCred(user, id) => {
-            let caller = caller_in(tables, who)?;
-            delete_app_cred(tables, caller, user, id)
-        }
-        Command::CreateSecret(asked) => {
-            let drawn = bytes_drawn(&call.draw)?;
-            create_secret(alloc, tables, drawn, asked)
-        }
-        Command::ListSecrets => Ok(list_secrets(alloc, tables)?),
+        Command::DeleteAppCred(user, id) => given::delete_app_cred(tables, who, user, id),
+        Command::CreateSecret(asked) => given::create_secret(alloc, tables, call, asked),
+        Command::ListSecrets => list_secrets(alloc, tables),
         Command::GetSecret(id) => get_secret(alloc, tables, id),
         Command::DeleteSecret(id) => delete_secret(tables, id),
     }

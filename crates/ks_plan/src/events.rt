@@ -2,14 +2,15 @@
 ghost use Rattle.std.specs.Prelude.{◌≡◌, ◌≤◌, filter, IfOk};
 ghost use Rattle.ks_auth.specs.Answers.{Tells};
 ghost use Rattle.ks_base.specs.Revocation.{is_live};
+ghost use Rattle.ks_machine.specs.Attempts.{Go};
 ghost use Rattle.ks_machine.specs.Listings.{events};
 ghost use Rattle.ks_machine.specs.States.{State};
-ghost use Rattle.ks_checks.specs.Plans.{outcome_of};
+ghost use Rattle.ks_checks.specs.Plans.{Plans};
 
 use ks_auth::Tables;
 use ks_base::limits::EVENT_GRACE;
 use ks_base::{EventList, EventRow, Memory, Text};
-use ks_checks::Plan;
+use ks_checks::{Halt, Plan};
 use ks_machine::BodyOut;
 use std::alloc::Global;
 
@@ -37,10 +38,10 @@ fn live(alloc: Global, life: u64, moment: u64, kept: &[EventRow]) -> Result<Even
 /// The revocations that are live at this moment.
 #[inline(never)]
 #[tactic(auto, unfolding(ks_machine::specs::Listings::events))]
-pub fn events(alloc: Global, tables: &Tables, moment: u64) -> Result<Plan, Memory>
+pub fn events(alloc: Global, tables: &Tables, moment: u64) -> Result<Plan, Halt>
     requires moment { tables.now.revoked.now.high ≤ moment }
     requires life { tables.now.revoked.now.life ≡ tables.now.settings.now.life }
-    ensures { (S : State) → Tells tables.now S → IfOk result (λ plan. outcome_of plan ≡ events S moment) }
+    ensures { (S : State) → Tells tables.now S → Plans result (Go (events S moment)) }
 {
     let kept = tables.revoked.kept()?;
     let list = live(alloc, tables.settings.life, moment, kept.as_slice())?;

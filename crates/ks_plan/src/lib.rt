@@ -5,6 +5,7 @@
 mod allowed;
 mod calls;
 mod events;
+mod given;
 mod keys;
 
 pub use calls::plan_call;

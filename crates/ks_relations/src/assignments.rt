@@ -2,13 +2,14 @@
 ghost use Rattle.std.specs.Prelude.{◌≡◌, ◌&&◌, codes, filter, option_copied, IfOk};
 ghost use Rattle.ks_auth.specs.Answers.{rows_told};
 ghost use Rattle.ks_machine.specs.Assignments.{agrees, assignments, domain_of_target, effective_of, group_of_actor, is_listed, project_of_target, rows_asked, system_of_target, user_of_actor};
-ghost use Rattle.ks_checks.specs.Plans.{outcome_of};
+ghost use Rattle.ks_machine.specs.Attempts.{Go};
+ghost use Rattle.ks_checks.specs.Plans.{Plans};
 
 use crate::effective::given_to_text;
 use ks_auth::Tables;
 use ks_base::{Actor, Boxed, FieldList, Filter, GrantList, GrantRow, Memory, Target, Test, Text};
-use ks_checks::Plan;
 use ks_checks::filters::value_in;
+use ks_checks::{Halt, Plan};
 use ks_machine::{BodyOut, asks_for_effective};
 use std::alloc::{AllocError, Global};
 
@@ -179,8 +180,8 @@ fn rows_asked(alloc: Global, tables: &Tables, fields: &FieldList) -> Result<Gran
 
 #[inline(never)]
 #[tactic(auto, unfolding(ks_machine::specs::Assignments::assignments))]
-pub fn assignments(alloc: Global, tables: &Tables, filters: &Filter) -> Result<Plan, Memory>
-    ensures { IfOk result (λ plan. outcome_of plan ≡ assignments (rows_told tables.now) filters.now) }
+pub fn assignments(alloc: Global, tables: &Tables, filters: &Filter) -> Result<Plan, Halt>
+    ensures { Plans result (Go (assignments (rows_told tables.now) filters.now)) }
 {
     let found = rows_asked(alloc, tables, &filters.fields)?;
     let path = Text::of(alloc, "/v3/role_assignments")?;
