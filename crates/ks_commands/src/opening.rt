@@ -2,6 +2,7 @@
 ghost use Rattle.std.specs.Prelude.{◌≡◌, ◌≤◌, ℕ, List, Some, length, Err, IfOk, IfErr};
 ghost use Rattle.ks_outside.specs.Files.{OnlyLooks};
 ghost use Rattle.ks_outside.specs.Streams.{OnlyReads};
+ghost use Rattle.ks_setup.specs.Forms.{IsFormOf};
 ghost use Rattle.ks_written.specs.Written.{folder_wanted};
 ghost use Rattle.ks_commands.specs.Opened.{AreHeld, ReadsFile};
 ghost use Rattle.ks_commands.specs.declared.checker.TheConstants.{PIECE};
@@ -13,22 +14,30 @@ use ks_base::KeyList;
 use ks_base::limits::OPENING_BYTES;
 use ks_keyfiles::read_dir;
 use ks_outside::{KeyDir, Source};
-use ks_setup::wants_folder;
+use ks_setup::OpeningFile;
 use std::alloc::{AllocError, Global};
 
-/// The keys that the folder holds, where the file takes its keys from there.
-pub fn read_held<D: KeyDir>(alloc: Global, text: &[u8], dir: &mut D) -> Result<KeyList, Fault>
-    ensures held { IfOk result (AreHeld (folder_wanted text.now) (D.dir dir.old)) }
+/// The file of this text, and the keys that the folder holds, where the file takes its keys from there.
+pub fn read_form<D: KeyDir>(
+    alloc: Global,
+    text: &[u8],
+    dir: &mut D,
+) -> Result<(OpeningFile, KeyList), Fault>
+    ensures form { IfOk result (λ read. IsFormOf text.now read.0) }
+    ensures held { IfOk result (λ read. AreHeld (folder_wanted text.now) (D.dir dir.old) read.1) }
     ensures stops { IfErr result (StopsHeld text.now (D.dir dir.old)) }
     ensures looks { OnlyLooks (result ≡ Err Fault.Folder) (D.dir dir.old) (D.dir dir.new) }
 {
-    match wants_folder(alloc, text) {
-        Ok(true) => match read_dir(dir) {
-            Ok(keys) => Ok(keys),
-            Err(fault) => Err(Fault::of_keys(fault)),
-        },
-        Ok(false) => Ok(KeyList::new(alloc)),
-        Err(fault) => Err(Fault::of_opening(fault)),
+    let file = match OpeningFile::read(alloc, text) {
+        Ok(file) => file,
+        Err(fault) => return Err(Fault::of_opening(fault)),
+    };
+    if !file.wants_folder() {
+        return Ok((file, KeyList::new(alloc)));
+    }
+    match read_dir(dir) {
+        Ok(keys) => Ok((file, keys)),
+        Err(fault) => Err(Fault::of_keys(fault)),
     }
 }
 

@@ -12,7 +12,6 @@ use Rattle.ks_base.specs.Results.{◌>>=◌, found, need}
 use Rattle.ks_machine.specs.declared.settings.Settings.{Settings}
 use Rattle.ks_shape.specs.declared.misfit.Misfit.{Misfit}
 use Rattle.ks_shape.specs.declared.misfit.Misfit.TheVariants as misfit
-use Rattle.ks_shape.specs.Bodies.{whole_document}
 use Rattle.ks_shape.specs.Fields.{if_given, judged, needed, needed_value, optional, optional_value}
 use Rattle.ks_shape.specs.Places.{Place, entry_at, names, path_at}
 use Rattle.ks_shape.specs.Types.{any_text, count_of, list_of, whole}
@@ -21,7 +20,7 @@ use Rattle.ks_written.specs.declared.written.KeysFrom.TheVariants.{Folder, File}
 use Rattle.ks_written.specs.declared.written.Written.{Written}
 use Rattle.ks_written.specs.Entries.{Entry, entries, entries_from, listed}
 use Rattle.ks_setup.specs.Steps.{AreFew}
-use Rattle.ks_written.specs.Written.{default_settings, document_of, domain_in, endpoint_in, file_of, folder_named, folder_text, grant_in, group_in, implication_in, key_in, key_texts, keys_from, keys_of, listed_or_named, member_in, project_in, region_in, role_in, service_in, settings_at, settings_in, settings_of, url_text, user_in, written_in}
+use Rattle.ks_written.specs.Written.{default_settings, domain_in, endpoint_in, folder_named, folder_text, grant_in, group_in, implication_in, key_in, key_texts, keys_from, keys_of, listed_or_named, member_in, project_in, region_in, role_in, service_in, settings_at, settings_in, settings_of, url_text, user_in, written_in}
 
 -- what was read in two parts was read in each
 parts : {A B F : Type 0} (r : Result A F) (f : A → Result B F) (b : B) → (r >>= f) ≡ Ok b → (a : A) × (r ≡ Ok a) × (f a ≡ Ok b)
@@ -187,9 +186,3 @@ written_bounded file written h =
     let endpoints = parts (entries endpoint_in (names (codes "endpoints")) file) _ written services.2 in
     let assignments = parts (entries grant_in (names (codes "assignments")) file) _ written endpoints.2 in
     subst IsBounded (same _ written assignments.2) (settings_bound file settings.0 settings.1, keys_few file keys.0 keys.1)
-
-pub file_bounded : (text : List ℕ) (written : Written) → file_of text ≡ Ok written → IsBounded written
-unfolding file_of
-file_bounded text written h =
-    let value = parts (document_of text) _ written h in
-    written_bounded (whole_document value.0) written value.2

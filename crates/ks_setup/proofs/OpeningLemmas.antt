@@ -9,54 +9,74 @@ use Rattle.ks_base.specs.declared.shapes.ShapeRefusal.{ShapeRefusal}
 use Rattle.ks_base.specs.declared.shapes.ShapeRefusal.TheVariants as refusal
 use Rattle.ks_base.specs.Results.{◌>>=◌}
 use Rattle.ks_outside.specs.Desks.{DeskState}
+use Rattle.ks_machine.specs.Openings.{NamedRule}
 use Rattle.ks_policy.specs.declared.fault.PolicyFault.{PolicyFault}
 use Rattle.ks_policy.specs.declared.fault.PolicyFault.TheVariants as policy
 use Rattle.ks_policy.specs.Openings.{plain}
 use Rattle.ks_shape.specs.Bodies.{whole_document}
-use Rattle.ks_shape.specs.Readings.{ReadsBy}
+use Rattle.ks_shape.specs.Readings.{Reads, ReadsBy}
 use Rattle.ks_setup.proofs.DrawLemmas.{drew_nothing}
 use Rattle.ks_setup.specs.declared.derive.DrawFault.{DrawFault}
 use Rattle.ks_setup.specs.declared.derive.DrawFault.TheVariants as draw
+use Rattle.ks_setup.specs.declared.keys.RingFault.{RingFault}
+use Rattle.ks_setup.specs.declared.keys.RingFault.TheVariants as keys
 use Rattle.ks_setup.specs.declared.opening.Checked.{Checked}
 use Rattle.ks_setup.specs.declared.opening.OpeningFault.{OpeningFault}
 use Rattle.ks_setup.specs.declared.opening.OpeningFault.TheVariants.{Shape, Policy, BadKey, Random, Memory}
 use Rattle.ks_written.specs.declared.written.Written.{Written}
-use Rattle.ks_setup.specs.Openings.{AnswersOpening, Opens, passwords}
-use Rattle.ks_setup.specs.Steps.{Checks, ChecksDocument, DrawsSalts, of_draw, of_shape, opened_with}
-use Rattle.ks_written.specs.Written.{document_of, file_of, written_in}
+use Rattle.ks_setup.specs.Forms.{Form, IsFormOf, ReadsForm, ReadsWhole}
+use Rattle.ks_setup.specs.Openings.{AnswersFolder, AnswersOpening, LoadsPolicy, Opens, passwords}
+use Rattle.ks_setup.specs.Steps.{Checks, DrawsSalts, ReadsRing, of_draw, of_keys, of_policy, of_shape, opened_with}
+use Rattle.ks_written.specs.Written.{document_of, file_of, folder_wanted, is_folder, written_in}
 
--- the document
+-- the form of a file
 
--- the file
-
-pub text_refused : (e : ShapeRefusal) (text : List ℕ) (held : List (ℕ × Key)) → ReadsBy {X = Data} (λ x. x) (Err e) (document_of text)
-    → Checks text held (Err (of_shape e))
+pub text_refused : (e : ShapeRefusal) (text : List ℕ) → ReadsBy {X = Data} (λ x. x) (Err e) (document_of text) → ReadsWhole text (Err e)
 unfolding file_of
-text_refused (refusal.Shape fault) text held h = ap (λ r. r >>= (λ value. written_in (whole_document value))) h
-text_refused refusal.Memory text held h = tt
+text_refused (refusal.Shape fault) text h = ap (λ r. r >>= (λ value. written_in (whole_document value))) h
+text_refused refusal.Memory text h = tt
 
-form_of_file : (text : List ℕ) (file : Data) (r : Result Written ShapeFault) → document_of text ≡ Ok file → written_in (whole_document file) ≡ r → file_of text ≡ r
+pub form_of_file : (text : List ℕ) (file : Data) (r : Result Written ShapeFault) → document_of text ≡ Ok file → written_in (whole_document file) ≡ r → file_of text ≡ r
 unfolding file_of
 form_of_file text file r is h = ap (λ d. d >>= (λ value. written_in (whole_document value))) is ∙ h
 
-policy_faults : (e : PolicyFault) (text : List ℕ) (file : Data) (held : List (ℕ × Key)) → document_of text ≡ Ok file
-    → ChecksDocument file held (Err (Policy e)) → Checks text held (Err (Policy e))
-policy_faults policy.NotObject text file held is h = ((h.0.0, form_of_file text file _ is h.0.1), (file, is, h.1))
-policy_faults (policy.NotText name) text file held is h = ((h.0.0, form_of_file text file _ is h.0.1), (file, is, h.1))
-policy_faults (policy.Cycle name) text file held is h = ((h.0.0, form_of_file text file _ is h.0.1), (file, is, h.1))
-policy_faults policy.TooMany text file held is h = ((h.0.0, form_of_file text file _ is h.0.1), (file, is, h.1))
-policy_faults policy.Memory text file held is h = absurd h
+pub form_refused : (e : ShapeRefusal) (text : List ℕ) (file : Data) → document_of text ≡ Ok file → Reads (Err e) (written_in (whole_document file))
+    → ReadsWhole text (Err e)
+form_refused (refusal.Shape fault) text file is h = form_of_file text file (Err fault) is h
+form_refused refusal.Memory text file is h = tt
 
-pub document_checks : (r : Result Checked OpeningFault) (text : List ℕ) (file : Data) (held : List (ℕ × Key)) → document_of text ≡ Ok file
-    → ChecksDocument file held r → Checks text held r
-document_checks (Ok checked) text file held is h = (form_of_file text file _ is h.0, (file, is, h.1), h.2)
-document_checks (Err (Shape fault)) text file held is h = form_of_file text file (Err fault) is h
-document_checks (Err (Policy e)) text file held is h = policy_faults e text file held is h
-document_checks (Err (BadKey path)) text file held is h =
-    let form = form_of_file text file _ is h.1 in
-    (((h.0, form), (h.2.0, (file, is, h.2.1))), (h.0, form, h.3))
-document_checks (Err Random) text file held is h = absurd h
-document_checks (Err Memory) text file held is h = tt
+pub unformed : (e : ShapeRefusal) (text : List ℕ) → ReadsWhole text (Err e) → ReadsForm text (Err (of_shape e))
+unformed (refusal.Shape fault) text h = h
+unformed refusal.Memory text h = tt
+
+folder_by : (text : List ℕ) (r : Result Written ShapeFault) → file_of text ≡ r → folder_wanted text ≡ r >>= (λ written. Ok (is_folder written.keys))
+unfolding folder_wanted
+folder_by text r is = ap (λ form. form >>= (λ written. Ok (is_folder written.keys))) is
+
+pub folder_known : (text : List ℕ) (form : Form) → IsFormOf text form → folder_wanted text ≡ Ok (is_folder form.written.keys)
+folder_known text form are = folder_by text (Ok form.written) are.0
+
+pub folder_unknown : (e : OpeningFault) (text : List ℕ) → ReadsForm text (Err e) → AnswersFolder text (Err e)
+folder_unknown (Shape fault) text h = folder_by text (Err fault) h
+folder_unknown (Policy fault) text h = h
+folder_unknown (BadKey path) text h = h
+folder_unknown Random text h = h
+folder_unknown Memory text h = tt
+
+-- the policy and the keys
+
+pub policy_refused : (e : PolicyFault) (text : List ℕ) (written : Written) (held : List (ℕ × Key)) → file_of text ≡ Ok written → LoadsPolicy text (Err e)
+    → Checks text held (Err (of_policy e))
+policy_refused policy.NotObject text written held form loads = ((written, form), loads)
+policy_refused (policy.NotText name) text written held form loads = ((written, form), loads)
+policy_refused (policy.Cycle name) text written held form loads = ((written, form), loads)
+policy_refused policy.TooMany text written held form loads = ((written, form), loads)
+policy_refused policy.Memory text written held form loads = tt
+
+pub ring_refused : (e : RingFault) (text : List ℕ) (written : Written) (rules : List NamedRule) (held : List (ℕ × Key)) → file_of text ≡ Ok written
+    → LoadsPolicy text (Ok rules) → ReadsRing written.keys held (Err e) → Checks text held (Err (of_keys e))
+ring_refused (keys.BadKey path) text written rules held form loads bad = (((written, form), (rules, loads)), (written, form, bad))
+ring_refused keys.Memory text written rules held form loads bad = tt
 
 -- the opening
 

@@ -1,7 +1,6 @@
 -- What each step of opening a file answers.
 use Rattle.std.specs.Prelude.{◌≡◌, ◌≤◌, ◌<◌, ℕ, ◌*◌, List, [], ◌∷◌, length, Option, Some, None, Result, Ok, Err}
 use Rattle.std.specs.List.{concat}
-use Rattle.serde_json.specs.Data.{Data}
 use Rattle.ks_base.specs.declared.key.Key.{Key}
 use Rattle.ks_base.specs.declared.limits.TheConstants.{KEYS}
 use Rattle.ks_base.specs.declared.shapes.ShapeRefusal.{ShapeRefusal}
@@ -9,13 +8,10 @@ use Rattle.ks_base.specs.declared.shapes.ShapeRefusal.TheVariants as refusal
 use Rattle.ks_base.specs.declared.users.UserRow.{UserRow}
 use Rattle.ks_outside.specs.Counts.{Rose}
 use Rattle.ks_outside.specs.Desks.{DeskState}
-use Rattle.ks_machine.specs.Openings.{NamedRule}
 use Rattle.ks_policy.specs.declared.fault.PolicyFault.{PolicyFault}
 use Rattle.ks_policy.specs.declared.fault.PolicyFault.TheVariants as policy
 use Rattle.ks_policy.specs.declared.opening.Opening.{Opening}
-use Rattle.ks_policy.specs.Loading.{Loads}
 use Rattle.ks_policy.specs.Openings.{plain}
-use Rattle.ks_shape.specs.Bodies.{whole_document}
 use Rattle.ks_setup.specs.declared.derive.DrawFault.{DrawFault}
 use Rattle.ks_setup.specs.declared.derive.DrawFault.TheVariants as draw
 use Rattle.ks_setup.specs.declared.keys.RingFault.{RingFault}
@@ -25,12 +21,10 @@ use Rattle.ks_setup.specs.declared.opening.OpeningFault.{OpeningFault}
 use Rattle.ks_setup.specs.declared.opening.OpeningFault.TheVariants.{Shape, Policy, BadKey, Random, Memory}
 use Rattle.ks_written.specs.declared.written.KeysFrom.{KeysFrom}
 use Rattle.ks_written.specs.declared.written.KeysFrom.TheVariants.{Folder, File}
-use Rattle.ks_written.specs.declared.written.Written.{Written}
 use Rattle.ks_written.specs.declared.written.WrittenPassword.{WrittenPassword}
 use Rattle.ks_written.specs.declared.written.WrittenPassword.TheVariants.{Plain, Record}
-use Rattle.ks_written.specs.declared.written.WrittenUser.{WrittenUser}
-use Rattle.ks_setup.specs.Openings.{AnswersOpening, AreKeys, Drew, HasBadKey, HasPolicy, IsBadKey, IsFirstBad, IsFormed, IsRing, LoadsPolicy, Opens, bad_key_path, policy_in, users_from}
-use Rattle.ks_written.specs.Written.{file_of, written_in}
+use Rattle.ks_setup.specs.Openings.{AnswersOpening, AreKeys, Drew, HasBadKey, HasPolicy, IsBadKey, IsFirstBad, IsFormed, IsRing, LoadsPolicy, Opens, bad_key_path, users_from}
+use Rattle.ks_written.specs.Written.{file_of}
 
 -- the faults of the steps, as those of the opening
 
@@ -68,23 +62,7 @@ ReadsRing from held (Ok ring) = IsRing from held ring
 ReadsRing from held (Err (keys.BadKey path)) = IsBadKey from path
 ReadsRing from held (Err keys.Memory) = Unit {0}
 
--- the form, the policy and the keys of a document
-
-abbrev pub ChecksDocument : Data → List (ℕ × Key) → Result Checked OpeningFault → Type 0
-ChecksDocument file held (Ok checked) =
-    (written_in (whole_document file) ≡ Ok checked.written) × Loads (policy_in file) (Ok checked.rules)
-    × IsRing checked.written.keys held checked.ring
-ChecksDocument file held (Err (Shape fault)) = written_in (whole_document file) ≡ Err fault
-ChecksDocument file held (Err (Policy policy.Memory)) = ⊥
-ChecksDocument file held (Err (Policy fault)) =
-    ((written : Written) × (written_in (whole_document file) ≡ Ok written)) × Loads (policy_in file) (Err fault)
-ChecksDocument file held (Err (BadKey path)) =
-    (written : Written) × (written_in (whole_document file) ≡ Ok written)
-    × ((rules : List NamedRule) × Loads (policy_in file) (Ok rules)) × IsBadKey written.keys path
-ChecksDocument file held (Err Random) = ⊥
-ChecksDocument file held (Err Memory) = Unit {0}
-
--- the same of a file
+-- the form, the policy and the keys of a file
 abbrev pub Checks : List ℕ → List (ℕ × Key) → Result Checked OpeningFault → Type 0
 Checks text held (Ok checked) =
     (file_of text ≡ Ok checked.written) × LoadsPolicy text (Ok checked.rules) × IsRing checked.written.keys held checked.ring

@@ -1,19 +1,18 @@
-ghost use Rattle.std.specs.Prelude.{◌≡◌, ◌≤◌, ◌*◌, length, IfOk};
+ghost use Rattle.std.specs.Prelude.{◌≡◌, ◌≤◌, ◌*◌, ℕ, List, length, IfOk};
 ghost use Rattle.std.specs.List.{concat};
-ghost use Rattle.serde_json.specs.View.{view};
 ghost use Rattle.ks_base.specs.declared.limits.TheConstants.{ROUNDS};
+ghost use Rattle.ks_setup.specs.Forms.{IsFormOf};
 ghost use Rattle.ks_setup.specs.Openings.{AnswersOpening, passwords};
-ghost use Rattle.ks_setup.specs.Steps.{Checks, ChecksDocument, OpensFirst, of_draw, of_keys, of_policy, of_shape, opened_with};
+ghost use Rattle.ks_setup.specs.Steps.{Checks, OpensFirst, of_draw, of_keys, of_policy, of_shape, opened_with};
 ghost use Rattle.ks_setup.specs.declared.opening.OpeningFault.TheVariants.{Memory};
 
+use crate::OpeningFile;
 use crate::derive::{DrawFault, derive_users, draw_salts, passwords};
 use crate::keys::{RingFault, read_ring};
-use crate::policy::load_policy;
 use ks_base::{Key, KeyList, ListOf, Memory, ShapeFault, ShapeRefusal, Text};
 use ks_outside::Desk;
 use ks_policy::{Opening, PolicyFault, Rules};
-use ks_written::{Written, read_file, read_written};
-use serde_json::Value;
+use ks_written::Written;
 use std::alloc::Global;
 
 /// Why an opening file is refused. The form of the whole file is tested first, then its policy, and then its keys; the
@@ -104,44 +103,38 @@ pub fn read_opening<P: Desk>(
 ) -> Result<Opening, OpeningFault>
     ensures { AnswersOpening text.now held.now (P.desk desk.old) (P.desk desk.new) result }
 {
-    let (opening, _salts) = open(alloc, text, held, desk)?;
+    let file = OpeningFile::read(alloc, text)?;
+    let (opening, _salts) = open(alloc, file, held, desk)?;
     Ok(opening)
 }
 
 /// What the opening file opens with, and the salts that were drawn for it.
 pub(crate) fn open<P: Desk>(
     alloc: Global,
-    text: &[u8],
+    file: OpeningFile,
     held: &[(u32, Key)],
     desk: &mut P,
 ) -> Result<(Opening, ListOf<[u8; 16]>), OpeningFault>
-    ensures { OpensFirst text.now held.now (P.desk desk.old) (P.desk desk.new) result }
+    ensures { (text : List ℕ) → IsFormOf text file → OpensFirst text held.now (P.desk desk.old) (P.desk desk.new) result }
 {
-    let checked = check(alloc, text, held)?;
+    let checked = check(alloc, file, held)?;
     let salts = draw_salts(alloc, passwords(checked.written.users.as_slice()), desk)?;
     let opening = assemble(alloc, checked, salts.as_slice())?;
     Ok((opening, salts))
 }
 
-/// Tests the form of a file, its policy and its keys.
+/// Tests the policy of a file and its keys.
 pub(crate) fn check(
     alloc: Global,
-    text: &[u8],
+    file: OpeningFile,
     held: &[(u32, Key)],
 ) -> Result<Checked, OpeningFault>
-    ensures { Checks text.now held.now result }
+    ensures checks { (text : List ℕ) → IsFormOf text file → Checks text held.now result }
+    ensures at_least_one { IfOk result (λ checked. 1 ≤ checked.written.settings.rounds) }
+    ensures limited { IfOk result (λ checked. checked.written.settings.rounds ≤ ROUNDS) }
 {
-    let file = read_file(alloc, text)?;
-    let checked = check_document(alloc, &file, held);
-    drop(file);
-    checked
-}
-
-fn check_document(alloc: Global, file: &Value, held: &[(u32, Key)]) -> Result<Checked, OpeningFault>
-    ensures { ChecksDocument (view file.now) held.now result }
-{
-    let written = read_written(alloc, file)?;
-    let rules = load_policy(alloc, file)?;
+    let OpeningFile { written, policy } = file;
+    let rules = policy?;
     let ring = read_ring(alloc, &written.keys, held)?;
     Ok(Checked {
         written,

@@ -1,5 +1,4 @@
 use Rattle.std.proofs.Common.{Ok, ◌∙◌, ap, length, subst, sym}
-use Rattle.ks_setup.proofs.BoundLemmas.{file_bounded}
 use Rattle.ks_setup.specs.Openings.{passwords}
 use Rattle.ks_setup.specs.Steps.{Checks}
 use Rattle.ks_setup.proofs.header.opening_of.Goals as goal
@@ -9,7 +8,7 @@ returns-then-salts-passwords c =
     let checked = c.in_ok-checked.checked in
     let header = c.args.header.now in
     let same_keys : Checks c.as_slice.result.now header.keys (Ok checked) =
-    subst (λ held. Checks c.as_slice.result.now held (Ok checked)) c.as_slice-2.ensures c.in_ok-checked.ensures in
+    subst (λ held. Checks c.as_slice.result.now held (Ok checked)) c.as_slice-2.ensures (c.in_ok-checked.ensures.checks c.as_slice.result.now c.in_ok-file.ensures.form) in
     let h : Checks header.opening header.keys (Ok checked) =
     subst (λ text. Checks text header.keys (Ok checked)) c.as_slice.ensures same_keys in
     let lengths = ap length c.as_slice-salts.ensures in
@@ -17,9 +16,3 @@ returns-then-salts-passwords c =
       ((checked.written, h.0), (checked.rules, h.1)),
       (checked.written, h.0, (checked.ring, h.2), λ same. c.if-salts-passwords.true (lengths ∙ sym same ∙ sym count)),
     )
-
-pub assemble-requires-clause-at_least_one : goal.assemble-requires-clause-at_least_one
-assemble-requires-clause-at_least_one c = (file_bounded c.as_slice.result.now c.in_ok-checked.checked.written c.in_ok-checked.ensures.0).0.0
-
-pub assemble-requires-clause-limited : goal.assemble-requires-clause-limited
-assemble-requires-clause-limited c = (file_bounded c.as_slice.result.now c.in_ok-checked.checked.written c.in_ok-checked.ensures.0).0.1

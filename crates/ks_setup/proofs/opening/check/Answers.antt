@@ -1,12 +1,19 @@
+use Rattle.std.proofs.Common.{sym, subst}
 use Rattle.std.proofs.lemmas.Result.{err_from_is_err_and}
-use Rattle.serde_json.specs.View.{view}
-use Rattle.ks_setup.proofs.OpeningLemmas.{document_checks, text_refused}
+use Rattle.ks_setup.specs.Forms.{Form, IsFormOf}
+use Rattle.ks_setup.specs.Openings.{LoadsPolicy}
+use Rattle.ks_setup.proofs.OpeningLemmas.{policy_refused, ring_refused}
 use Rattle.ks_setup.proofs.opening.check.Goals as goal
 
-pub returns-in_err-file : goal.returns-in_err-file
-returns-in_err-file c =
+pub returns-in_err-rules-clause-checks : goal.returns-in_err-rules-clause-checks
+returns-in_err-rules-clause-checks c = λ text form.
+    let here = subst (λ (f : Form). IsFormOf text f) (sym c.file.view_is) form in
     let p = err_from_is_err_and c.from_residual.result c.from_residual.ensures.1 in
-    rw (p.1, p.2) (text_refused c.in_err-file.field-0.0 c.args.text.now c.args.held.now c.in_err-file.ensures)
+    rw (p.1, p.2) (policy_refused c.in_err-rules.field-0.0 text c.file.inside.written c.args.held.now here.0 (subst (λ loaded. LoadsPolicy text loaded) c.in_err-rules.was here.1))
 
-pub returns : goal.returns
-returns c = document_checks c.check_document-checked.result c.args.text.now (view c.in_ok-file.file) c.args.held.now c.in_ok-file.ensures c.check_document-checked.ensures
+pub returns-in_err-ring-clause-checks : goal.returns-in_err-ring-clause-checks
+returns-in_err-ring-clause-checks c = λ text form.
+    let here = subst (λ (f : Form). IsFormOf text f) (sym c.file.view_is) form in
+    let p = err_from_is_err_and c.from_residual-in_err-ring.result c.from_residual-in_err-ring.ensures.1 in
+    rw (p.1, p.2) (ring_refused c.in_err-ring.field-0.0 text c.file.inside.written c.in_ok-rules.rules c.args.held.now here.0
+    (subst (λ loaded. LoadsPolicy text loaded) c.in_ok-rules.was here.1) c.in_err-ring.ensures)
