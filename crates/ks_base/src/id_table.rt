@@ -34,6 +34,15 @@ impl<R: Row> IdTable<R> {
         }
     }
 
+    /// The rows, in the order of their ids.
+    pub fn into_rows(self) -> Vec<Boxed<R>>
+        ensures rows { result.items ≡ self }
+        ensures ascending { IsAscending id_cmp R.key result.items }
+    {
+        let IdTable { rows } = self;
+        rows
+    }
+
     /// The row with this id.
     pub fn get(&self, id: &Id) -> Option<&R>
         ensures found { option_copied result ≡ find_row id_cmp R.key id.now self.now }

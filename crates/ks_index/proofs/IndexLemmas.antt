@@ -13,8 +13,9 @@ use Rattle.std.proofs.lemmas.List.{get_or-set_other, length-set}
 use Rattle.std.proofs.lemmas.List.Edits.{length-insert, length-remove, get_or-insert_below, get_or-insert_above, get_or-remove_below, get_or-remove_above}
 use Rattle.ks_base.specs.Tables.{AreAbove, IsAscending, Among, has_key, drop_row}
 use Rattle.ks_base.specs.Places.{IsGapAt}
-use Rattle.ks_index.specs.Indexes.{IsIndex, IsIndexBut, raised, lowered}
-use Rattle.ks_base.proofs.AmongLemmas.{all_among, among_all, map_among, among_mapped}
+use Rattle.ks_index.specs.Indexes.{AreCovered, IsIndex, IsIndexBut, IsPartIndex, raised, lowered}
+use Rattle.ks_base.proofs.AmongLemmas.{all_among, among_all, among_left, among_push, among_right, map_among, among_mapped}
+use Rattle.ks_base.proofs.LinkLemmas.{none_left}
 use Rattle.ks_base.proofs.PlaceLemmas.{above_at, ascending_insert}
 use Rattle.ks_base.proofs.RowLemmas.{eq_is, same_row, among_drop, filter_among}
 use Rattle.ks_base.proofs.TableLemmas.{ascending_drop}
@@ -272,6 +273,58 @@ in_index {K} {X} cmp key o rows places at slot e lt but gap = record {
     by p below (inl less) any = among_insert places slot at p (but.all p below (λ is. omega arith))
     by p below (inr ge) (inl more) = among_insert places slot at p (but.all p below (λ is. omega arith))
     by p below (inr ge) (inr le) = let is : at ≡ p = omega arith in subst (Among (insert places slot at)) is (insert_among places slot at)
+
+-- places go in one by one
+
+pub pushed_all : (places : List ℕ) (at : ℕ) → ((p : ℕ) → p < at → Among places p) → (p : ℕ) → p < at + 1 → Among (places ++ at ∷ []) p
+pushed_all places at all p below = by (below_or_not p at)
+  where
+    by : (p < at) ⊎ (at ≤ p) → Among (places ++ at ∷ []) p
+    by (inl less) = among_left places (at ∷ []) p (all p less)
+    by (inr least) = let is : at ≡ p = omega (arith, below, least) in subst (Among (places ++ at ∷ [])) is (among_right places (at ∷ []) at (inl refl))
+
+pub pushed_below : (places : List ℕ) (at : ℕ) → ((p : ℕ) → Among places p → p < at) → (p : ℕ) → Among (places ++ at ∷ []) p → p < at + 1
+pushed_below places at within p among = by (among_push places at p among)
+  where
+    by : Among places p ⊎ (at ≡ p) → p < at + 1
+    by (inl among) = omega (arith, within p among)
+    by (inr is) = omega (arith, is)
+
+pub part_put : {K X : Type 0} (cmp : K → K → Ordering) (key : X → K) → IsTotalOrder cmp → (rows : List X) (places : List ℕ) (at slot : ℕ) (e : X) →
+    at < length rows → IsPartIndex cmp key rows places → IsGapAt cmp (λ p. key (get_or rows p e)) (key (get_or rows at e)) places slot →
+    IsPartIndex cmp key rows (insert places slot at)
+part_put cmp key o rows places at slot e lt part gap =
+    let inside = all_insert (λ p. p < length rows) places slot at lt part.within in
+    record {
+      within = inside;
+      up = λ d. index_any cmp key rows (insert places slot at) e d inside (ascending_insert cmp (λ p. key (get_or rows p e)) o at places slot (part.up e) gap);
+    }
+
+pub still_in : (places : List ℕ) (slot at p : ℕ) → Among places p → Among (insert places slot at) p
+still_in places slot at p among = among_insert places slot at p among
+
+pub now_in : (places : List ℕ) (slot at : ℕ) → Among (insert places slot at) at
+now_in places slot at = insert_among places slot at
+
+pub all_in : {K X : Type 0} (cmp : K → K → Ordering) (key : X → K) (rows : List X) (places left : List ℕ) → length left ≡ 0 → IsPartIndex cmp key rows places →
+    AreCovered rows places left → IsIndex cmp key rows places
+all_in {K} {X} cmp key rows places left none part covered = record { within = part.within; all = λ p below. by p (covered p below); up = part.up }
+  where
+    by : (p : ℕ) → Among places p ⊎ Among left p → Among places p
+    by p (inl among) = among
+    by p (inr among) = absurd (none_left left p none among)
+
+pub covered_more : {X : Type 0} (rows : List X) (places more left rest : List ℕ) (at : ℕ) → left ≡ rest ++ at ∷ [] → ((p : ℕ) → Among places p → Among more p) → Among more at →
+    AreCovered rows places left → AreCovered rows more rest
+covered_more {X} rows places more left rest at is stays stands covered p below = by (covered p below)
+  where
+    last : Among rest p ⊎ (at ≡ p) → Among more p ⊎ Among rest p
+    last (inl among) = inr among
+    last (inr same) = inl (subst (Among more) same stands)
+
+    by : Among places p ⊎ Among left p → Among more p ⊎ Among rest p
+    by (inl among) = inl (stays p among)
+    by (inr among) = last (among_push rest at p (subst (λ (l : List ℕ). Among l p) is among))
 
 -- rows with one key are one
 

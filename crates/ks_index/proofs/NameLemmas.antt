@@ -11,9 +11,9 @@ use Rattle.ks_base.specs.Tables.{id_cmp, IsAscending, Among, drop_row, find_row}
 use Rattle.ks_base.specs.Places.{IsFoundAt, IsGapAt, IsPlace}
 use Rattle.ks_base.specs.Rows.{same}
 use Rattle.ks_base.specs.OrderLaws.{id_exact, then_equal}
-use Rattle.ks_index.specs.Indexes.{Name, AreNamesBut, AreNamesOf, name_cmp, full_cmp, full_name, is_named, is_other_named, row_in}
+use Rattle.ks_index.specs.Indexes.{Name, AreNamesBut, AreNamesOf, ArePartNames, name_cmp, full_cmp, full_name, is_named, is_other_named, row_in}
 use Rattle.ks_base.proofs.AmongLemmas.{all_among, get_among}
-use Rattle.ks_index.proofs.IndexLemmas.{get_any, below_or_not, same_place, in_index, out_index}
+use Rattle.ks_index.proofs.IndexLemmas.{get_any, below_or_not, same_place, in_index, out_index, part_put}
 use Rattle.ks_base.proofs.PlaceLemmas.{above_at, drop_found, find_gap}
 use Rattle.ks_base.proofs.RowLemmas.{above_among, among_found}
 use Rattle.ks_base.proofs.TruthLemmas.{and_none}
@@ -384,6 +384,26 @@ put_not_found {R} home naming key rows places at slot row lt is up but inside fo
     (found_here full_cmp (λ p. full_name home naming key (get_or rows p row)) (full_name home naming key row) places slot 0 found) in
     let ids : key (get_or rows place row) ≡ key (get_or rows at row) = ap (λ full. full.1) one ∙ ap key is in
     but.others place among (same_place id_cmp key nat_list_cmp_total rows place at row up within lt (id_equal (key (get_or rows place row)) (key (get_or rows at row)) ids))
+
+pub already_in : {R : Type 0} (home naming key : R → List ℕ) (rows : List R) (places : List ℕ) (at slot : ℕ) (row : R) → at < length rows →
+    row ≡ get_or rows at row → IsAscending id_cmp key rows → ArePartNames home naming key rows places → slot < length places →
+    IsFoundAt full_cmp (λ p. full_name home naming key (get_or rows p row)) (full_name home naming key row) places slot → Among places at
+already_in {R} home naming key rows places at slot row lt is up part inside found =
+    let place = get_or places slot 0 in
+    let among = get_among places slot 0 inside in
+    let within = all_among (λ p. p < length rows) places place part.within among in
+    let one = full_exact (full_name home naming key (get_or rows place row)) (full_name home naming key row)
+    (found_here full_cmp (λ p. full_name home naming key (get_or rows p row)) (full_name home naming key row) places slot 0 found) in
+    let ids : key (get_or rows place row) ≡ key (get_or rows at row) = ap (λ full. full.1) one ∙ ap key is in
+    subst (Among places) (same_place id_cmp key nat_list_cmp_total rows place at row up within lt (id_equal (key (get_or rows place row)) (key (get_or rows at row)) ids)) among
+
+pub put_into_part : {R : Type 0} (home naming key : R → List ℕ) (rows : List R) (places : List ℕ) (at slot : ℕ) (row : R) → at < length rows →
+    row ≡ get_or rows at row → ArePartNames home naming key rows places →
+    IsGapAt full_cmp (λ p. full_name home naming key (get_or rows p row)) (full_name home naming key row) places slot →
+    ArePartNames home naming key rows (insert places slot at)
+put_into_part home naming key rows places at slot row lt is part gap =
+    part_put full_cmp (full_name home naming key) full_total rows places at slot row lt part
+    (subst (λ (r : _). IsGapAt full_cmp (λ p. full_name home naming key (get_or rows p row)) (full_name home naming key r) places slot) is gap)
 
 pub put_into_names : {R : Type 0} (home naming key : R → List ℕ) (rows : List R) (places : List ℕ) (at slot : ℕ) (row : R) → at < length rows →
     row ≡ get_or rows at row → AreNamesBut home naming key rows places at →

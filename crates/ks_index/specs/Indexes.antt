@@ -1,5 +1,5 @@
 -- An index of rows by another order than that of the table: the places of all rows, in the order of their keys.
-use Rattle.std.specs.Prelude.{◌≢◌, ℕ, ◌+◌, ◌-◌, ◌<◌, Bool, not, ◌&&◌, List, length, cond, nat_lt, get_or}
+use Rattle.std.specs.Prelude.{◌≢◌, ◌⊎◌, ℕ, ◌+◌, ◌-◌, ◌<◌, Bool, not, ◌&&◌, List, length, cond, nat_lt, get_or}
 use Rattle.std.specs.List.{AllByRecursion}
 use Rattle.std.specs.declared.cmp.Ordering.{Ordering}
 use Rattle.std.specs.Ordering.{then_cmp, on}
@@ -18,6 +18,15 @@ pub record IsIndexBut {K X : Type 0} (cmp : K → K → Ordering) (key : X → K
   pub others : (place : ℕ) → Among places place → place ≢ at
   pub all : (place : ℕ) → place < length rows → place ≢ at → Among places place
   pub up : (other : X) → IsAscending cmp (λ place. key (get_or rows place other)) places
+
+-- the same of some rows
+pub record IsPartIndex {K X : Type 0} (cmp : K → K → Ordering) (key : X → K) (rows : List X) (places : List ℕ) : Type 0 where
+  pub within : AllByRecursion (λ place. place < length rows) places
+  pub up : (other : X) → IsAscending cmp (λ place. key (get_or rows place other)) places
+
+-- of the places of rows each stands among these or among those
+abbrev pub AreCovered : {X : Type 0} → List X → List ℕ → List ℕ → Type 0
+AreCovered rows places left = (place : ℕ) → place < length rows → Among places place ⊎ Among left place
 
 -- where a row stands after one came in before it, and after one went from before it
 unfoldable pub raised : ℕ → ℕ → ℕ
@@ -50,6 +59,10 @@ AreNamesOf home naming key rows places = IsIndex full_cmp (full_name home naming
 
 abbrev pub AreNamesBut : {R : Type 0} → (R → List ℕ) → (R → List ℕ) → (R → List ℕ) → List R → List ℕ → ℕ → Type 0
 AreNamesBut home naming key rows places at = IsIndexBut full_cmp (full_name home naming key) rows places at
+
+-- the index of some of them
+abbrev pub ArePartNames : {R : Type 0} → (R → List ℕ) → (R → List ℕ) → (R → List ℕ) → List R → List ℕ → Type 0
+ArePartNames home naming key rows places = IsPartIndex full_cmp (full_name home naming key) rows places
 
 -- the row that the index has at a slot; the other, where there is none
 abbrev pub row_in : {R : Type 0} → List R → List ℕ → ℕ → R → R

@@ -21,7 +21,7 @@ pub(crate) fn row_at<'a, R>(rows: &'a [Boxed<R>], place: usize, other: &'a R) ->
 }
 
 /// How the row compares with one of this home, name and id.
-fn compare<R: Named>(row: &R, home: &[u8], name: &[u8], id: &[u8]) -> Ordering
+pub(crate) fn compare<R: Named>(row: &R, home: &[u8], name: &[u8], id: &[u8]) -> Ordering
     ensures { result ≡ full_cmp (full_name R.within R.naming R.key row.now) ((name.now, home.now), id.now) }
 {
     row.name()
@@ -32,7 +32,7 @@ fn compare<R: Named>(row: &R, home: &[u8], name: &[u8], id: &[u8]) -> Ordering
 }
 
 /// The slot of the row with this home, name and id, or the one where it belongs.
-fn slot<R: Named>(
+pub(crate) fn slot<R: Named>(
     rows: &[Boxed<R>],
     places: &[usize],
     other: &R,

@@ -3,6 +3,7 @@
 
 mod index;
 mod links;
+mod made;
 mod ordered;
 mod runs;
 mod table;

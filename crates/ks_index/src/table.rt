@@ -3,7 +3,7 @@ ghost use Rattle.ks_base.specs.Rows.{same};
 ghost use Rattle.ks_base.specs.Tables.{id_cmp, IsAscending, find_row, put_row, drop_row};
 ghost use Rattle.ks_index.specs.Indexes.{is_named, is_other_named};
 
-use crate::{index, runs};
+use crate::{index, made, runs};
 use ks_base::by_id::{ids_of, ids_passing, place};
 use ks_base::{Boxed, Id, IdList, Memory, Named, Test, Text};
 use std::alloc::Global;
@@ -39,6 +39,15 @@ impl<R: Named> Table<R> {
             rows: Vec::new(alloc),
             names: Vec::new(alloc),
         }
+    }
+
+    /// The table of these rows, whose index is made at once.
+    pub fn from_rows(alloc: Global, rows: Vec<Boxed<R>>) -> Result<Table<R>, Memory>
+        requires { IsAscending id_cmp R.key rows.items }
+        ensures { IfOk result (λ table. table ≡ rows.items) }
+    {
+        let names = made::names_of(alloc, rows.as_slice())?;
+        Ok(Table { rows, names })
     }
 
     /// The row with this id.

@@ -17,21 +17,8 @@ use ks_roles::Roles;
 use ks_tree::Tree;
 use std::alloc::Global;
 
-/// The table of rows of which no two have one id. They go in by rising ids, so that each comes behind those that stand.
-fn table_of<R: Named>(alloc: Global, rows: ListOf<R>) -> Result<Table<R>, Memory>
-    requires { AreApart id_cmp R.key rows }
-    ensures { IfOk result (λ table. table ≡ put_all (put_row id_cmp R.key) rows) }
-{
-    let mut rows = rows.into_vec();
-    rows.sort_unstable_by(|a, b| b.id().cmp(a.id()));
-    let mut table = Table::new(alloc);
-    while let Some(row) = rows.pop() {
-        table.put(row)?;
-    }
-    Ok(table)
-}
-
-/// The same of rows that are found by their ids alone.
+/// The table of rows of which no two have one id, found by their ids alone. They go in by rising ids, so that each comes behind
+/// those that stand.
 fn id_table_of<R: Row>(alloc: Global, rows: ListOf<R>) -> Result<IdTable<R>, Memory>
     requires { AreApart id_cmp R.key rows }
     ensures { IfOk result (λ table. table ≡ put_all (put_row id_cmp R.key) rows) }
@@ -43,6 +30,14 @@ fn id_table_of<R: Row>(alloc: Global, rows: ListOf<R>) -> Result<IdTable<R>, Mem
         table.put(row)?;
     }
     Ok(table)
+}
+
+/// The same of rows that are found by their names too, whose index is made once they stand.
+fn table_of<R: Named>(alloc: Global, rows: ListOf<R>) -> Result<Table<R>, Memory>
+    requires { AreApart id_cmp R.key rows }
+    ensures { IfOk result (λ table. table ≡ put_all (put_row id_cmp R.key) rows) }
+{
+    Table::from_rows(alloc, id_table_of(alloc, rows)?.into_rows())
 }
 
 /// The set of these rows, each once. They go in by their order, so that each comes behind those that stand.
