@@ -35,8 +35,6 @@ KNOWN = {
     ("ks_checks/src/draws.rt", "ks_payload/src/hex_id.rt"): 7,
     # A row that is told with its name, of a domain and of a role.
     ("ks_checks/src/names.rt", "ks_checks/src/names.rt"): 6,
-    # A place goes into an index, or comes out of it.
-    ("ks_index/src/index.rt", "ks_index/src/index.rt"): 7,
     # What a caller asks and has who tries to take the turn, once and for a while.
     ("ks_turn/src/turn.rt", "ks_turn/src/turn.rt"): 7,
 }

@@ -47,6 +47,26 @@ pub(crate) fn slot<R: Named>(
     places.binary_search_by(|place| compare(row_at(rows, *place, other), home, name, id))
 }
 
+/// The slot of this row, or the one where it belongs.
+pub(crate) fn slot_of<R: Named>(
+    rows: &[Boxed<R>],
+    places: &[usize],
+    row: &R,
+) -> Result<usize, usize>
+    requires { IsAscending full_cmp (λ place. full_name R.within R.naming R.key (get_or rows.now place row.now)) places.now }
+    ensures bound { IsSearchInRange result (length places.now) }
+    ensures place { IsPlace full_cmp (λ place. full_name R.within R.naming R.key (get_or rows.now place row.now)) (full_name R.within R.naming R.key row.now) places.now result }
+{
+    slot(
+        rows,
+        places,
+        row,
+        row.home(),
+        row.name().as_slice(),
+        row.id().as_slice(),
+    )
+}
+
 /// Where a row stands after one came in at a place.
 #[tactic(auto, unfolding(crate::specs::Indexes::raised))]
 fn up(at: usize, place: usize) -> usize
@@ -134,14 +154,7 @@ fn put_in<R: Named>(rows: &[Boxed<R>], places: &mut Vec<usize>, at: usize)
     ensures { AreNamesOf R.within R.naming R.key rows.now places.new.items }
 {
     let row = rows[at].get();
-    match slot(
-        rows,
-        places.as_slice(),
-        row,
-        row.home(),
-        row.name().as_slice(),
-        row.id().as_slice(),
-    ) {
+    match slot_of(rows, places.as_slice(), row) {
         Ok(_) => unreachable!(),
         Err(slot) => match places.insert(slot, at) {
             Ok(()) => {}
@@ -158,14 +171,7 @@ fn take_out<R: Named>(rows: &[Boxed<R>], places: &mut Vec<usize>, at: usize)
     ensures room { vec_len places.new < vec_capacity places.new }
 {
     let row = rows[at].get();
-    match slot(
-        rows,
-        places.as_slice(),
-        row,
-        row.home(),
-        row.name().as_slice(),
-        row.id().as_slice(),
-    ) {
+    match slot_of(rows, places.as_slice(), row) {
         Ok(slot) => {
             let _place = places.remove(slot);
         }
