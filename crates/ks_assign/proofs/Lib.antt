@@ -1,0 +1,2 @@
+-- The grants at a target.
+mod TargetLemmas

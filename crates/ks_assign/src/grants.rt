@@ -1,15 +1,17 @@
-ghost use Rattle.std.specs.Prelude.{◌≡◌, ◌≢◌, [], not, filter, Ok, Err, false, is_none, IsNone, IsSome, IfOk, IfSome, IsTrue, ◌↔◌};
+ghost use Rattle.std.specs.Prelude.{◌≡◌, ◌≢◌, [], not, filter, map, Ok, Err, false, is_none, IsNone, IsSome, IfOk, IfSome, IsTrue, ◌↔◌};
 ghost use Rattle.ks_base.specs.declared.limits.TheConstants.{GRANTS};
 ghost use Rattle.ks_base.specs.Orders.{grant_cmp};
 ghost use Rattle.ks_base.specs.Refusals.{Changes, Decides, fault_in};
 ghost use Rattle.ks_base.specs.Tables.{IsAscending, find_row};
 ghost use Rattle.ks_base.specs.Grants.{stands, with_grant, without_grant, grant_fault, ungrant_fault, is_of_actor, is_at_target, is_of_role};
 
-use crate::named::{Elsewhere, OfOtherRoles};
+use crate::by_target::{AtTarget, ByTarget};
+use crate::named::OfOtherRoles;
 use ks_base::limits::GRANTS;
 use ks_base::{
     Actor, Boxed, GrantList, GrantRow, Id, Kind, Memory, RowFault, RowSet, Target, Test, refuse_if,
 };
+use ks_index::Links;
 use std::alloc::{AllocError, Global};
 use std::marker::Model;
 
@@ -18,7 +20,7 @@ use std::marker::Model;
 #[derive(Drop)]
 pub struct Grants {
     alloc: Global,
-    rows: RowSet<GrantRow>,
+    rows: Links<GrantRow, ByTarget>,
 }
 
 impl Model for Grants {
@@ -44,15 +46,18 @@ impl Grants {
     {
         Grants {
             alloc,
-            rows: RowSet::new(alloc),
+            rows: Links::new(alloc),
         }
     }
 
-    /// These grants.
-    pub fn from_rows(alloc: Global, rows: RowSet<GrantRow>) -> Grants
-        ensures { result ≡ rows }
+    /// These grants, with their order by target made beside their own.
+    pub fn from_rows(alloc: Global, rows: RowSet<GrantRow>) -> Result<Grants, Memory>
+        ensures { IfOk result (λ grants. grants ≡ rows) }
     {
-        Grants { alloc, rows }
+        Ok(Grants {
+            alloc,
+            rows: Links::from_rows(alloc, rows)?,
+        })
     }
 
     /// Grants, and says whether the grant is new; one that stands is no change and takes no memory. Refused is
@@ -105,6 +110,14 @@ impl Grants {
         if rows.is_empty() { None } else { Some(rows) }
     }
 
+    /// The grants at this target, seen from there: by actor, whether they are inherited, and role. It takes no memory, and
+    /// looks at no other grants than a binary search for the first and one for the last of them.
+    pub fn at_target(&self, target: &Target) -> &[Boxed<ByTarget>]
+        ensures { map (λ side. side.row) result.now ≡ filter (is_at_target target.now) self.now }
+    {
+        self.rows.at(&AtTarget { target: *target })
+    }
+
     /// Whether the grant stands.
     pub fn has(&self, row: &GrantRow) -> bool
         ensures { result ≡ stands self.now row.now }
@@ -119,11 +132,11 @@ impl Grants {
         self.rows.drop_of(actor);
     }
 
-    /// Takes all grants at the target back.
+    /// Takes all grants at the target back: where they are few, no other is looked at. It takes no memory.
     pub fn drop_target(&mut self, target: &Target)
         ensures { self.new ≡ filter (λ row. not (is_at_target target.now row)) self.old }
     {
-        self.rows.keep(&Elsewhere { target });
+        self.rows.drop_at(&AtTarget { target: *target });
     }
 
     /// Takes all grants of the role back.

@@ -95,7 +95,7 @@ fn roles_of(alloc: Global, roles: RoleList, implications: ImplyList) -> Result<R
 fn grants_of(alloc: Global, rows: GrantList) -> Result<Grants, Memory>
     ensures { IfOk result (λ grants. grants ≡ grants_with rows) }
 {
-    Ok(Grants::from_rows(alloc, set_of(alloc, rows)?))
+    Grants::from_rows(alloc, set_of(alloc, rows)?)
 }
 
 /// The trees of these domains and projects, and these users and groups with their memberships.

@@ -1,0 +1,3 @@
+-- The order of grants by target.
+pub mod SideLaws
+pub mod Sides
