@@ -1,4 +1,3 @@
 pub mod AskedLemmas
 pub mod CredLemmas
-pub mod ListedLemmas
 pub mod TrustLemmas

@@ -1,10 +1,11 @@
-use Rattle.std.proofs.Common.{◌≡◌, IfOk, List, map, subst}
-use Rattle.ks_machine.specs.declared.body_out.Row.TheVariants as row
+use Rattle.std.proofs.Common.{◌&&◌, true}
+use Rattle.std.proofs.lemmas.List.Elements.{filter_agree}
+use Rattle.std.proofs.Math.Bool.{and-true}
+use Rattle.ks_base.specs.declared.rows.RoleRow.{RoleRow}
 use Rattle.ks_machine.specs.Listings.{passes_name}
-use Rattle.ks_listings.proofs.ListedLemmas.{filter_alone}
 use Rattle.ks_listings.proofs.listings.roles_listed.Goals as goal
 
 pub returns : goal.returns
 returns c =
-    subst (λ (l : List _). IfOk c.listed_on.result (λ listed. listed ≡ map (λ found. row.Role found) l))
-    (filter_alone (λ role. passes_name c.args.fields.now role.name) c.args.roles.now.roles) c.listed_on.ensures
+    let passes = λ (role : RoleRow). passes_name c.args.fields.now role.name in
+    rw (filter_agree (λ role. passes role && true) passes (λ role. and-true (passes role)) c.args.roles.now.roles) at c.listed_on.ensures
