@@ -5,13 +5,14 @@ ghost use Rattle.ks_machine.specs.Assignments.{agrees, assignments, domain_of_ta
 ghost use Rattle.ks_machine.specs.Attempts.{Go};
 ghost use Rattle.ks_checks.specs.Plans.{Plans};
 
+use crate::asked::grants_listed;
 use crate::effective::given_to_text;
 use ks_auth::Tables;
-use ks_base::{Actor, Boxed, FieldList, Filter, GrantList, GrantRow, Memory, Target, Test, Text};
+use ks_base::{Actor, FieldList, Filter, GrantList, GrantRow, Memory, Target, Text};
 use ks_checks::filters::value_in;
 use ks_checks::{Halt, Plan};
 use ks_machine::{BodyOut, asks_for_effective};
-use std::alloc::{AllocError, Global};
+use std::alloc::Global;
 
 /// Whether a filter is not given, or is this id.
 fn agrees(fields: &FieldList, name: &str, id: Option<&[u8]>) -> bool
@@ -75,7 +76,8 @@ fn system_of_target(target: &Target) -> Option<&'static [u8]>
     }
 }
 
-fn is_listed(fields: &FieldList, row: &GrantRow) -> bool
+/// Whether a row passes all given filters.
+pub(crate) fn is_listed(fields: &FieldList, row: &GrantRow) -> bool
     ensures { result ≡ is_listed fields.now row.now }
 {
     agrees(fields, "user.id", user_of_actor(&row.actor))
@@ -112,46 +114,6 @@ fn effective_of(alloc: Global, tables: &Tables, fields: &FieldList) -> Result<Gr
     }
 }
 
-/// The grants that these filters list.
-#[derive(Drop)]
-struct ByFilters<'a> {
-    fields: &'a FieldList,
-}
-
-impl Test<GrantRow> for ByFilters<'_> {
-    ghost test = { λ wanted row. is_listed wanted.fields.now row };
-
-    fn test(&self, row: &GrantRow) -> bool {
-        is_listed(self.fields, row)
-    }
-}
-
-/// Copies of the rows that pass the test.
-fn passing<R: Copy, T: Test<R>>(
-    alloc: Global,
-    rows: &[Boxed<R>],
-    test: &T,
-) -> Result<Vec<R>, AllocError>
-    ensures { IfOk result (λ found. found.items ≡ filter (T.test test.now) rows.now) }
-{
-    rows.iter()
-        .filter(|row| test.test(row.get()))
-        .map(|row| *row.get())
-        .collect(alloc)
-}
-
-/// Those of all grants that the filters list.
-fn grants_listed(
-    alloc: Global,
-    fields: &FieldList,
-    grants: &[Boxed<GrantRow>],
-) -> Result<GrantList, Memory>
-    ensures { IfOk result (λ found. found ≡ filter (is_listed fields.now) grants.now) }
-{
-    let found = passing(alloc, grants, &ByFilters { fields })?;
-    Ok(GrantList::from_vec(found))
-}
-
 /// The rows that the filters list.
 fn listed(alloc: Global, fields: &FieldList, rows: &[GrantRow]) -> Result<GrantList, Memory>
     ensures { IfOk result (λ found. found ≡ filter (is_listed fields.now) rows.now) }
@@ -174,7 +136,7 @@ fn rows_asked(alloc: Global, tables: &Tables, fields: &FieldList) -> Result<Gran
         let given = effective_of(alloc, tables, fields)?;
         listed(alloc, fields, given.as_slice())
     } else {
-        grants_listed(alloc, fields, tables.grants.as_slice())
+        grants_listed(alloc, fields, tables.grants)
     }
 }
 

@@ -1,6 +1,7 @@
 //! Commands about memberships, implications and grants, and the listing of assignments.
 #![tactic(auto)]
 
+mod asked;
 pub mod assignments;
 mod effective;
 pub mod grants;

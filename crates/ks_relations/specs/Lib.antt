@@ -1,0 +1,2 @@
+-- Which grants a listing looks at.
+pub mod Asked
