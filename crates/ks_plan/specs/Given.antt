@@ -1,4 +1,4 @@
--- One check after another, for the clauses of code.
+-- One check after another, under a name, since a clause of code cannot bring in the operator.
 use Rattle.ks_machine.specs.Attempts.{Attempt, ◌>>=◌}
 
 -- the second check, by what the first gives

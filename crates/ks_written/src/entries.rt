@@ -28,7 +28,7 @@ pub(crate) fn each<'a, E: Entry>(
 ) -> Result<ListOf<E>, ShapeRefusal>
     ensures { Reads result (entries_from E.reads (names_in names.now) (place_of file.now) 0 (items_view values.now)) }
 {
-    let mut rows = ListOf::new(alloc);
+    let mut rows = ListOf::from_vec(Vec::with_capacity(alloc, values.len())?);
     for (number, value) in values.iter().enumerate() {
         let entry = file.entry(names, number, value)?;
         let row = E::read(alloc, &entry)?;
