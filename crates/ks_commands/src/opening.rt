@@ -18,7 +18,7 @@ use ks_setup::OpeningFile;
 use std::alloc::{AllocError, Global};
 
 /// The file of this text, and the keys that the folder holds, where the file takes its keys from there.
-pub fn read_form<D: KeyDir>(
+pub fn read_opening_file<D: KeyDir>(
     alloc: Global,
     text: &[u8],
     dir: &mut D,

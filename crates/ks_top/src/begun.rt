@@ -14,7 +14,7 @@ ghost use Rattle.ks_commands.specs.steps.Openings.{IsRead};
 
 use ks_base::{Memory, Text};
 use ks_commands::Fault;
-use ks_commands::opening::{read_file, read_form};
+use ks_commands::opening::{read_file, read_opening_file};
 use ks_entries::{Header, headers_differ, read_header, write_header};
 use ks_keeper::Keeper;
 use ks_outside::{Desk, KeyDir, Source};
@@ -98,8 +98,8 @@ fn start_anew<D: KeyDir, P: Desk, B: Keeper>(
     ensures faults { Counts (result ≡ Err (Fault.Keeper None)) (B.faults keeper.old) (B.faults keeper.new) }
     ensures since { B.whole keeper.new → B.whole keeper.old }
 {
-    let (form, held) = read_form(alloc, text, dir)?;
-    let (opening, header) = match first_opening(alloc, text, form, held.as_slice(), desk) {
+    let (file, held) = read_opening_file(alloc, text, dir)?;
+    let (opening, header) = match first_opening(alloc, text, file, held.as_slice(), desk) {
         Ok(made) => made,
         Err(fault) => return Err(Fault::of_opening(fault)),
     };
