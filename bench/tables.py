@@ -63,10 +63,12 @@ def statuses(stream, count):
 
 
 def cpu_of(run):
-    """The seconds of a core that the program has used."""
-    with open(f"/proc/{run.pid}/stat", encoding="utf-8") as file:
-        fields = file.read().rpartition(")")[2].split()
-    return (int(fields[11]) + int(fields[12])) / os.sysconf("SC_CLK_TCK")
+    """The seconds of a core that the program has used, which the clock of processes tells by hundredths alone."""
+    used = 0
+    for thread in os.listdir(f"/proc/{run.pid}/task"):
+        with open(f"/proc/{run.pid}/task/{thread}/schedstat", encoding="utf-8") as file:
+            used += int(file.read().split()[0])
+    return used / 1e9
 
 
 def asked(run, requests, wanted):
@@ -99,16 +101,21 @@ def measured(ks, path, told, admin, ids, projects, role, count):
     figures = {"opening, seconds": time.monotonic() - began}
     named = {"name": told["users"][-1]["name"], "domain": {"id": "default"}, "password": "a secret"}
     login = {"auth": {"identity": {"methods": ["password"], "password": {"user": named}}}}
-    # The clock of processes ticks a hundred times a second.
     many = count * 10
     gone = ids[: min(count, len(ids) // 2)]
-    few = [ids[-1 - n % (len(ids) // 2)] for n in range(count)]
+    # Projects on which nobody has a role.
+    bare = projects[PROJECTS // 2 : PROJECTS - 1 - (count - 1) // 100]
+    # None of these stands: an opening gives nobody so many projects, and what stands is no change.
+    late = [(ids[-1 - n % 100], projects[-1 - n // 100]) for n in range(count)]
     rows = [
         ("validation", [talk.validation(token)] * many, 200),
         ("login by name", [request("POST", "/v3/auth/tokens", "", login)] * many, 201),
         ("a user made", [request("POST", "/v3/users", token, {"user": {"name": f"new{n}"}}) for n in range(count)], 201),
         ("a user by name", [request("GET", f"/v3/users?name=user{n}", token) for n in range(count)], 200),
-        ("a grant made", [request("PUT", f"/v3/domains/default/users/{few[n]}/roles/{role}", token) for n in range(count)], 204),
+        ("a grant made", [request("PUT", f"/v3/projects/{at}/users/{id}/roles/{role}", token) for id, at in late], 204),
+        ("a user's grants listed", [request("GET", f"/v3/role_assignments?user.id={id}", token) for id in gone], 200),
+        ("a project's grants listed", [request("GET", f"/v3/role_assignments?scope.project.id={id}", token) for id in bare], 200),
+        ("a project deleted", [request("DELETE", f"/v3/projects/{id}", token) for id in bare], 204),
         ("a user deleted", [request("DELETE", f"/v3/users/{id}", token) for id in gone], 204),
     ]
     for name, requests, wanted in rows:

@@ -1,7 +1,7 @@
 #!/bin/sh
 # Prints what requests cost among few and among many rows: by `ks talk`, pipelined over one connection, in microseconds of a core, for
-# validations, logins by name, users made, found by name and deleted, and grants made; how long the opening takes; and each figure
-# beside that among the fewest rows. All statuses are compared.
+# validations, logins by name, users made, found by name and deleted, grants made and listed by their user and by their project, and
+# projects deleted; how long the opening takes; and each figure beside that among the fewest rows. All statuses are compared.
 #
 #     bench/tables.sh [REQUESTS]    for each figure, by default 500
 #
