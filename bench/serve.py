@@ -1,9 +1,10 @@
 #!/usr/bin/env python3
 """What bench/serve.sh runs: servers, and the load on them.
 
-    serve.py KS SECONDS
+    serve.py KS SECONDS [OTHER]
 """
 
+import contextlib
 import json
 import multiprocessing
 import os
@@ -109,12 +110,13 @@ def by_python(port, workers, requests, depth, seconds):
     return depth * len(taken) / seconds, taken[len(taken) // 2] * 1000, taken[len(taken) * 99 // 100] * 1000
 
 
-def opening(work):
-    """The opening file of the examples, with the rounds of a real one."""
+def opening(folder):
+    """The opening file of the examples, with the rounds of a real one, and a folder of its own for its keys."""
     with open(O1, encoding="utf-8") as file:
         told = json.load(file)
     told["settings"]["rounds"] = ROUNDS
-    path = os.path.join(work, "opening.json")
+    os.makedirs(os.path.join(folder, "keys"), 0o700)
+    path = os.path.join(folder, "opening.json")
     with open(path, "w", encoding="utf-8") as file:
         json.dump(told, file)
     return path, told["projects"][0]["id"]
@@ -148,37 +150,51 @@ def named(workers):
     return "1 worker" if workers == 1 else f"{workers} workers"
 
 
-def measure(program, seconds, work):
-    """Prints a line for each row and number of workers."""
-    file, project = opening(work)
-    folder, has_wrk, rates = os.path.join(work, "keys"), shutil.which("wrk") is not None, {}
-    os.mkdir(folder, 0o700)
-    require(run(program, "setup", folder)[0] == 0, "the keys cannot be set up")
-    print("the load is " + ("wrk" if has_wrk else "a client in Python for each connection"), flush=True)
+def measured(server, work, workers, requests, depth, seconds):
+    """A load on a server: the requests a second, those a second of each core that it had, and both in words."""
+    began, worked = time.monotonic(), server.seconds()
+    if shutil.which("wrk"):
+        rate, half, most = by_wrk(work, server.port, workers, requests, seconds)
+    else:
+        rate, half, most = by_python(server.port, workers, requests, depth, seconds)
+    cores = (server.seconds() - worked) / (time.monotonic() - began)
+    # Of requests that are sent at once, no client measures one alone.
+    times = f"p50 {half:.3f} ms, p99 {most:.3f} ms, " if depth == 1 else ""
+    return rate, rate / cores, f"{rate:,.0f} a second with {cores:.2f} cores, {times}{server.memory() / 1024:.1f} MiB resident"
+
+
+def measure(programs, seconds, work):
+    """Prints a line for each row and number of workers, with what the other program does beside it, where one is named."""
+    folders = [os.path.join(work, str(number)) for number, _ in enumerate(programs)]
+    opened, rates = [opening(folder) for folder in folders], {}
+    for program, folder in zip(programs, folders):
+        require(run(program, "setup", os.path.join(folder, "keys"))[0] == 0, "the keys cannot be set up")
+    print("the load is " + ("wrk" if shutil.which("wrk") else "a client in Python for each connection"), flush=True)
     for workers in WORKERS:
-        with Server(program, file, folder, workers) as server:
-            for what, requests, depth in loads(server.port, project):
-                began, worked = time.monotonic(), server.seconds()
-                if has_wrk:
-                    rate, half, most = by_wrk(work, server.port, workers, requests, seconds)
-                else:
-                    rate, half, most = by_python(server.port, workers, requests, depth, seconds)
-                cores = (server.seconds() - worked) / (time.monotonic() - began)
-                rates[what, workers] = rate, rate / cores
-                # Of requests that are sent at once, no client measures one alone.
-                times = f"p50 {half:.3f} ms, p99 {most:.3f} ms, " if depth == 1 else ""
-                print(f"{what}, {named(workers)}: {rate:,.0f} a second with {cores:.2f} cores, {times}"
-                      f"{server.memory() / 1024:.1f} MiB resident", flush=True)
+        with contextlib.ExitStack() as ends:
+            servers = [
+                ends.enter_context(Server(program, file, os.path.join(folder, "keys"), workers))
+                for program, folder, (file, _) in zip(programs, folders, opened)
+            ]
+            for rows in zip(*(loads(server.port, project) for server, (_, project) in zip(servers, opened))):
+                for number, (server, (what, requests, depth)) in enumerate(zip(servers, rows)):
+                    rate, each, told = measured(server, work, workers, requests, depth, seconds)
+                    beside = ", beside it" if number else ""
+                    print(f"{what}, {named(workers)}{beside}: {told}", flush=True)
+                    rates[what, workers, number] = rate, each
     least, most = WORKERS
-    for what in dict.fromkeys(what for what, _ in rates):
-        (few, few_each), (many, many_each) = rates[what, least], rates[what, most]
+    for what in dict.fromkeys(what for what, *_ in rates):
+        (few, few_each), (many, many_each) = rates[what, least, 0], rates[what, most, 0]
         print(f"{what}: {named(most)} do {many / few:.2f} times what {named(least)} does; of its cores each does {few_each:,.0f} "
               f"with {named(least)} and {many_each:,.0f} with {named(most)}, {many_each / few_each:.2f} of that")
+        for workers in WORKERS if len(programs) > 1 else ():
+            ratio = rates[what, workers, 0][1] / rates[what, workers, 1][1]
+            print(f"{what}: with {named(workers)} a core does {ratio:.2f} times what it does for the other program")
 
 
 def main():
-    program, seconds = sys.argv[1], int(sys.argv[2])
-    return measure_in_folder("serve", lambda work: measure(program, seconds, work))
+    programs, seconds = [sys.argv[1], *sys.argv[3:]], int(sys.argv[2])
+    return measure_in_folder("serve", lambda work: measure(programs, seconds, work))
 
 
 if __name__ == "__main__":

@@ -6,10 +6,10 @@
 # workers. The load is `wrk`, where it is there, else a client in Python for each connection, which
 # takes a good part of the machine itself.
 #
-#     bench/serve.sh [SECONDS]      for each row, by default 10
+#     bench/serve.sh [SECONDS [OTHER]]      for each row, by default 10; OTHER is another program, whose rows stand beside
 #
 # The program is bin/ks of this repository; the environment's KS names another.
 set -e
 . "$(dirname "$0")/built.sh"
 
-exec python3 "$top/bench/serve.py" "$ks" "${1:-10}"
+exec python3 "$top/bench/serve.py" "$ks" "${1:-10}" ${2:+"$2"}
