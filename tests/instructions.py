@@ -4,11 +4,11 @@
     tests/instructions.py           compares; the exit status is 1 where a count is more than a tenth above its figure
     tests/instructions.py --keep    writes the counts of this run as the figures
 
-The figures stand in bench/instructions.txt: the instructions of a line of `check` and of a request of `talk`, of a validation also
-among 10,000 users with 100,000 grants, and the most bytes that the program had asked for and not given back. Instructions come of two runs under valgrind over the same line or
-request, of which the second has more of them, so that the beginning and the end of a run do not count. Such counts repeat
-exactly on one machine. Where there is no valgrind, nothing is counted. The program is bin/ks of this repository; the
-environment's KS names another.
+The figures stand in bench/instructions.txt: the instructions of a line of `check` and of a request of `talk`, of a validation and of
+listings of grants also among 10,000 users with 100,000 grants, and the most bytes that the program had asked for and not given back.
+Instructions come of two runs under valgrind over the same line or request, of which the second has more of them, so that the beginning
+and the end of a run do not count. Such counts repeat exactly on one machine. Where there is no valgrind, nothing is counted. The program
+is bin/ks of this repository; the environment's KS names another.
 """
 
 import atexit
@@ -56,6 +56,8 @@ def many_rows():
 
 
 MANY = many_rows()
+# Listings of the grants of one user and at one project.
+GRANTS = b"".join(tables.request("GET", f"/v3/role_assignments?{of}", talk.sealed()) for of in ("user.id=u1", "scope.project.id=p99"))
 
 # Runs whose instructions are counted: the words of the command line, what stands in front, what is repeated, how often in both
 # runs, and the names of the counts, each with the front of the names of the functions that count.
@@ -68,6 +70,7 @@ INSTRUCTIONS = [
     (TALK, b"", BODY, 100, 600, {"talk: a body of 4,000 bytes": ""}),
     (TALK, b"", talk.validation(talk.sealed()), 50, 250, {"talk: a validation": ""}),
     (["talk", MANY, "keys"], b"", talk.validation(talk.sealed()), 50, 250, {"talk: a validation among 100,000 grants": ""}),
+    (["talk", MANY, "keys"], b"", GRANTS, 50, 250, {"talk: the grants of a user and those at a project, of 100,000": ""}),
 ]
 # Runs whose memory is counted.
 HEAP = [
