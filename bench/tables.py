@@ -103,10 +103,9 @@ def measured(ks, path, told, admin, ids, projects, role, count):
     login = {"auth": {"identity": {"methods": ["password"], "password": {"user": named}}}}
     many = count * 10
     gone = ids[: min(count, len(ids) // 2)]
-    # Projects on which nobody has a role.
-    bare = projects[PROJECTS // 2 : PROJECTS - 1 - (count - 1) // 100]
-    # None of these stands: an opening gives nobody so many projects, and what stands is no change.
-    late = [(ids[-1 - n % 100], projects[-1 - n // 100]) for n in range(count)]
+    # On the last half of the projects nobody has a role: some of them go, and grants come on the others. What stands is no change.
+    bare = projects[PROJECTS // 2 : PROJECTS * 3 // 4]
+    late = [(ids[-1 - n % 100], projects[-1 - n // 100]) for n in range(min(count, PROJECTS // 4 * 100))]
     rows = [
         ("validation", [talk.validation(token)] * many, 200),
         ("login by name", [request("POST", "/v3/auth/tokens", "", login)] * many, 201),
