@@ -33,6 +33,7 @@ use ks_checks::named::role_in;
 use ks_checks::names::titled_roles;
 use ks_checks::paths::joined;
 use ks_checks::{Caller, Halt, Plan};
+use ks_index::Rows;
 use ks_machine::{BodyOut, Cause, Change, Named, Row, RowList, TrustBody};
 use std::alloc::Global;
 
@@ -406,12 +407,11 @@ fn has_id(ids: &IdList, id: &Id) -> bool
 }
 
 /// The standing roles among these, in their order.
-fn roles_among(alloc: Global, rows: &[Boxed<RoleRow>], ids: &IdList) -> Result<RoleList, Memory>
-    ensures { IfOk result (λ roles. roles ≡ filter (λ role. has_id ids.now role.id) rows.now) }
+fn roles_among(alloc: Global, rows: Rows<'_, RoleRow>, ids: &IdList) -> Result<RoleList, Memory>
+    ensures { IfOk result (λ roles. roles ≡ filter (λ role. has_id ids.now role.id) rows.entry) }
 {
     let mut roles = RoleList::new(alloc);
     for role in rows {
-        let role = role.get();
         if has_id(ids, &role.id) {
             roles.push(role.copy()?)?;
         }

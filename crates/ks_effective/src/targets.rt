@@ -71,10 +71,10 @@ fn all_targets(alloc: Global, tree: &Tree) -> Result<Vec<Target>, Memory>
     let mut all = Vec::new(alloc);
     all.push(Target::System)?;
     for domain in tree.domains() {
-        all.push(Target::Domain(domain.get().id))?;
+        all.push(Target::Domain(domain.id))?;
     }
     for project in tree.projects() {
-        all.push(Target::Project(project.get().id))?;
+        all.push(Target::Project(project.id))?;
     }
     Ok(all)
 }

@@ -9,11 +9,11 @@ use Rattle.std.specs.Cmp.{IsTotalOrder}
 use Rattle.std.proofs.lemmas.Bool.Decides.{nat_tests}
 use Rattle.std.proofs.lemmas.Cmp.{tied_itself, tied_back}
 use Rattle.std.proofs.lemmas.Grind.{common_steps}
-use Rattle.std.proofs.lemmas.List.{get_or-set_other, length-set}
-use Rattle.std.proofs.lemmas.List.Edits.{length-insert, length-remove, get_or-insert_below, get_or-insert_above, get_or-remove_below, get_or-remove_above}
+use Rattle.std.proofs.lemmas.List.{get_or-set_other, get_or-set_same, length-set}
+use Rattle.std.proofs.lemmas.List.Edits.{length-insert, get_or-insert_below}
 use Rattle.ks_base.specs.Tables.{AreAbove, IsAscending, Among, has_key, drop_row}
 use Rattle.ks_base.specs.Places.{IsGapAt}
-use Rattle.ks_index.specs.Indexes.{AreCovered, IsIndex, IsIndexBut, IsPartIndex, raised, lowered}
+use Rattle.ks_index.specs.Indexes.{AreCovered, AreUnlike, IsIndex, IsIndexBut, IsPartIndex}
 use Rattle.ks_base.proofs.AmongLemmas.{all_among, among_all, among_left, among_push, among_right, map_among, among_mapped}
 use Rattle.ks_base.proofs.LinkLemmas.{none_left}
 use Rattle.ks_base.proofs.PlaceLemmas.{above_at, ascending_insert}
@@ -35,22 +35,6 @@ below_or_not (suc a) (suc b) = by (below_or_not a b)
     by : (a < b) ⊎ (b ≤ a) → (suc a < suc b) ⊎ (suc b ≤ suc a)
     by (inl lt) = inl (omega arith)
     by (inr le) = inr (omega arith)
-
-raised_below : (at p : ℕ) → p < at → raised at p ≡ p
-unfolding raised
-raised_below at p lt = grind (arith, nat_tests)
-
-raised_above : (at p : ℕ) → at ≤ p → raised at p ≡ p + 1
-unfolding raised
-raised_above at p le = grind (arith, nat_tests)
-
-lowered_below : (at p : ℕ) → p ≤ at → lowered at p ≡ p
-unfolding lowered
-lowered_below at p le = grind (arith, nat_tests)
-
-lowered_above : (at p : ℕ) → at < p → lowered at p ≡ p - 1
-unfolding lowered
-lowered_above at p lt = grind (arith, nat_tests)
 
 -- keys that are the same at each
 
@@ -86,105 +70,26 @@ index_any cmp key rows places e d within up =
     ascending_alike cmp (λ place. key (get_or rows place e)) (λ place. key (get_or rows place d)) places
     (λ p among. ap key (get_any rows p e d (all_among (λ q. q < length rows) places p within among))) up
 
--- a row comes in
+-- a row comes in behind all others
 
-get_raised : {X : Type 0} (rows : List X) (at p : ℕ) (row d : X) → at ≤ length rows → get_or (insert rows at row) (raised at p) d ≡ get_or rows p d
-get_raised {X} rows at p row d le = by (below_or_not p at)
-  where
-    by : (p < at) ⊎ (at ≤ p) → get_or (insert rows at row) (raised at p) d ≡ get_or rows p d
-    by (inl lt) = ap (λ q. get_or (insert rows at row) q d) (raised_below at p lt) ∙ get_or-insert_below rows at row d p lt le
-    by (inr ge) = ap (λ q. get_or (insert rows at row) q d) (raised_above at p ge) ∙ get_or-insert_above rows at row d p ge le
+pub get_pushed : {X : Type 0} (rows : List X) (row d : X) (p : ℕ) → p < length rows → get_or (insert rows (length rows) row) p d ≡ get_or rows p d
+get_pushed rows row d p lt = get_or-insert_below rows (length rows) row d p lt (omega arith)
 
-raised_within : (at p n : ℕ) → p < n → raised at p < n + 1
-raised_within at p n lt = by (below_or_not p at)
-  where
-    by : (p < at) ⊎ (at ≤ p) → raised at p < n + 1
-    by (inl less) = omega (arith, raised_below at p less)
-    by (inr more) = omega (arith, raised_above at p more)
-
-raised_other : (at p : ℕ) → raised at p ≢ at
-raised_other at p is = by (below_or_not p at)
-  where
-    by : (p < at) ⊎ (at ≤ p) → ⊥
-    by (inl less) = omega (arith, raised_below at p less, is)
-    by (inr more) = omega (arith, raised_above at p more, is)
-
-raised_all : (places : List ℕ) (at n q : ℕ) → ((p : ℕ) → p < n → Among places p) → at ≤ n → q < n + 1 → q ≢ at → Among (map (raised at) places) q
-raised_all places at n q all le lt other = by (below_or_not q at)
-  where
-    by : (q < at) ⊎ (at ≤ q) → Among (map (raised at) places) q
-    by (inl less) = subst (Among (map (raised at) places)) (raised_below at q less) (map_among (raised at) places q (all q (omega arith)))
-    by (inr more) =
-        let above : at ≤ q - 1 = omega (arith, other) in
-        let back : q - 1 + 1 ≡ q = omega (arith, other) in
-        let inside : q - 1 < n = omega (arith, other) in
-        subst (Among (map (raised at) places)) (raised_above at (q - 1) above ∙ back) (map_among (raised at) places (q - 1) (all (q - 1) inside))
-
-pub raised_index : {K X : Type 0} (cmp : K → K → Ordering) (key : X → K) (rows : List X) (places : List ℕ) (at : ℕ) (row : X) →
-    at ≤ length rows → IsIndex cmp key rows places → IsIndexBut cmp key (insert rows at row) (map (raised at) places) at
-raised_index {K} {X} cmp key rows places at row le index = record {
-  within = among_all (λ p. p < length (insert rows at row)) (map (raised at) places) inside;
-  others = outside;
-  all = λ q lt other. raised_all places at (length rows) q index.all le (omega (arith, length-insert rows at row le)) other;
-  up = λ d. ascending_mapped cmp (λ p. key (get_or (insert rows at row) p d)) (raised at) places
-      (ascending_alike cmp (λ p. key (get_or rows p d)) (λ p. key (get_or (insert rows at row) (raised at p) d)) places
-      (λ p among. ap key (sym (get_raised rows at p row d le))) (index.up d));
+pub pushed_index : {K X : Type 0} (cmp : K → K → Ordering) (key : X → K) (rows : List X) (places : List ℕ) (row : X) →
+    IsIndex cmp key rows places → IsIndexBut cmp key (insert rows (length rows) row) places (length rows)
+pushed_index {K} {X} cmp key rows places row index = record {
+  within = among_all (λ p. p < length (insert rows (length rows) row)) places (λ p among. omega (arith, inside p among, longer));
+  others = λ p among is. omega (arith, inside p among, is);
+  all = λ p lt other. index.all p (omega (arith, lt, longer, other));
+  up = λ d. ascending_alike cmp (λ p. key (get_or rows p d)) (λ p. key (get_or (insert rows (length rows) row) p d)) places
+      (λ p among. ap key (sym (get_pushed rows row d p (inside p among)))) (index.up d);
 }
   where
-    inside : (q : ℕ) → Among (map (raised at) places) q → q < length (insert rows at row)
-    inside q among =
-        let found = among_mapped (raised at) places q among in
-        let below = raised_within at found.0 (length rows) (all_among (λ p. p < length rows) places found.0 index.within found.1) in
-        omega (arith, below, found.2, length-insert rows at row le)
+    longer : length (insert rows (length rows) row) ≡ length rows + 1
+    longer = length-insert rows (length rows) row (omega arith)
 
-    outside : (q : ℕ) → Among (map (raised at) places) q → q ≢ at
-    outside q among is = let found = among_mapped (raised at) places q among in raised_other at found.0 (found.2 ∙ is)
-
--- a row goes
-
-get_lowered : {X : Type 0} (rows : List X) (at p : ℕ) (d : X) → at < length rows → p ≢ at → get_or (remove rows at) (lowered at p) d ≡ get_or rows p d
-get_lowered {X} rows at p d lt other = by (below_or_not p at)
-  where
-    by : (p < at) ⊎ (at ≤ p) → get_or (remove rows at) (lowered at p) d ≡ get_or rows p d
-    by (inl less) = ap (λ q. get_or (remove rows at) q d) (lowered_below at p (omega arith)) ∙ get_or-remove_below rows at d p less lt
-    by (inr more) =
-        let above : at < p = omega (arith, other) in
-        let back : p - 1 + 1 ≡ p = omega arith in
-        ap (λ q. get_or (remove rows at) q d) (lowered_above at p above) ∙ get_or-remove_above rows at d (p - 1) (omega arith) lt ∙ ap (λ q. get_or rows q d) back
-
-lowered_within : (at p n : ℕ) → p < n + 1 → at < n + 1 → p ≢ at → lowered at p < n
-lowered_within at p n lt inside other = by (below_or_not p at)
-  where
-    by : (p < at) ⊎ (at ≤ p) → lowered at p < n
-    by (inl less) = let is = lowered_below at p (omega arith) in omega (arith, is)
-    by (inr more) = let above : at < p = omega (arith, other) in omega (arith, lowered_above at p above)
-
-lowered_all : (places : List ℕ) (at n q : ℕ) → ((p : ℕ) → p < n + 1 → p ≢ at → Among places p) → q < n → Among (map (lowered at) places) q
-lowered_all places at n q all lt = by (below_or_not q at)
-  where
-    by : (q < at) ⊎ (at ≤ q) → Among (map (lowered at) places) q
-    by (inl less) = subst (Among (map (lowered at) places)) (lowered_below at q (omega arith)) (map_among (lowered at) places q (all q (omega arith) (λ is. omega arith)))
-    by (inr more) =
-        let back : q + 1 - 1 ≡ q = omega arith in
-        subst (Among (map (lowered at) places)) (lowered_above at (q + 1) (omega arith) ∙ back) (map_among (lowered at) places (q + 1) (all (q + 1) (omega arith) (λ is. omega arith)))
-
-pub lowered_index : {K X : Type 0} (cmp : K → K → Ordering) (key : X → K) (rows : List X) (places : List ℕ) (at : ℕ) →
-    at < length rows → IsIndexBut cmp key rows places at → IsIndex cmp key (remove rows at) (map (lowered at) places)
-lowered_index {K} {X} cmp key rows places at lt but = record {
-  within = among_all (λ p. p < length (remove rows at)) (map (lowered at) places) inside;
-  all = λ q below. lowered_all places at (length (remove rows at)) q (λ p less other. but.all p (omega (arith, length-remove rows at lt)) other) below;
-  up = λ d. ascending_mapped cmp (λ p. key (get_or (remove rows at) p d)) (lowered at) places
-      (ascending_alike cmp (λ p. key (get_or rows p d)) (λ p. key (get_or (remove rows at) (lowered at p) d)) places
-      (λ p among. ap key (sym (get_lowered rows at p d lt (but.others p among)))) (but.up d));
-}
-  where
-    inside : (q : ℕ) → Among (map (lowered at) places) q → q < length (remove rows at)
-    inside q among =
-        let found = among_mapped (lowered at) places q among in
-        let n = length-remove rows at lt in
-        let below : found.0 < length (remove rows at) + 1 = omega (arith, n, all_among (λ p. p < length rows) places found.0 but.within found.1) in
-        let less = lowered_within at found.0 (length (remove rows at)) below (omega (arith, n)) (but.others found.0 found.1) in
-        omega (arith, less, found.2)
+    inside : (p : ℕ) → Among places p → p < length rows
+    inside p among = all_among (λ q. q < length rows) places p index.within among
 
 -- a row takes the place of another
 
@@ -198,6 +103,28 @@ set_index {K} {X} cmp key rows places at row but = record {
   up = λ d. ascending_alike cmp (λ p. key (get_or rows p d)) (λ p. key (get_or (set rows at row) p d)) places
       (λ p among. ap key (sym (get_or-set_other rows at p row d (but.others p among)))) (but.up d);
 }
+
+-- one with its key
+pub set_alike : {K X : Type 0} (cmp : K → K → Ordering) (key : X → K) (rows : List X) (places : List ℕ) (at : ℕ) (row : X) →
+    at < length rows → key (get_or rows at row) ≡ key row → IsIndex cmp key rows places → IsIndex cmp key (set rows at row) places
+set_alike {K} {X} cmp key rows places at row lt same index = record {
+  within = among_all (λ p. p < length (set rows at row)) places (λ p among. omega (arith, length-set rows at row, inside p among));
+  all = λ p less. index.all p (omega (arith, length-set rows at row));
+  up = λ d. ascending_alike cmp (λ p. key (get_or rows p d)) (λ p. key (get_or (set rows at row) p d)) places
+      (λ p among. by d p (inside p among) (below_or_not p at) (below_or_not at p)) (index.up d);
+}
+  where
+    inside : (p : ℕ) → Among places p → p < length rows
+    inside p among = all_among (λ q. q < length rows) places p index.within among
+
+    by : (d : X) (p : ℕ) → p < length rows → (p < at) ⊎ (at ≤ p) → (at < p) ⊎ (p ≤ at) → key (get_or rows p d) ≡ key (get_or (set rows at row) p d)
+    by d p less (inl below) any = ap key (sym (get_or-set_other rows at p row d (λ is. omega (arith, is))))
+    by d p less (inr least) (inl above) = ap key (sym (get_or-set_other rows at p row d (λ is. omega (arith, is))))
+    by d p less (inr least) (inr most) =
+        let is : at ≡ p = omega (arith, least, most) in
+        let there : get_or (set rows at row) p d ≡ row = ap (λ q. get_or (set rows at row) q d) (sym is) ∙ get_or-set_same rows at row d lt in
+        let here : key (get_or rows p d) ≡ key row = ap key (get_any rows p d row less) ∙ ap (λ q. key (get_or rows q row)) (sym is) ∙ same in
+        here ∙ ap key (sym there)
 
 -- a place goes out of the index, and one comes in
 
@@ -347,9 +274,3 @@ written_back new old n e =
     let none : drop (length new) old ≡ [] = grind (arith, common_steps) in
     let end : new ++ drop (length new) old ≡ new = grind (arith, common_steps) in
     grind (arith, common_steps)
-
--- places before a row that comes in behind them stay
-pub raised_none : (places : List ℕ) (at n : ℕ) → AllByRecursion (λ place. place < n) places → n ≤ at → places ≡ map (raised at) places
-raised_none [] at n all le = refl
-raised_none (p ∷ places) at n all le =
-    ap (λ q. q ∷ places) (sym (raised_below at p (omega (arith, all.0)))) ∙ ap (λ (rest : List ℕ). raised at p ∷ rest) (raised_none places at n all.1 le)

@@ -11,9 +11,9 @@ use Rattle.ks_base.specs.Tables.{id_cmp, IsAscending, Among, drop_row, find_row}
 use Rattle.ks_base.specs.Places.{IsFoundAt, IsGapAt, IsPlace}
 use Rattle.ks_base.specs.Rows.{same}
 use Rattle.ks_base.specs.OrderLaws.{id_exact, then_equal}
-use Rattle.ks_index.specs.Indexes.{Name, AreNamesBut, AreNamesOf, ArePartNames, name_cmp, full_cmp, full_name, is_named, is_other_named, row_in}
+use Rattle.ks_index.specs.Indexes.{Name, AreListed, AreNamesBut, AreNamesOf, ArePartNames, AreUnlike, name_cmp, full_cmp, full_name, is_named, is_other_named, row_in}
 use Rattle.ks_base.proofs.AmongLemmas.{all_among, get_among}
-use Rattle.ks_index.proofs.IndexLemmas.{get_any, below_or_not, same_place, in_index, out_index, part_put}
+use Rattle.ks_index.proofs.IndexLemmas.{get_any, below_or_not, in_index, out_index, part_put}
 use Rattle.ks_base.proofs.PlaceLemmas.{above_at, drop_found, find_gap}
 use Rattle.ks_base.proofs.RowLemmas.{above_among, among_found}
 use Rattle.ks_base.proofs.TruthLemmas.{and_none}
@@ -47,7 +47,7 @@ among_get [] x d among = absurd among
 among_get (next ∷ xs) x d (inl is) = (zero, omega arith, is)
 among_get (next ∷ xs) x d (inr among) = let found = among_get xs x d among in (suc found.0, omega (arith, found.1), found.2)
 
-ascending_at : {K X : Type 0} (cmp : K → K → Ordering) (key : X → K) (xs : List X) (i j : ℕ) (d : X) →
+pub ascending_at : {K X : Type 0} (cmp : K → K → Ordering) (key : X → K) (xs : List X) (i j : ℕ) (d : X) →
     IsAscending cmp key xs → i < j → j < length xs → cmp (key (get_or xs i d)) (key (get_or xs j d)) ≡ Less
 ascending_at cmp key [] i j d up less lt = absurd (omega arith)
 ascending_at cmp key (x ∷ xs) i zero d up less lt = absurd (omega arith)
@@ -91,7 +91,7 @@ gap_before cmp key k [] (suc i) j d is lt = absurd is
 gap_before cmp key k (x ∷ xs) (suc i) zero d is lt = is.0
 gap_before cmp key k (x ∷ xs) (suc i) (suc j) d is lt = gap_before cmp key k xs i j d is.1 (omega arith)
 
-found_here : {K X : Type 0} (cmp : K → K → Ordering) (key : X → K) (k : K) (xs : List X) (i : ℕ) (d : X) →
+pub found_here : {K X : Type 0} (cmp : K → K → Ordering) (key : X → K) (k : K) (xs : List X) (i : ℕ) (d : X) →
     IsFoundAt cmp key k xs i → cmp (key (get_or xs i d)) k ≡ Equal
 found_here cmp key k [] i d is = absurd is
 found_here cmp key k (x ∷ xs) zero d is = is
@@ -123,7 +123,7 @@ no_id_below : (id : List ℕ) → id_cmp id [] ≢ Less
 no_id_below [] = λ e. cc
 no_id_below (x ∷ xs) = λ e. cc
 
-id_equal : (a b : List ℕ) → a ≡ b → id_cmp a b ≡ Equal
+pub id_equal : (a b : List ℕ) → a ≡ b → id_cmp a b ≡ Equal
 id_equal a b e = subst (λ (x : List ℕ). id_cmp a x ≡ Equal) e (tied_itself nat_list_cmp_total a)
 
 named_true : {R : Type 0} (home naming : R → List ℕ) (h n : List ℕ) (x : R) → is_named home naming h n x ≡ true → (home x ≡ h) × (naming x ≡ n)
@@ -182,11 +182,11 @@ named_order home naming key h n x y first second less =
     rw (names, homes) at less
 
 -- the first slot that passes has the row that is found
-pub found_at_slot : {R : Type 0} (home naming key : R → List ℕ) (h n : List ℕ) (test : R → Bool) (rows : List R) (places : List ℕ) (slot : ℕ) (d : R) →
-    AreNamesOf home naming key rows places → IsAscending id_cmp key rows → ((y : R) → test y ≡ true → is_named home naming h n y ≡ true) →
+pub found_at_slot : {R : Type 0} (home naming key : R → List ℕ) (h n : List ℕ) (test : R → Bool) (rows listed : List R) (places : List ℕ) (slot : ℕ) (d : R) →
+    AreNamesOf home naming key rows places → AreListed key rows listed → ((y : R) → test y ≡ true → is_named home naming h n y ≡ true) →
     ((j : ℕ) → j < slot → test (row_in rows places j d) ≡ false) → slot < length places → test (row_in rows places slot d) ≡ true →
-    find test rows ≡ Some (row_in rows places slot d)
-found_at_slot {R} home naming key h n test rows places slot d index up named before lt pass = first_is id_cmp key test rows x up here pass low
+    find test listed ≡ Some (row_in rows places slot d)
+found_at_slot {R} home naming key h n test rows listed places slot d index list named before lt pass = first_is id_cmp key test listed x list.up (list.forth x here) pass low
   where
     x : R
     x = row_in rows places slot d
@@ -210,20 +210,20 @@ found_at_slot {R} home naming key h n test rows places slot d index up named bef
         let tied = id_equal (key y) (key x) (ap key (sym same)) in
         cc
 
-    low : (y : R) → Among rows y → test y ≡ true → id_cmp (key y) (key x) ≢ Less
+    low : (y : R) → Among listed y → test y ≡ true → id_cmp (key y) (key x) ≢ Less
     low y among passes less =
-        let place = among_get rows y d among in
+        let place = among_get rows y d (list.back y among) in
         let slotted = among_get places place.0 0 (index.all place.0 place.1) in
         let is : row_in rows places slotted.0 d ≡ y = ap (λ p. get_or rows p d) slotted.2 ∙ place.2 in
         by y slotted.0 slotted.1 is passes less (below_or_not slotted.0 slot) (below_or_not slot slotted.0)
 
 -- no row is found where neither those before the slot pass, nor the one there, nor those behind it
-none_at_slot : {R : Type 0} (home naming key : R → List ℕ) (test : R → Bool) (rows : List R) (places : List ℕ) (slot : ℕ) →
-    AreNamesOf home naming key rows places → ((j : ℕ) (d : R) → j < slot → j < length places → test (row_in rows places j d) ≡ false) →
+none_at_slot : {R : Type 0} (home naming key : R → List ℕ) (test : R → Bool) (rows listed : List R) (places : List ℕ) (slot : ℕ) →
+    AreNamesOf home naming key rows places → AreListed key rows listed → ((j : ℕ) (d : R) → j < slot → j < length places → test (row_in rows places j d) ≡ false) →
     ((d : R) → slot < length places → test (row_in rows places slot d) ≡ false) →
     ((d y : R) → slot < length places → full_cmp (full_name home naming key (row_in rows places slot d)) (full_name home naming key y) ≡ Less → test y ≡ false) →
-    find test rows ≡ None
-none_at_slot {R} home naming key test rows places slot index before here behind = none_from test rows none
+    find test listed ≡ None
+none_at_slot {R} home naming key test rows listed places slot index list before here behind = none_from test listed none
   where
     by : (d : R) (j : ℕ) → j < length places → (j < slot) ⊎ (slot ≤ j) → (slot < j) ⊎ (j ≤ slot) → test (row_in rows places j d) ≡ false
     by d j inside (inl early) any = before j d early inside
@@ -234,9 +234,9 @@ none_at_slot {R} home naming key test rows places slot index before here behind 
         let one : slot ≡ j = omega arith in
         subst (λ s. test (row_in rows places s d) ≡ false) one (here d (omega arith))
 
-    none : (y : R) → Among rows y → test y ≡ false
+    none : (y : R) → Among listed y → test y ≡ false
     none y among =
-        let place = among_get rows y y among in
+        let place = among_get rows y y (list.back y among) in
         let slotted = among_get places place.0 0 (index.all place.0 place.1) in
         let is : row_in rows places slotted.0 y ≡ y = ap (λ p. get_or rows p y) slotted.2 ∙ place.2 in
         subst (λ (z : R). test z ≡ false) is (by y slotted.0 slotted.1 (below_or_not slotted.0 slot) (below_or_not slot slotted.0))
@@ -258,15 +258,15 @@ pub looked : {R : Type 0} (home naming : R → List ℕ) (h n : List ℕ) (rows 
 looked home naming h n rows places slot (Some row) some none = some
 looked home naming h n rows places slot None some none = none
 
-pub named_looked : {R : Type 0} (home naming key : R → List ℕ) (h n : List ℕ) (rows : List R) (places : List ℕ) (slot : ℕ) (r : Option (Bor R)) →
-    AreNamesOf home naming key rows places → IsAscending id_cmp key rows → IsFirstSlot home naming key h n rows places slot →
-    Looked home naming h n rows places slot r → option_copied r ≡ find (is_named home naming h n) rows
-named_looked {R} home naming key h n rows places slot (Some row) index up first (lt, is, named) =
+pub named_looked : {R : Type 0} (home naming key : R → List ℕ) (h n : List ℕ) (rows listed : List R) (places : List ℕ) (slot : ℕ) (r : Option (Bor R)) →
+    AreNamesOf home naming key rows places → AreListed key rows listed → IsFirstSlot home naming key h n rows places slot →
+    Looked home naming h n rows places slot r → option_copied r ≡ find (is_named home naming h n) listed
+named_looked {R} home naming key h n rows listed places slot (Some row) index list first (lt, is, named) =
     let x = row.now in
     let here : is_named home naming h n (row_in rows places slot x) ≡ true = subst (λ (z : R). is_named home naming h n z ≡ true) is named in
-    ap Some is ∙ sym (found_at_slot home naming key h n (is_named home naming h n) rows places slot x index up (λ y e. e) (λ j less. first.before j x less (omega arith)) lt here)
-named_looked {R} home naming key h n rows places slot None index up first none =
-    sym (none_at_slot home naming key (is_named home naming h n) rows places slot index first.before none
+    ap Some is ∙ sym (found_at_slot home naming key h n (is_named home naming h n) rows listed places slot x index list (λ y e. e) (λ j less. first.before j x less (omega arith)) lt here)
+named_looked {R} home naming key h n rows listed places slot None index list first none =
+    sym (none_at_slot home naming key (is_named home naming h n) rows listed places slot index list first.before none
     (λ d y lt less. name_above home naming key h n (row_in rows places slot d) y (first.behind d lt) (none d lt) less))
 
 -- the same of the others with the name of a row
@@ -289,24 +289,24 @@ pub is_like : (b : Bool) → false ≡ not b → b ≡ true
 is_like true e = refl
 is_like false e = cc
 
-pub other_none : {R : Type 0} (home naming key : R → List ℕ) (row : R) (rows : List R) (places : List ℕ) (slot : ℕ) →
-    AreNamesOf home naming key rows places → IsFirstSlot home naming key (home row) (naming row) rows places slot →
-    Looked home naming (home row) (naming row) rows places slot None → find (is_other_named home naming key row) rows ≡ None
-other_none {R} home naming key row rows places slot index first none =
-    none_at_slot home naming key (is_other_named home naming key row) rows places slot index
+pub other_none : {R : Type 0} (home naming key : R → List ℕ) (row : R) (rows listed : List R) (places : List ℕ) (slot : ℕ) →
+    AreNamesOf home naming key rows places → AreListed key rows listed → IsFirstSlot home naming key (home row) (naming row) rows places slot →
+    Looked home naming (home row) (naming row) rows places slot None → find (is_other_named home naming key row) listed ≡ None
+other_none {R} home naming key row rows listed places slot index list first none =
+    none_at_slot home naming key (is_other_named home naming key row) rows listed places slot index list
     (λ j d less inside. and_none (not (same (key (row_in rows places j d)) (key row))) (is_named home naming (home row) (naming row) (row_in rows places j d)) (first.before j d less inside))
     (λ d lt. and_none (not (same (key (row_in rows places slot d)) (key row))) (is_named home naming (home row) (naming row) (row_in rows places slot d)) (none d lt))
     (λ d y lt less. and_none (not (same (key y) (key row))) (is_named home naming (home row) (naming row) y)
     (name_above home naming key (home row) (naming row) (row_in rows places slot d) y (first.behind d lt) (none d lt) less))
 
-pub other_looked : {R : Type 0} (home naming key : R → List ℕ) (row : R) (rows : List R) (places : List ℕ) (slot : ℕ) (x : Bor R) →
-    AreNamesOf home naming key rows places → IsAscending id_cmp key rows → IsFirstSlot home naming key (home row) (naming row) rows places slot →
+pub other_looked : {R : Type 0} (home naming key : R → List ℕ) (row : R) (rows listed : List R) (places : List ℕ) (slot : ℕ) (x : Bor R) →
+    AreNamesOf home naming key rows places → AreListed key rows listed → IsFirstSlot home naming key (home row) (naming row) rows places slot →
     Looked home naming (home row) (naming row) rows places slot (Some x) → same (key x.now) (key row) ≡ false →
-    find (is_other_named home naming key row) rows ≡ Some x.now
-other_looked {R} home naming key row rows places slot x index up first (lt, is, named) other =
+    find (is_other_named home naming key row) listed ≡ Some x.now
+other_looked {R} home naming key row rows listed places slot x index list first (lt, is, named) other =
     let test = is_other_named home naming key row in
     let passes : test x.now ≡ true = rw other named in
-    found_at_slot home naming key (home row) (naming row) test rows places slot x.now index up
+    found_at_slot home naming key (home row) (naming row) test rows listed places slot x.now index list
     (λ y e. (and_both (not (same (key y) (key row))) (is_named home naming (home row) (naming row) y) e).1)
     (λ j less. and_none (not (same (key (row_in rows places j x.now)) (key row))) (is_named home naming (home row) (naming row) (row_in rows places j x.now)) (first.before j x.now less (omega arith)))
     lt (subst (λ (z : R). test z ≡ true) is passes)
@@ -330,11 +330,11 @@ next_before {R} home naming key row rows places slot x index first (lt, is, name
         let same_id : same (key (row_in rows places j d)) (key row) ≡ true = subst (λ (z : R). same (key z) (key row) ≡ true) there own in
         rw same_id refl
 
-pub next_looked : {R : Type 0} (home naming key : R → List ℕ) (row : R) (rows : List R) (places : List ℕ) (slot : ℕ) (x : Bor R) (r : Option (Bor R)) →
-    AreNamesOf home naming key rows places → IsAscending id_cmp key rows → IsFirstSlot home naming key (home row) (naming row) rows places slot →
+pub next_looked : {R : Type 0} (home naming key : R → List ℕ) (row : R) (rows listed : List R) (places : List ℕ) (slot : ℕ) (x : Bor R) (r : Option (Bor R)) →
+    AreNamesOf home naming key rows places → AreListed key rows listed → IsFirstSlot home naming key (home row) (naming row) rows places slot →
     Looked home naming (home row) (naming row) rows places slot (Some x) → same (key x.now) (key row) ≡ true →
-    Looked home naming (home row) (naming row) rows places (slot + 1) r → option_copied r ≡ find (is_other_named home naming key row) rows
-next_looked {R} home naming key row rows places slot x (Some y) index up first (lt, is, named) own (after, at, called) =
+    Looked home naming (home row) (naming row) rows places (slot + 1) r → option_copied r ≡ find (is_other_named home naming key row) listed
+next_looked {R} home naming key row rows listed places slot x (Some y) index list first (lt, is, named) own (after, at, called) =
     let test = is_other_named home naming key row in
     let key_at = λ (p : ℕ). full_name home naming key (get_or rows p x.now) in
     let within = all_at (λ p. p < length rows) places (slot + 1) 0 index.within after in
@@ -346,7 +346,7 @@ next_looked {R} home naming key row rows places slot x (Some y) index up first (
     (subst (λ (z : R). full_cmp (full_name home naming key (row_in rows places slot x.now)) (full_name home naming key z) ≡ Less) there above) in
     let order = named_order home naming key (home row) (naming row) x.now y.now named called more in
     let passes : test y.now ≡ true = rw (another order (same (key y.now) (key row)) refl) called in
-    ap Some at ∙ sym (found_at_slot home naming key (home row) (naming row) test rows places (slot + 1) y.now index up
+    ap Some at ∙ sym (found_at_slot home naming key (home row) (naming row) test rows listed places (slot + 1) y.now index list
     (λ z e. (and_both (not (same (key z) (key row))) (is_named home naming (home row) (naming row) z) e).1)
     (λ j less. next_before home naming key row rows places slot x index first (lt, is, named) own j y.now less (omega arith))
     after (subst (λ (z : R). test z ≡ true) at passes))
@@ -358,8 +358,8 @@ next_looked {R} home naming key row rows places slot x (Some y) index up first (
         let yours = (bytes_eq-Decides (key y.now) (key row)).0 e in
         let tied = id_equal (key x.now) (key y.now) (mine ∙ sym yours) in
         cc
-next_looked {R} home naming key row rows places slot x None index up first (lt, is, named) own none =
-    sym (none_at_slot home naming key (is_other_named home naming key row) rows places (slot + 1) index
+next_looked {R} home naming key row rows listed places slot x None index list first (lt, is, named) own none =
+    sym (none_at_slot home naming key (is_other_named home naming key row) rows listed places (slot + 1) index list
     (next_before home naming key row rows places slot x index first (lt, is, named) own)
     (λ d after. and_none (not (same (key (row_in rows places (slot + 1) d)) (key row))) (is_named home naming (home row) (naming row) (row_in rows places (slot + 1) d)) (none d after))
     (λ d y after less. and_none (not (same (key y) (key row))) (is_named home naming (home row) (naming row) y)
@@ -374,28 +374,28 @@ next_looked {R} home naming key row rows places slot x None index up first (lt, 
 -- what a search by the whole key tells
 
 pub put_not_found : {R : Type 0} (home naming key : R → List ℕ) (rows : List R) (places : List ℕ) (at slot : ℕ) (row : R) → at < length rows →
-    row ≡ get_or rows at row → IsAscending id_cmp key rows → AreNamesBut home naming key rows places at → slot < length places →
+    row ≡ get_or rows at row → AreUnlike key rows → AreNamesBut home naming key rows places at → slot < length places →
     IsFoundAt full_cmp (λ p. full_name home naming key (get_or rows p row)) (full_name home naming key row) places slot → ⊥
-put_not_found {R} home naming key rows places at slot row lt is up but inside found =
+put_not_found {R} home naming key rows places at slot row lt is unlike but inside found =
     let place = get_or places slot 0 in
     let among = get_among places slot 0 inside in
     let within = all_among (λ p. p < length rows) places place but.within among in
     let one = full_exact (full_name home naming key (get_or rows place row)) (full_name home naming key row)
     (found_here full_cmp (λ p. full_name home naming key (get_or rows p row)) (full_name home naming key row) places slot 0 found) in
     let ids : key (get_or rows place row) ≡ key (get_or rows at row) = ap (λ full. full.1) one ∙ ap key is in
-    but.others place among (same_place id_cmp key nat_list_cmp_total rows place at row up within lt (id_equal (key (get_or rows place row)) (key (get_or rows at row)) ids))
+    but.others place among (unlike place at row within lt ids)
 
 pub already_in : {R : Type 0} (home naming key : R → List ℕ) (rows : List R) (places : List ℕ) (at slot : ℕ) (row : R) → at < length rows →
-    row ≡ get_or rows at row → IsAscending id_cmp key rows → ArePartNames home naming key rows places → slot < length places →
+    row ≡ get_or rows at row → AreUnlike key rows → ArePartNames home naming key rows places → slot < length places →
     IsFoundAt full_cmp (λ p. full_name home naming key (get_or rows p row)) (full_name home naming key row) places slot → Among places at
-already_in {R} home naming key rows places at slot row lt is up part inside found =
+already_in {R} home naming key rows places at slot row lt is unlike part inside found =
     let place = get_or places slot 0 in
     let among = get_among places slot 0 inside in
     let within = all_among (λ p. p < length rows) places place part.within among in
     let one = full_exact (full_name home naming key (get_or rows place row)) (full_name home naming key row)
     (found_here full_cmp (λ p. full_name home naming key (get_or rows p row)) (full_name home naming key row) places slot 0 found) in
     let ids : key (get_or rows place row) ≡ key (get_or rows at row) = ap (λ full. full.1) one ∙ ap key is in
-    subst (Among places) (same_place id_cmp key nat_list_cmp_total rows place at row up within lt (id_equal (key (get_or rows place row)) (key (get_or rows at row)) ids)) among
+    subst (Among places) (unlike place at row within lt ids) among
 
 pub put_into_part : {R : Type 0} (home naming key : R → List ℕ) (rows : List R) (places : List ℕ) (at slot : ℕ) (row : R) → at < length rows →
     row ≡ get_or rows at row → ArePartNames home naming key rows places →

@@ -15,7 +15,7 @@ use Rattle.ks_base.proofs.LinkLemmas.{ascending_same}
 use Rattle.ks_base.proofs.ListLemmas.{filter_alike}
 use Rattle.ks_base.proofs.RowLemmas.{among_filter, filter_among, id_same}
 use Rattle.ks_base.proofs.TableLemmas.{some_ids_ascend}
-use Rattle.ks_index.specs.Indexes.{IsIndex, full_cmp, full_name}
+use Rattle.ks_index.specs.Indexes.{AreListed, IsIndex, full_cmp, full_name}
 use Rattle.ks_index.proofs.NameLemmas.{among_get}
 
 pub first_part : (o p : Ordering) → ordering_then o p ≡ Less → (o ≡ Less) ⊎ (o ≡ Equal)
@@ -62,12 +62,12 @@ run_places naming rows other name places =
     (λ p among. id_same (naming (get_or rows p other)) name)
 
 -- ids that ascend, and are those at the places whose rows pass, are those of the rows that pass, in their order
-pub ids_of_places : {K R : Type 0} (cmp : K → K → Ordering) (full : R → K) (key : R → Id) (test : R → Bool) (rows : List R) (places : List ℕ) (other : R) (ids : List Id) →
-    IsIndex cmp full rows places → IsAscending id_cmp key rows → IsAscending id_cmp (λ id. id) ids →
+pub ids_of_places : {K R : Type 0} (cmp : K → K → Ordering) (full : R → K) (key : R → Id) (test : R → Bool) (rows listed : List R) (places : List ℕ) (other : R) (ids : List Id) →
+    IsIndex cmp full rows places → AreListed key rows listed → IsAscending id_cmp (λ id. id) ids →
     ((id : Id) → Among ids id ↔ Among (map (λ p. key (get_or rows p other)) (filter (λ p. test (get_or rows p other)) places)) id) →
-    ids ≡ map key (filter test rows)
-ids_of_places {K} {R} cmp full key test rows places other ids index up above alike =
-    ascending_same id_cmp nat_list_cmp_total ids (map key (filter test rows)) above (some_ids_ascend key test rows up)
+    ids ≡ map key (filter test listed)
+ids_of_places {K} {R} cmp full key test rows listed places other ids index list above alike =
+    ascending_same id_cmp nat_list_cmp_total ids (map key (filter test listed)) above (some_ids_ascend key test listed list.up)
     (λ id among. onto id ((alike id).0 among)) (λ id among. (alike id).1 (from id among))
   where
     passes : ℕ → Bool
@@ -76,18 +76,18 @@ ids_of_places {K} {R} cmp full key test rows places other ids index up above ali
     id_at : ℕ → Id
     id_at p = key (get_or rows p other)
 
-    onto : (id : Id) → Among (map id_at (filter passes places)) id → Among (map key (filter test rows)) id
+    onto : (id : Id) → Among (map id_at (filter passes places)) id → Among (map key (filter test listed)) id
     onto id among =
         let one = among_mapped id_at (filter passes places) id among in
         let both = among_filter passes places one.0 one.1 in
-        let here = get_among rows one.0 other (all_among (λ p. p < length rows) places one.0 index.within both.0) in
-        subst (Among (map key (filter test rows))) one.2 (map_among key (filter test rows) (get_or rows one.0 other) (filter_among test rows (get_or rows one.0 other) here both.1))
+        let here = list.forth (get_or rows one.0 other) (get_among rows one.0 other (all_among (λ p. p < length rows) places one.0 index.within both.0)) in
+        subst (Among (map key (filter test listed))) one.2 (map_among key (filter test listed) (get_or rows one.0 other) (filter_among test listed (get_or rows one.0 other) here both.1))
 
-    from : (id : Id) → Among (map key (filter test rows)) id → Among (map id_at (filter passes places)) id
+    from : (id : Id) → Among (map key (filter test listed)) id → Among (map id_at (filter passes places)) id
     from id among =
-        let one = among_mapped key (filter test rows) id among in
-        let both = among_filter test rows one.0 one.1 in
-        let place = among_get rows one.0 other both.0 in
+        let one = among_mapped key (filter test listed) id among in
+        let both = among_filter test listed one.0 one.1 in
+        let place = among_get rows one.0 other (list.back one.0 both.0) in
         let pass : passes place.0 ≡ true = ap test place.2 ∙ both.1 in
         subst (Among (map id_at (filter passes places))) (ap key place.2 ∙ one.2)
         (map_among id_at (filter passes places) place.0 (filter_among passes places place.0 (index.all place.0 place.1) pass))

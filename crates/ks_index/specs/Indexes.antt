@@ -1,5 +1,5 @@
 -- An index of rows by another order than that of the table: the places of all rows, in the order of their keys.
-use Rattle.std.specs.Prelude.{◌≢◌, ◌⊎◌, ℕ, ◌+◌, ◌-◌, ◌<◌, Bool, not, ◌&&◌, List, length, cond, nat_lt, get_or}
+use Rattle.std.specs.Prelude.{◌≡◌, ◌≢◌, ◌⊎◌, ℕ, ◌<◌, ◌≤◌, Bool, not, ◌&&◌, List, [], ◌∷◌, ◌++◌, drop, length, get_or, suc, take, zero}
 use Rattle.std.specs.List.{AllByRecursion}
 use Rattle.std.specs.declared.cmp.Ordering.{Ordering}
 use Rattle.std.specs.Ordering.{then_cmp, on}
@@ -28,12 +28,32 @@ pub record IsPartIndex {K X : Type 0} (cmp : K → K → Ordering) (key : X → 
 abbrev pub AreCovered : {X : Type 0} → List X → List ℕ → List ℕ → Type 0
 AreCovered rows places left = (place : ℕ) → place < length rows → Among places place ⊎ Among left place
 
--- where a row stands after one came in before it, and after one went from before it
-unfoldable pub raised : ℕ → ℕ → ℕ
-raised at place = cond (nat_lt place at) place (place + 1)
+-- the rows at these places
+unfoldable pub picked : {X : Type 0} → List X → List ℕ → List X
+picked rows [] = []
+picked rows (place ∷ places) = take 1 (drop place rows) ++ picked rows places
 
-unfoldable pub lowered : ℕ → ℕ → ℕ
-lowered at place = cond (nat_lt at place) (place - 1) place
+-- the places below a number, in their order
+unfoldable pub below : ℕ → List ℕ
+below zero = []
+below (suc count) = below count ++ count ∷ []
+
+-- these rows in the order of their ids
+pub record AreListed {R : Type 0} (key : R → List ℕ) (rows listed : List R) : Type 0 where
+  pub up : IsAscending id_cmp key listed
+  pub forth : (row : R) → Among rows row → Among listed row
+  pub back : (row : R) → Among listed row → Among rows row
+
+-- no two rows have one key
+abbrev pub AreUnlike : {K X : Type 0} → (X → K) → List X → Type 0
+AreUnlike key rows = (p q : ℕ) (other : _) → p < length rows → q < length rows → key (get_or rows p other) ≡ key (get_or rows q other) → p ≡ q
+
+-- an index from the time before the last row of some more came to a place where another had stood: it still has the old place
+pub record WasMoved {K X : Type 0} (cmp : K → K → Ordering) (key : X → K) (rows : List X) (places : List ℕ) (at : ℕ) : Type 0 where
+  pub within : AllByRecursion (λ place. place ≤ length rows) places
+  pub others : (place : ℕ) → Among places place → place ≢ at
+  pub all : (place : ℕ) → place ≤ length rows → place ≢ at → Among places place
+  pub up : (row : X) → row ≡ get_or rows at row → IsAscending cmp (λ place. key (get_or rows place row)) places
 
 -- a home and a name, or a name and a home: what comes first is compared first
 abbrev pub Name : Type 0

@@ -1,12 +1,14 @@
 //! The rows of one name, whose places stand side by side in the index of a table.
-ghost use Rattle.std.specs.Prelude.{◌≡◌, filter, get_or, map, IfOk};
+ghost use Rattle.std.specs.Prelude.{◌≡◌, ◌<◌, List, filter, get_or, length, map, IfOk};
+ghost use Rattle.std.specs.List.{AllByRecursion};
 ghost use Rattle.ks_base.specs.Rows.{same};
 ghost use Rattle.ks_base.specs.Tables.{id_cmp, IsAscending};
-ghost use Rattle.ks_index.specs.Indexes.{AreNamesOf, full_cmp, full_name};
+ghost use Rattle.ks_index.specs.Indexes.{AreListed, AreNamesOf, full_cmp, full_name, picked};
 
+use crate::Rows;
 use crate::index::row_at;
 use crate::ordered::in_order;
-use ks_base::{Boxed, Id, IdList, Memory, Named};
+use ks_base::{Boxed, Id, IdList, Memory, Named, Test};
 use std::alloc::{AllocError, Global};
 use std::cmp::Ordering;
 
@@ -20,10 +22,10 @@ fn compare_name<R: Named>(row: &R, name: &[u8]) -> Ordering
 /// The places of the rows of this name.
 fn run_named<'a, R: Named>(
     rows: &[Boxed<R>],
-    places: &'a [usize],
+    places: &'a [u32],
     other: &R,
     name: &[u8],
-) -> &'a [usize]
+) -> &'a [u32]
     requires { IsAscending full_cmp (λ place. full_name R.within R.naming R.key (get_or rows.now place other.now)) places.now }
     ensures { result.now ≡ filter (λ place. same (R.naming (get_or rows.now place other.now)) name.now) places.now }
 {
@@ -39,10 +41,10 @@ fn run_named<'a, R: Named>(
 }
 
 /// The ids of the rows at these places, as the places stand.
-fn ids_at<R: Named>(
+fn ids_there<R: Named>(
     alloc: Global,
     rows: &[Boxed<R>],
-    places: &[usize],
+    places: &[u32],
     other: &R,
 ) -> Result<Vec<Id>, AllocError>
     ensures { IfOk result (λ ids. ids.items ≡ map (λ place. R.key (get_or rows.now place other.now)) places.now) }
@@ -53,23 +55,57 @@ fn ids_at<R: Named>(
         .collect(alloc)
 }
 
+/// The ids of the rows at these places, in the order of the places.
+pub(crate) fn ids_at<R: Named>(
+    alloc: Global,
+    rows: &[Boxed<R>],
+    places: &[u32],
+) -> Result<IdList, Memory>
+    requires { AllByRecursion (λ place. place < length rows.now) places.now }
+    ensures { IfOk result (λ ids. ids ≡ map R.key (picked rows.now places.now)) }
+{
+    let Some(first) = rows.first() else {
+        return Ok(IdList::new(alloc));
+    };
+    let ids = ids_there(alloc, rows, places, first.get())?;
+    Ok(IdList::from_vec(ids))
+}
+
+/// The same of the rows that pass a test.
+pub(crate) fn ids_passing<R: Named, T: Test<R>>(
+    alloc: Global,
+    rows: &[Boxed<R>],
+    places: &[u32],
+    test: &T,
+) -> Result<IdList, Memory>
+    requires { AllByRecursion (λ place. place < length rows.now) places.now }
+    ensures { IfOk result (λ ids. ids ≡ map R.key (filter (T.test test.now) (picked rows.now places.now))) }
+{
+    let mut ids = IdList::new(alloc);
+    for row in Rows::new(rows, places) {
+        if test.test(row) {
+            ids.push(*row.id())?;
+        }
+    }
+    Ok(ids)
+}
+
 /// The ids of the rows of this name, in their order. No other rows are gone through.
 pub(crate) fn ids_named<R: Named>(
     alloc: Global,
     rows: &[Boxed<R>],
-    places: &[usize],
+    places: &[u32],
     name: &[u8],
 ) -> Result<IdList, Memory>
-    requires ascending { IsAscending id_cmp R.key rows.now }
-    requires names { AreNamesOf R.within R.naming R.key rows.now places.now }
-    ensures { IfOk result (λ ids. ids ≡ map R.key (filter (λ row. same (R.naming row) name.now) rows.now)) }
+    requires { AreNamesOf R.within R.naming R.key rows.now places.now }
+    ensures { IfOk result (λ ids. (listed : List R) → AreListed R.key rows.now listed → ids ≡ map R.key (filter (λ row. same (R.naming row) name.now) listed)) }
 {
     let Some(first) = rows.first() else {
         return Ok(IdList::new(alloc));
     };
     let other = first.get();
     let run = run_named(rows, places, other, name);
-    let left = ids_at(alloc, rows, run, other)?;
+    let left = ids_there(alloc, rows, run, other)?;
     let ids = in_order(left)?;
     Ok(IdList::from_vec(ids))
 }

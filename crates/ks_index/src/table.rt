@@ -3,31 +3,32 @@ ghost use Rattle.ks_base.specs.Rows.{same};
 ghost use Rattle.ks_base.specs.Tables.{id_cmp, IsAscending, find_row, put_row, drop_row};
 ghost use Rattle.ks_index.specs.Indexes.{is_named, is_other_named};
 
-use crate::{index, made, runs};
-use ks_base::by_id::{ids_of, ids_passing, place};
+use crate::{Rows, change, index, made, runs};
 use ks_base::{Boxed, Id, IdList, Memory, Named, Test, Text};
 use std::alloc::Global;
 use std::marker::Model;
 
-/// Rows in the order of their ids, one for each id, which are found by their ids and by their names. They stand behind
-/// pointers, so that making way for one among them moves little.
+/// Rows in the order of their ids, one for each id, which are found by their ids and by their names. A row stays where it
+/// came, so that making way for one among them moves no more than numbers of places.
 #[derive(Drop)]
 pub struct Table<R: Named> {
     rows: Vec<Boxed<R>>,
+    /// The places of the rows, in the order of their ids.
+    ids: Vec<u32>,
     /// The places of the rows, in the order of their names, homes and ids.
-    names: Vec<usize>,
+    names: Vec<u32>,
 }
 
 impl<R: Named> Model for Table<R> {
     ghost use Rattle.std.specs.Prelude.{List};
-    ghost use Rattle.ks_base.specs.Tables.{id_cmp, IsAscending};
-    ghost use Rattle.ks_index.specs.Indexes.{AreNamesOf};
+    ghost use Rattle.ks_base.specs.Tables.{id_cmp};
+    ghost use Rattle.ks_index.specs.Indexes.{AreNamesOf, IsIndex, picked};
 
     ghost Value = { List R };
 
-    ghost view = { λ table. table.rows.items };
+    ghost view = { λ table. picked table.rows.items table.ids.items };
 
-    ghost invariant = { λ table. IsAscending id_cmp R.key table.rows.items × AreNamesOf R.within R.naming R.key table.rows.items table.names.items };
+    ghost invariant = { λ table. IsIndex id_cmp R.key table.rows.items table.ids.items × AreNamesOf R.within R.naming R.key table.rows.items table.names.items };
 }
 
 impl<R: Named> Table<R> {
@@ -37,17 +38,19 @@ impl<R: Named> Table<R> {
     {
         Table {
             rows: Vec::new(alloc),
+            ids: Vec::new(alloc),
             names: Vec::new(alloc),
         }
     }
 
-    /// The table of these rows, whose index is made at once.
+    /// The table of these rows, whose indexes are made at once.
     pub fn from_rows(alloc: Global, rows: Vec<Boxed<R>>) -> Result<Table<R>, Memory>
         requires { IsAscending id_cmp R.key rows.items }
         ensures { IfOk result (λ table. table ≡ rows.items) }
     {
+        let ids = made::places_of(alloc, rows.as_slice())?;
         let names = made::names_of(alloc, rows.as_slice())?;
-        Ok(Table { rows, names })
+        Ok(Table { rows, ids, names })
     }
 
     /// The row with this id.
@@ -55,8 +58,8 @@ impl<R: Named> Table<R> {
         ensures found { option_copied result ≡ find_row id_cmp R.key id.now self.now }
         ensures ascending { IsAscending id_cmp R.key self.now }
     {
-        match place(self.rows.as_slice(), id) {
-            Ok(at) => Some(self.rows[at].get()),
+        match index::place_among(self.rows.as_slice(), self.ids.as_slice(), id) {
+            Ok(at) => Some(self.rows[self.ids[at] as usize].get()),
             Err(_) => None,
         }
     }
@@ -75,13 +78,13 @@ impl<R: Named> Table<R> {
         ensures err { OnErr result (self.new ≡ self.old) }
         ensures stands { IsSome (find_row id_cmp R.key (R.key row) self.old) → IsOk result }
     {
-        match place(self.rows.as_slice(), row.id()) {
+        match index::place_among(self.rows.as_slice(), self.ids.as_slice(), row.id()) {
             Ok(at) => {
-                index::replace(&mut self.rows, &mut self.names, at, row);
+                change::replace(&mut self.rows, &mut self.names, self.ids[at], row);
                 Ok(())
             }
             Err(at) => {
-                index::insert(&mut self.rows, &mut self.names, at, row)?;
+                change::insert(&mut self.rows, &mut self.ids, &mut self.names, at, row)?;
                 Ok(())
             }
         }
@@ -91,8 +94,8 @@ impl<R: Named> Table<R> {
     pub fn remove(&mut self, id: &Id)
         ensures { self.new ≡ drop_row id_cmp R.key id.now self.old }
     {
-        match place(self.rows.as_slice(), id) {
-            Ok(at) => index::remove(&mut self.rows, &mut self.names, at),
+        match index::place_among(self.rows.as_slice(), self.ids.as_slice(), id) {
+            Ok(at) => change::remove(&mut self.rows, &mut self.ids, &mut self.names, at),
             Err(_) => {}
         }
     }
@@ -101,8 +104,7 @@ impl<R: Named> Table<R> {
     pub fn keep<T: Test<R>>(&mut self, test: &T)
         ensures { self.new ≡ filter (T.test test.now) self.old }
     {
-        index::keep(self.rows.as_slice(), &mut self.names, test);
-        self.rows.retain(|row| test.test(row.get()));
+        change::keep(&mut self.rows, &mut self.ids, &mut self.names, test);
     }
 
     /// The first row of this home and name, in the order of ids. Names are compared by bytes.
@@ -128,32 +130,38 @@ impl<R: Named> Table<R> {
     pub fn first<T: Test<R>>(&self, test: &T) -> Option<&R>
         ensures { option_copied result ≡ find (T.test test.now) self.now }
     {
-        let row = Boxed::first(self.rows.as_slice(), test)?;
-        Some(row.get())
+        index::first(self.rows.as_slice(), self.ids.as_slice(), test)
     }
 
     /// The rows, in the order of their ids.
-    pub fn rows(&self) -> &[Boxed<R>]
-        ensures rows { result.now ≡ self.now }
+    pub fn rows(&self) -> Rows<'_, R>
+        ensures rows { result ≡ self.now }
         ensures ascending { IsAscending id_cmp R.key self.now }
     {
-        self.rows.as_slice()
+        Rows::new(self.rows.as_slice(), self.ids.as_slice())
     }
 
     /// The ids of the rows, in their order.
     pub fn ids(&self) -> Result<IdList, Memory>
         ensures { IfOk result (λ ids. ids ≡ map R.key self.now) }
     {
-        let ids = ids_of(*self.rows.allocator(), self.rows.as_slice())?;
-        Ok(IdList::from_vec(ids))
+        runs::ids_at(
+            *self.rows.allocator(),
+            self.rows.as_slice(),
+            self.ids.as_slice(),
+        )
     }
 
     /// The ids of the rows that pass the test, in their order.
     pub fn ids_where<T: Test<R>>(&self, test: &T) -> Result<IdList, Memory>
         ensures { IfOk result (λ ids. ids ≡ map R.key (filter (T.test test.now) self.now)) }
     {
-        let ids = ids_passing(*self.rows.allocator(), self.rows.as_slice(), test)?;
-        Ok(IdList::from_vec(ids))
+        runs::ids_passing(
+            *self.rows.allocator(),
+            self.rows.as_slice(),
+            self.ids.as_slice(),
+            test,
+        )
     }
 
     /// The ids of the rows of this name in all homes, in their order. No other rows are gone through.
@@ -172,6 +180,6 @@ impl<R: Named> Table<R> {
     pub fn len(&self) -> usize
         ensures { result ≡ length self.now }
     {
-        self.rows.len()
+        self.ids.len()
     }
 }

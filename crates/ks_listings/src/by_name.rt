@@ -5,22 +5,22 @@ ghost use Rattle.ks_machine.specs.Listings.{passes_name};
 
 use crate::filtered::Listed;
 use crate::shelf::Shelf;
-use ks_base::{Boxed, FieldList, Id, Memory, Text};
+use ks_base::{FieldList, Id, Memory, Text};
 use ks_checks::filters::value_in;
+use ks_index::Rows;
 use ks_machine::RowList;
 use std::alloc::Global;
 
 /// Those of the rows on which the filters agree, all but the one by name.
 fn listed_among<R: Listed>(
     alloc: Global,
-    rows: &[Boxed<R>],
+    rows: Rows<'_, R>,
     fields: &FieldList,
 ) -> Result<RowList, Memory>
-    ensures { IfOk result (λ listed. listed ≡ map R.told (filter (R.agrees fields.now) rows.now)) }
+    ensures { IfOk result (λ listed. listed ≡ map R.told (filter (R.agrees fields.now) rows.entry)) }
 {
     let mut listed = RowList::new(alloc);
     for row in rows {
-        let row = row.get();
         if row.agrees(fields) {
             listed.push(row.told()?)?;
         }

@@ -3,9 +3,8 @@ ghost use Rattle.std.specs.Prelude.{◌≡◌, List, filter, map, option_copied,
 ghost use Rattle.ks_base.specs.Rows.{same};
 ghost use Rattle.ks_base.specs.Tables.{id_cmp, IsAscending, find_row};
 
-use ks_base::{
-    Boxed, DomainRow, GroupRow, Id, IdList, Memory, Named, ProjectRow, RoleRow, Text, UserRow,
-};
+use ks_base::{DomainRow, GroupRow, Id, IdList, Memory, Named, ProjectRow, RoleRow, Text, UserRow};
+use ks_index::Rows;
 use ks_people::People;
 use ks_roles::Roles;
 use ks_tree::Tree;
@@ -15,8 +14,8 @@ pub(crate) trait Shelf<R: Named> {
     ghost rows: { Self → List R };
 
     /// All rows, in their order.
-    fn all(&self) -> &[Boxed<R>]
-        ensures { result.now ≡ rows self.now };
+    fn all(&self) -> Rows<'_, R>
+        ensures { result ≡ rows self.now };
 
     /// The row with this id.
     fn of_id(&self, id: &Id) -> Option<&R>
@@ -31,7 +30,7 @@ pub(crate) trait Shelf<R: Named> {
 impl Shelf<DomainRow> for Tree {
     ghost rows = { λ tree. tree.domains };
 
-    fn all(&self) -> &[Boxed<DomainRow>] {
+    fn all(&self) -> Rows<'_, DomainRow> {
         self.domains()
     }
 
@@ -47,7 +46,7 @@ impl Shelf<DomainRow> for Tree {
 impl Shelf<ProjectRow> for Tree {
     ghost rows = { λ tree. tree.projects };
 
-    fn all(&self) -> &[Boxed<ProjectRow>] {
+    fn all(&self) -> Rows<'_, ProjectRow> {
         self.projects()
     }
 
@@ -63,7 +62,7 @@ impl Shelf<ProjectRow> for Tree {
 impl Shelf<UserRow> for People {
     ghost rows = { λ people. people.users };
 
-    fn all(&self) -> &[Boxed<UserRow>] {
+    fn all(&self) -> Rows<'_, UserRow> {
         self.users()
     }
 
@@ -79,7 +78,7 @@ impl Shelf<UserRow> for People {
 impl Shelf<GroupRow> for People {
     ghost rows = { λ people. people.groups };
 
-    fn all(&self) -> &[Boxed<GroupRow>] {
+    fn all(&self) -> Rows<'_, GroupRow> {
         self.groups()
     }
 
@@ -95,7 +94,7 @@ impl Shelf<GroupRow> for People {
 impl Shelf<RoleRow> for Roles {
     ghost rows = { λ all. all.roles };
 
-    fn all(&self) -> &[Boxed<RoleRow>] {
+    fn all(&self) -> Rows<'_, RoleRow> {
         self.roles()
     }
 

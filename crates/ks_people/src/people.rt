@@ -1,7 +1,7 @@
 ghost use Rattle.std.specs.Prelude.{◌≡◌, [], filter, IfOk};
 
 use ks_base::{Boxed, ByUser, GroupRow, MemberRow, Memory, RowSet, Test, UserRow};
-use ks_index::{Links, Table};
+use ks_index::{Links, Rows, Table};
 use std::alloc::Global;
 use std::marker::Model;
 
@@ -63,15 +63,15 @@ impl People {
     }
 
     /// All users, in the order of their ids.
-    pub fn users(&self) -> &[Boxed<UserRow>]
-        ensures { result.now ≡ self.now.users }
+    pub fn users(&self) -> Rows<'_, UserRow>
+        ensures { result ≡ self.now.users }
     {
         self.users.rows()
     }
 
     /// All groups, in the order of their ids.
-    pub fn groups(&self) -> &[Boxed<GroupRow>]
-        ensures { result.now ≡ self.now.groups }
+    pub fn groups(&self) -> Rows<'_, GroupRow>
+        ensures { result ≡ self.now.groups }
     {
         self.groups.rows()
     }

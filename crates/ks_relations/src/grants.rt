@@ -73,7 +73,6 @@ fn roles_granted(
 {
     let mut found = RoleList::new(alloc);
     for role in tables.roles.roles() {
-        let role = role.get();
         if has_grant(tables, who, at, inherited, role) {
             found.push(role.copy()?)?;
         }

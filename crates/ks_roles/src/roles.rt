@@ -4,7 +4,7 @@ ghost use Rattle.ks_base.specs.Tables.{id_cmp, IsAscending};
 ghost use Rattle.ks_base.specs.RoleLists.{is_named};
 
 use ks_base::{Boxed, Id, ImplyRow, RoleRow, RowSet, Text};
-use ks_index::Table;
+use ks_index::{Rows, Table};
 use std::alloc::Global;
 use std::marker::Model;
 
@@ -61,8 +61,8 @@ impl Roles {
     }
 
     /// All roles, in the order of their ids.
-    pub fn roles(&self) -> &[Boxed<RoleRow>]
-        ensures { result.now ≡ self.now.roles }
+    pub fn roles(&self) -> Rows<'_, RoleRow>
+        ensures { result ≡ self.now.roles }
     {
         self.roles.rows()
     }

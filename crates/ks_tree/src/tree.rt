@@ -3,8 +3,8 @@ ghost use Rattle.ks_base.specs.Rows.{domain_of, project_of};
 ghost use Rattle.ks_base.specs.Tables.{id_cmp, IsAscending};
 ghost use Rattle.ks_base.specs.Trees.{is_domain_named, is_project_named};
 
-use ks_base::{Boxed, DomainRow, Id, ProjectRow, Text};
-use ks_index::Table;
+use ks_base::{DomainRow, Id, ProjectRow, Text};
+use ks_index::{Rows, Table};
 use std::alloc::Global;
 use std::marker::Model;
 
@@ -61,15 +61,15 @@ impl Tree {
     }
 
     /// All domains, in the order of their ids.
-    pub fn domains(&self) -> &[Boxed<DomainRow>]
-        ensures { result.now ≡ self.now.domains }
+    pub fn domains(&self) -> Rows<'_, DomainRow>
+        ensures { result ≡ self.now.domains }
     {
         self.domains.rows()
     }
 
     /// All projects, in the order of their ids.
-    pub fn projects(&self) -> &[Boxed<ProjectRow>]
-        ensures { result.now ≡ self.now.projects }
+    pub fn projects(&self) -> Rows<'_, ProjectRow>
+        ensures { result ≡ self.now.projects }
     {
         self.projects.rows()
     }

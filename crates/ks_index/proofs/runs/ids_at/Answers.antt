@@ -1,0 +1,17 @@
+use Rattle.std.proofs.Common.{◌≡◌, [], List, length, map, rules, sym, ap, get_or, ◌∙◌, ℕ}
+use Rattle.ks_base.specs.Rows.{Id}
+use Rattle.ks_base.proofs.ListLemmas.{map_twice}
+use Rattle.ks_index.specs.Indexes.{picked}
+use Rattle.ks_index.proofs.PickLemmas.{empty_picked, picked_is}
+use Rattle.ks_index.proofs.runs.ids_at.Goals as goal
+
+pub returns-in_default : goal.returns-in_default
+returns-in_default g c =
+    let none : length c.args.rows.now ≡ 0 = search rules in
+    c.new.ensures ∙ sym (ap (map g.R.Row.key) (empty_picked c.args.rows.now c.args.places.now none c.requires))
+
+pub returns : goal.returns
+returns g c =
+    let other = c.get.result.now in
+    c.from_vec.ensures ∙ c.in_ok-ids.ensures ∙ sym (map_twice g.R.Row.key (λ (p : ℕ). get_or c.args.rows.now p other) c.args.places.now)
+    ∙ ap (map g.R.Row.key) (sym (picked_is c.args.rows.now c.args.places.now other c.requires))
