@@ -99,4 +99,5 @@ def measure(words):
     return f"{trusts:,} trusts"
 
 
-sys.exit(main_of("trusts", lambda: measure(sys.argv[1:])))
+if __name__ == "__main__":
+    sys.exit(main_of("trusts", lambda: measure(sys.argv[1:])))
