@@ -10,8 +10,10 @@ The program is bin/ks of this repository, the environment's KS, or the word. The
 """
 
 import collections
+import json
 import os
 import resource
+import select
 import selectors
 import shutil
 import socket
@@ -36,6 +38,9 @@ P99 = 3
 
 # How many descriptors the server may have where it may have few.
 DESCRIPTORS = 128
+
+# How many rounds of derivation a login takes at most: some 60 milliseconds of work.
+MOST_ROUNDS = 100_000
 
 # The user that owns nothing.
 NOBODY = 65534
@@ -292,7 +297,7 @@ def more_than_descriptors(program, folder):
             kept.append(one)
         closed = [is_closed(one) for one in kept]
         require(closed == sorted(closed, reverse=True), "not those that have rested longest were closed")
-        require(closed.count(False) == DESCRIPTORS - 64, f"{closed.count(False)} connections are kept")
+        require(closed.count(False) == DESCRIPTORS - 64 - 3 * WORKERS, f"{closed.count(False)} connections are kept")
         require(server.lines == [server.listening], f"it said {server.lines}")
         for one in kept:
             one.close()
@@ -324,6 +329,30 @@ def no_descriptors_for_a_while(program, folder):
             said = [line for line in server.lines if line != server.listening]
         require(len(said) == 2 and said[0].startswith("ks: no connection can be accepted for now: "), f"it said {said}")
         require(said[1] == "ks: connections are accepted again", f"it said {said}")
+
+
+def a_busy_worker(program, work, folder):
+    """While a login keeps one of two workers busy the other answers the connections of both."""
+    path = os.path.join(work, "slow.json")
+    with open(O1, encoding="utf-8") as file:
+        told = json.load(file)
+    told["settings"]["rounds"] = MOST_ROUNDS
+    with open(path, "w", encoding="utf-8") as file:
+        json.dump(told, file)
+    with Server(program, path, folder, 2) as server, Connection(server.port) as slow:
+        others = [Connection(server.port) for _ in range(8)]
+        for _ in range(5):
+            slow.send(request("POST", "/v3/auth/tokens", login("ann", "secret", project_scope("demo"))))
+            time.sleep(0.003)
+            for one in others:
+                one.send(request("GET", "/v3"))
+            for one in others:
+                require(one.response().status == 200, "beside a busy worker")
+            early = select.select([slow.socket], [], [], 0)[0]
+            require(not early, "connections of a busy worker waited for it")
+            require(slow.response().status == 201, "a slow login")
+        for one in others:
+            one.close()
 
 
 PRELOAD = r"""
@@ -439,6 +468,7 @@ def tried(program):
             clients_that_do_not_close(server.port)
             slow.join()
             require(not outcome, outcome[0] if outcome else "")
+        a_busy_worker(program, work, folder)
         more_than_descriptors(program, folder)
         no_descriptors_for_a_while(program, folder)
         failing = accepts_that_fail(program, work, folder)

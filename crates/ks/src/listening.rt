@@ -35,7 +35,7 @@ pub fn listen<R: Net + Clock + AllocGlobal + Wait>(
     let bound = listener.local_addr()?;
     let ending = if workers == 1 { "" } else { "s" };
     let line = format!(in rt.alloc(); "ks: listening on {bound} with {workers} worker{ending}")?;
-    let pool = Pool::new(rt, listener, log)?;
+    let pool = Pool::new(rt, listener, workers, log)?;
     pool.say_first(rt, line);
     Ok(pool)
 }

@@ -3,8 +3,9 @@ ghost use Rattle.std.specs.Prelude.{◌≤◌, IfOk, IfSome, length};
 use crate::deadline::{Awaited, Deadline};
 use crate::ending::Ending;
 use crate::framing::looks_long;
-use crate::limits::{CLOSING_BYTES, PIECE, WAITING_BYTES};
+use crate::limits::{CLOSING_BYTES, GATHER_MICROS, GATHERED_BYTES, PIECE, WAITING_BYTES};
 use crate::queue::Queue;
+use crate::registration::Registration;
 use crate::socket::{read_now, write_now};
 use ks_base::limits::HEAD_BYTES;
 use ks_outside::Failed;
@@ -32,12 +33,15 @@ pub struct Kept {
     pub stream: TcpStream,
     /// The address of its client.
     pub client: IpAddr,
-    /// Its place in the pool.
-    pub key: usize,
+    pub registration: Registration,
     inbox: Queue,
     /// How long the request in front of the inbox looks, less what was read of it, once that is known.
     long: Option<usize>,
+    /// What was given last ended a request, so that another one begins in front.
+    is_between: bool,
     outbox: Queue,
+    /// Since when responses are gathered in the outbox, if they are: so far the client was not asked to take them.
+    gathered: Option<Instant>,
     /// All was read that had come, so that what comes next is reported.
     is_drained: bool,
     /// The client has closed its side, so that the end lies behind what came.
@@ -57,15 +61,23 @@ pub struct Kept {
 
 impl Kept {
     /// A connection of which nothing came yet.
-    pub fn new(alloc: Global, stream: TcpStream, client: IpAddr, key: usize, now: Instant) -> Kept {
+    pub fn new(
+        alloc: Global,
+        stream: TcpStream,
+        client: IpAddr,
+        registration: Registration,
+        now: Instant,
+    ) -> Kept {
         Kept {
             alloc,
             stream,
             client,
-            key,
+            registration,
             inbox: Queue::new(alloc),
             long: None,
+            is_between: false,
             outbox: Queue::new(alloc),
+            gathered: None,
             is_drained: false,
             has_closed: false,
             has_ended: false,
@@ -100,6 +112,11 @@ impl Kept {
     /// Whether a response waits for the client.
     pub fn has_waiting(&self) -> bool {
         !self.outbox.is_empty()
+    }
+
+    /// Whether a response waits that the client did not take at once.
+    pub fn is_stuck(&self) -> bool {
+        self.has_waiting() && self.gathered.is_none()
     }
 
     /// Whether a request or a response is under way.
@@ -233,6 +250,7 @@ impl Kept {
         let count = most.min(waiting.len());
         into[..count].copy_from_slice(waiting.split_at(count).0);
         self.inbox.advance(count);
+        self.is_between = self.long == Some(count);
         self.long = match self.long {
             Some(long) if count < long => Some(long - count),
             Some(_) | None => None,
@@ -252,8 +270,38 @@ impl Kept {
         }
     }
 
+    /// Has a response wait for those of the requests behind it, where the next one has come whole already, and says how much
+    /// of it waits. With the last of them, behind a millisecond, and before more than 16 KiB wait, all go to the client.
+    pub fn gather(&mut self, piece: &[u8], now: Instant) -> Result<usize, Failed>
+        ensures within { IfOk result (λ n. n ≤ length piece.now) }
+    {
+        let room = GATHERED_BYTES.saturating_sub(self.outbox.len());
+        if self.is_stuck() || piece.len() > room {
+            return Ok(0);
+        }
+        let since = self.gathered.unwrap_or(now);
+        let aside = self.put_aside(piece);
+        self.gathered = Some(since);
+        if !self.has_further() || now.duration_since(since).as_micros() >= GATHER_MICROS {
+            self.hand_out()?;
+        }
+        Ok(aside)
+    }
+
+    /// Whether behind the request that was given last a further one has come whole.
+    fn has_further(&mut self) -> bool {
+        self.look();
+        self.is_between && self.is_whole()
+    }
+
+    /// Whether responses are gathered, or are to be from now on.
+    pub fn gathers(&mut self) -> bool {
+        self.gathered.is_some() || self.has_further()
+    }
+
     /// Writes what waits for the client, as much as it takes.
     pub fn hand_out(&mut self) -> Result<(), Failed> {
+        self.gathered = None;
         'pieces: for _ in 0..u64::MAX {
             if self.outbox.is_empty() {
                 return Ok(());

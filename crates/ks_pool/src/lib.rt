@@ -14,11 +14,13 @@ mod poller;
 mod pool;
 mod queue;
 mod real_desk;
+mod registration;
 mod signals;
 mod slots;
 mod socket;
 mod tcp_link;
 mod trouble;
+mod waiters;
 mod waiting;
 mod watch;
 

@@ -1,7 +1,10 @@
 //! How much of its clients' connections the pool keeps, and how long.
 
-/// How many descriptors of the process are left to files, to the standard streams and to the pool itself.
+/// How many descriptors of the process are left to files and to the standard streams.
 pub const SPARE_DESCRIPTORS: u64 = 64;
+
+/// How many each worker has to wait for its connections.
+pub const WORKER_DESCRIPTORS: u64 = 3;
 
 /// How many connections are kept at most, whatever the process may have.
 pub const CONNECTIONS: usize = 10_000;
@@ -14,6 +17,12 @@ pub const PIECE: usize = 4_096;
 
 /// How many bytes of its responses wait for a client, beside those that the system holds.
 pub const WAITING_BYTES: usize = 1_048_576;
+
+/// How many bytes of responses are gathered at most, where requests lie ready behind each other.
+pub const GATHERED_BYTES: usize = 16_384;
+
+/// For how many microseconds they are, but for the one that is made then.
+pub const GATHER_MICROS: u128 = 1_000;
 
 /// How many requests that lie ready behind each other are answered before others are.
 pub const REQUESTS_AT_ONCE: u32 = 16;
@@ -38,6 +47,12 @@ pub const LEAP_SECONDS: u64 = 60;
 
 /// How many milliseconds one wait for connections, or for the client of one, takes at most: so often the end is looked for.
 pub const WAIT_MILLIS: i32 = 1_000;
+
+/// How many milliseconds the wait of a worker on guard takes at most: so often it looks at what came for busy workers.
+pub const GUARD_MILLIS: i32 = 2;
+
+/// How many times a worker waits for what comes for itself until it looks at what came for others.
+pub const OWN_WAITS: u32 = 16;
 
 /// How many milliseconds one wait for connections takes at most once the end has begun: each worker then waits once more.
 pub const LAST_WAIT_MILLIS: i32 = 10;

@@ -1,18 +1,19 @@
 use crate::clock::WatchedClock;
 use crate::kept::{AtHand, Kept};
-use crate::limits::{ACCEPTS, CONNECTIONS, END_SECONDS, SPARE_DESCRIPTORS};
+use crate::limits::{ACCEPTS, CONNECTIONS, END_SECONDS, SPARE_DESCRIPTORS, WORKER_DESCRIPTORS};
 use crate::line::{Line, Seen};
 use crate::log::Log;
-use crate::poller::{LISTENER, Poller, Report};
+use crate::poller::{LISTENER, Pollers, Report};
 use crate::slots::{Slots, Step};
 use crate::trouble::Refusal;
+use crate::waiters::Turn;
 use ks_outside::{Answered, Failed};
 use libc::RLIMIT_NOFILE;
 use libc::net::{SHUT_RD, shutdown};
 use libc::types::rlimit;
+use mio::Interest;
 use mio::net::{TcpListener, TcpStream};
 use mio::unix::SourceFd;
-use mio::{Events, Interest, Poll, Registry};
 use std::io;
 use std::net::{IpAddr, Net};
 use std::os::fd::AsRawFd;
@@ -24,7 +25,11 @@ use std::time::Instant;
 /// and a worker is lent it once a request of it looks whole, or once no more of it comes. So thousands of connections
 /// need a worker only while it answers them.
 ///
-/// It keeps as many connections as the process may have descriptors, less 64, and at most 10,000. A further one takes the
+/// Each connection is reported to the worker that it had last, at first to each in turn. So where they all have something to do no worker
+/// waits for another. What comes for a worker that is busy others take, within some milliseconds, and with it the
+/// connection.
+///
+/// It keeps as many connections as the process may have descriptors, less 64 and three for each worker, and at most 10,000. A further one takes the
 /// place of the one that has rested longest. A connection is let go that sends no byte of its next request for 60
 /// seconds, no whole head within 10 seconds or no whole request within 30 seconds of the first byte, or that does not
 /// take a whole response within 30 seconds. Behind the last response it may send for 2 seconds, and 1 MiB, which are
@@ -35,15 +40,14 @@ use std::time::Instant;
 #[derive(Drop)]
 pub struct Pool {
     listener: TcpListener,
-    registry: Registry,
-    poller: Mutex<Poller>,
+    pollers: Pollers,
     slots: Mutex<Slots>,
     clock: Mutex<WatchedClock>,
     log: Option<Log>,
 }
 
-/// How many connections are kept at most.
-fn most_connections() -> usize {
+/// How many connections are kept at most beside so many workers.
+fn most_connections(workers: u32) -> usize {
     let mut limit = rlimit {
         rlim_cur: 0,
         rlim_max: 0,
@@ -51,7 +55,10 @@ fn most_connections() -> usize {
     if libc::getrlimit(RLIMIT_NOFILE, &mut limit) != 0 {
         return CONNECTIONS;
     }
-    let kept = limit.rlim_cur.saturating_sub(SPARE_DESCRIPTORS).max(1);
+    let spare = u64::from(workers)
+        .saturating_mul(WORKER_DESCRIPTORS)
+        .saturating_add(SPARE_DESCRIPTORS);
+    let kept = limit.rlim_cur.saturating_sub(spare).max(1);
     usize::try_from(kept)
         .unwrap_or(CONNECTIONS)
         .min(CONNECTIONS)
@@ -66,24 +73,25 @@ fn micros_since<R: Clock>(rt: &R, began: Option<Instant>) -> u128 {
 }
 
 impl Pool {
-    /// A pool of the connections that come to this listener. Their requests are told in the log, if there is one.
+    /// A pool for so many workers of the connections that come to this listener. Their requests are told in the log, if
+    /// there is one.
     pub fn new<R: Net + Clock + AllocGlobal>(
         rt: &R,
         listener: TcpListener,
+        workers: u32,
         log: Option<Log>,
     ) -> io::Result<Pool> {
-        let alloc = rt.alloc();
-        let poll = Poll::new(rt)?;
-        let registry = poll.registry().try_clone()?;
+        let pollers = Pollers::new(rt, workers)?;
         let descriptor = listener.as_raw_fd();
-        registry.register(&mut SourceFd(&descriptor), LISTENER, Interest::READABLE)?;
-        let events = Events::with_capacity(alloc, 1)?;
+        let mut source = SourceFd(&descriptor);
+        let registry = pollers.of(0).registry();
+        registry.register(&mut source, LISTENER, Interest::READABLE)?;
+        let count = pollers.len();
         let now = Instant::now(rt)?;
         Ok(Pool {
             listener,
-            registry,
-            poller: Mutex::new(Poller::new(poll, events)),
-            slots: Mutex::new(Slots::new(alloc, most_connections(), now)),
+            pollers,
+            slots: Mutex::new(Slots::new(rt.alloc(), most_connections(workers), count, now)?),
             clock: Mutex::new(WatchedClock::new()),
             log,
         })
@@ -116,7 +124,7 @@ impl Pool {
 
     /// Has this line said on the standard error before the first connection is waited for.
     pub fn say_first<R: Wait>(&self, rt: &R, line: String) {
-        self.poller.lock(rt).first_line = Some(line);
+        self.slots.lock(rt).first_line = Some(line);
     }
 
     /// The clock that all desks share, in seconds since 1970, where it can be read. What becomes of it is said once.
@@ -126,24 +134,25 @@ impl Pool {
         Some(reading.seconds)
     }
 
-    /// Waits for the next connection of which a request looks whole. There is none where a signal asked the process to
-    /// end, and nothing is left at work that could still be answered. Workers wait in turn: one for a report, and the
-    /// others for that one.
-    pub fn next<R: Clock + Wait + Eprint>(&self, rt: &R) -> Result<Option<Kept>, Failed> {
+    /// The next connection for this worker of which a request looks whole. There is none where a signal asked the process to
+    /// end, and nothing is left at work that could still be answered.
+    pub fn next<R: Clock + Wait + Eprint>(
+        &self,
+        rt: &R,
+        worker: usize,
+    ) -> Result<Option<Kept>, Failed> {
         'reports: for _ in rt.forever() {
-            let report = self.poller.lock(rt).wait(rt)?;
+            let report = self.wait(rt, worker)?;
             let Ok(now) = Instant::now(rt) else {
                 return Err(Failed);
             };
-            let mut next = self.step(rt, report, now);
-            if let Step::Sweep = next {
-                self.sweep(rt, now)?;
-                next = self.step(rt, report, now);
-            }
-            match next {
+            match self.step(rt, worker, report, now)? {
                 Step::End => return Ok(None),
                 Step::Accept => self.accept_all(rt, now)?,
-                Step::Serve(kept) => {
+                Step::Serve(kept, woken) => {
+                    if let Some(woken) = woken {
+                        self.pollers.of(woken).wake();
+                    }
                     if let Some(kept) = self.sort(rt, kept, now) {
                         return Ok(Some(kept));
                     }
@@ -154,8 +163,43 @@ impl Pool {
         unreachable!()
     }
 
-    fn step<R: Wait>(&self, rt: &R, report: Report, now: Instant) -> Step {
-        self.slots.lock(rt).step(report, now)
+    /// Waits for a report of a connection of this worker, or of one of a worker that is busy.
+    fn wait<R: Wait + Eprint>(&self, rt: &R, worker: usize) -> Result<Report, Failed> {
+        let turn = self.begin_wait(rt, worker);
+        if turn.looks_first {
+            let report = self.pollers.look_at_others(worker)?;
+            if report != Report::Nothing {
+                return Ok(report);
+            }
+        }
+        match self.pollers.of(worker).wait(rt, turn.most)? {
+            Report::Nothing => self.pollers.look_at_others(worker),
+            report => Ok(report),
+        }
+    }
+
+    fn begin_wait<R: Wait + Eprint>(&self, rt: &R, worker: usize) -> Turn {
+        let mut slots = self.slots.lock(rt);
+        if let Some(line) = slots.first_line.take() {
+            let _ = eprintln!(rt; "{line}");
+        }
+        slots.begin_wait(worker)
+    }
+
+    /// What a worker is to do behind this report, with what is done each second before it.
+    fn step<R: Wait + Eprint>(
+        &self,
+        rt: &R,
+        worker: usize,
+        report: Report,
+        now: Instant,
+    ) -> Result<Step, Failed> {
+        let step = self.slots.lock(rt).step(worker, report, now);
+        if let Step::Sweep = step {
+            self.sweep(rt, now)?;
+            return Ok(self.slots.lock(rt).step(worker, report, now));
+        }
+        Ok(step)
     }
 
     /// A connection again, if a request of it is at hand. Else it rests, or is let go.
@@ -164,19 +208,20 @@ impl Pool {
             Ok(AtHand::Request) => return Some(kept),
             Ok(AtHand::Part) => {
                 kept.wait_on(now);
-                self.slots.lock(rt).put(&self.registry, kept);
+                let worker = kept.registration.worker;
+                self.slots.lock(rt).put(&self.pollers, kept, worker);
             }
             Ok(AtHand::End) | Err(Failed) => self.let_go(rt, kept),
         }
         None
     }
 
-    /// Takes back a connection of which the next request is to come.
-    pub fn rest<R: Clock + Wait>(&self, rt: &R, mut kept: Kept) {
+    /// Takes back a connection of which the next request is to come, and which then is this worker's.
+    pub fn rest<R: Clock + Wait>(&self, rt: &R, mut kept: Kept, worker: usize) {
         match Instant::now(rt) {
             Ok(now) => {
                 kept.rest(now);
-                self.slots.lock(rt).put(&self.registry, kept);
+                self.slots.lock(rt).put(&self.pollers, kept, worker);
             }
             Err(_) => self.let_go(rt, kept),
         }
@@ -194,7 +239,7 @@ impl Pool {
 
     /// Lets a connection go.
     pub fn let_go<R: Wait>(&self, rt: &R, kept: Kept) {
-        let key = kept.key;
+        let key = kept.registration.key;
         drop(kept);
         self.slots.lock(rt).forget(key);
     }
@@ -232,10 +277,8 @@ impl Pool {
     fn ask_for_more(&self) -> Result<(), Failed> {
         let descriptor = self.listener.as_raw_fd();
         let mut source = SourceFd(&descriptor);
-        match self
-            .registry
-            .reregister(&mut source, LISTENER, Interest::READABLE)
-        {
+        let registry = self.pollers.of(0).registry();
+        match registry.reregister(&mut source, LISTENER, Interest::READABLE) {
             Ok(()) => Ok(()),
             Err(_) => Err(Failed),
         }
@@ -248,7 +291,7 @@ impl Pool {
         }
         let mut slots = self.slots.lock(rt);
         slots.trouble.accept();
-        slots.admit(&self.registry, stream, client, now);
+        slots.admit(&self.pollers, stream, client, now);
     }
 
     /// Lets the connection go that has rested longest, where none can be accepted, and says whether one went.
@@ -264,7 +307,6 @@ impl Pool {
     /// again, of which accepts may have failed.
     fn sweep<R: Wait + Eprint>(&self, rt: &R, now: Instant) -> Result<(), Failed> {
         if self.sweep_slots(rt, now) {
-            self.poller.lock(rt).is_ending = true;
             return Ok(());
         }
         self.ask_for_more()
@@ -279,6 +321,7 @@ impl Pool {
         }
         if slots.look_for_end(now) {
             self.stop_listening();
+            self.pollers.wake_all();
             let _ = eprintln!(rt;
                 "ks: a signal asks for the end: what is at work has {END_SECONDS} seconds"
             );

@@ -67,6 +67,11 @@ impl<'a, R> RealDesk<'a, R> {
     {
         RealDesk { worker, ..self }
     }
+
+    /// Which of the pool's workers it has.
+    fn place(&self) -> usize {
+        usize::try_from(self.worker).unwrap_or(0)
+    }
 }
 
 impl<'a, R: Clock + RandomSource + Wait + Eprint> Desk for RealDesk<'a, R> {
@@ -84,7 +89,7 @@ impl<'a, R: Clock + RandomSource + Wait + Eprint> Desk for RealDesk<'a, R> {
         ensures some { IfOk result (λ link. IfSome link (λ new. new ≡ record { reads = 0; writes = 0 })) }
         ensures exact { self.new ≡ record self.old { accept_faults = (if is_ok result then self.old.accept_faults else next_count self.old.accept_faults) } }
     {
-        match next_of(self.pool, self.rt) {
+        match next_of(self.pool, self.rt, self.place()) {
             Ok(Some(kept)) => {
                 self.client = Some(kept.client);
                 Ok(Some(TcpLink::new(self.rt, kept)))
@@ -104,7 +109,7 @@ impl<'a, R: Clock + RandomSource + Wait + Eprint> Desk for RealDesk<'a, R> {
         ensures exact { self.new ≡ self.old }
     {
         if let Some(pool) = self.pool {
-            link.give_back(pool);
+            link.give_back(pool, self.place());
         }
     }
 
@@ -171,10 +176,14 @@ impl<'a, R: Clock + RandomSource + Wait + Eprint> Desk for RealDesk<'a, R> {
     }
 }
 
-/// The next connection of a pool, if there is a pool.
-fn next_of<R: Clock + Wait + Eprint>(pool: Option<&Pool>, rt: &R) -> Result<Option<Kept>, Failed> {
+/// The next connection of a pool for its worker of this number, if there is a pool.
+fn next_of<R: Clock + Wait + Eprint>(
+    pool: Option<&Pool>,
+    rt: &R,
+    worker: usize,
+) -> Result<Option<Kept>, Failed> {
     match pool {
-        Some(pool) => pool.next(rt),
+        Some(pool) => pool.next(rt, worker),
         None => Err(Failed),
     }
 }

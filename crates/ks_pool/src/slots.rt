@@ -1,11 +1,13 @@
 use crate::ending::Ending;
 use crate::kept::Kept;
-use crate::poller::Report;
+use crate::limits::LAST_WAIT_MILLIS;
+use crate::poller::{Pollers, Report};
+use crate::registration::Registration;
 use crate::trouble::Trouble;
+use crate::waiters::{Turn, Waiters};
 use mio::net::TcpStream;
-use mio::{Interest, Registry, Token};
 use slab::Slab;
-use std::alloc::Global;
+use std::alloc::{AllocError, Global};
 use std::mem;
 use std::net::IpAddr;
 use std::time::Instant;
@@ -28,8 +30,8 @@ pub enum Step {
     Sweep,
     /// Connections wait at the listener.
     Accept,
-    /// This connection was lent.
-    Serve(Kept),
+    /// This connection was lent, and this worker is to be woken, if one is.
+    Serve(Kept, Option<usize>),
     /// Nothing.
     Wait,
 }
@@ -44,31 +46,51 @@ pub struct Slots {
     swept: Instant,
     pub trouble: Trouble,
     ending: Ending,
-}
-
-/// A connection is reported when more comes of it, and when more may go to it: once at each change, and when it is
-/// registered.
-fn both_ways() -> Interest {
-    Interest::READABLE | Interest::WRITABLE
+    waiters: Waiters,
+    /// What is to be said before the first connection is waited for.
+    pub first_line: Option<String>,
+    /// The worker that got the newest connection.
+    last: usize,
 }
 
 impl Slots {
-    /// No connections yet.
-    pub fn new(alloc: Global, most: usize, now: Instant) -> Slots {
-        Slots {
+    /// No connections yet, for so many workers.
+    pub fn new(
+        alloc: Global,
+        most: usize,
+        workers: usize,
+        now: Instant,
+    ) -> Result<Slots, AllocError> {
+        Ok(Slots {
             alloc,
             slots: Slab::new(alloc),
             most,
             swept: now,
             trouble: Trouble::new(),
             ending: Ending::new(),
-        }
+            waiters: Waiters::new(alloc, workers)?,
+            first_line: None,
+            last: 0,
+        })
     }
 
-    /// Takes a place for a new connection. One for which there is no memory, or which can't be registered, is let go.
+    /// A worker begins to wait. Once the end has begun no wait is long.
+    pub fn begin_wait(&mut self, worker: usize) -> Turn {
+        let turn = self.waiters.begin(worker);
+        if self.ending.has_begun() {
+            return Turn {
+                most: turn.most.min(LAST_WAIT_MILLIS),
+                ..turn
+            };
+        }
+        turn
+    }
+
+    /// Takes a place for a new connection. The workers get them in turn. One for which there is no memory, or which can't be
+    /// registered, is let go.
     pub fn admit(
         &mut self,
-        registry: &Registry,
+        pollers: &Pollers,
         mut stream: TcpStream,
         client: IpAddr,
         now: Instant,
@@ -76,12 +98,13 @@ impl Slots {
         if self.slots.len() >= self.most {
             self.let_oldest_go();
         }
-        let key = self.slots.vacant_key();
-        if registry
-            .register(&mut stream, Token(key), both_ways())
-            .is_ok()
-        {
-            let kept = Kept::new(self.alloc, stream, client, key, now);
+        let registration = Registration {
+            key: self.slots.vacant_key(),
+            worker: pollers.behind(self.last),
+        };
+        self.last = registration.worker;
+        if registration.register(pollers, &mut stream).is_ok() {
+            let kept = Kept::new(self.alloc, stream, client, registration, now);
             drop(self.slots.insert(Slot::Resting(kept)));
         }
     }
@@ -98,23 +121,18 @@ impl Slots {
         }
     }
 
-    /// Takes a connection back. It is reported again where something was reported of it meanwhile, or where a further
-    /// request lies ready. Once the end has begun, one of which nothing is at work is let go.
-    pub fn put(&mut self, registry: &Registry, mut kept: Kept) {
-        let key = kept.key;
+    /// Takes a connection back, and has it reported to this worker from now on. It is reported again where something was reported
+    /// of it meanwhile, or where a further request lies ready. Once the end has begun, one of which nothing is at work is let go.
+    pub fn put(&mut self, pollers: &Pollers, mut kept: Kept, worker: usize) {
+        let key = kept.registration.key;
         if self.ending.has_begun() && kept.is_idle() {
             self.forget(key);
             return;
         }
-        if self.was_reported(key) || kept.is_whole() {
-            let token = Token(key);
-            if registry
-                .reregister(&mut kept.stream, token, both_ways())
-                .is_err()
-            {
-                self.forget(key);
-                return;
-            }
+        let is_due = self.was_reported(key) || kept.is_whole();
+        if kept.report_to(pollers, worker, is_due).is_err() {
+            self.forget(key);
+            return;
         }
         if let Some(slot) = self.slots.get_mut(key) {
             *slot = Slot::Resting(kept);
@@ -133,8 +151,9 @@ impl Slots {
         drop(self.slots.try_remove(key));
     }
 
-    /// What is to be done behind this report.
-    pub fn step(&mut self, report: Report, now: Instant) -> Step {
+    /// What a worker is to do behind this report.
+    pub fn step(&mut self, worker: usize, report: Report, now: Instant) -> Step {
+        self.waiters.end(worker);
         if self.has_ended(now, report != Report::Nothing) {
             return Step::End;
         }
@@ -142,12 +161,12 @@ impl Slots {
             return Step::Sweep;
         }
         match report {
-            Report::Nothing => Step::Wait,
+            Report::Nothing | Report::Woken => Step::Wait,
             Report::Listener => Step::Accept,
             Report::Connection(key, has_closed) => match self.lend(key) {
                 Some(mut kept) => {
                     kept.hear(has_closed);
-                    Step::Serve(kept)
+                    Step::Serve(kept, self.waiters.lend())
                 }
                 None => Step::Wait,
             },

@@ -64,14 +64,14 @@ impl<R> TcpLink<'_, R> {
     fn may_rest(&mut self) -> bool
         ensures same { self.new ≡ self.old }
     {
-        if self.kept.has_waiting() {
+        if self.kept.is_stuck() {
             return true;
         }
         match self.kept.read_ahead() {
-            Ok(AtHand::Part) => true,
+            Ok(AtHand::Part) => self.kept.hand_out().is_ok(),
             Ok(AtHand::Request) => {
                 self.answered = self.answered.saturating_add(1);
-                self.kept.is_whole() && self.is_others_turn()
+                self.kept.is_whole() && self.is_others_turn() && self.kept.hand_out().is_ok()
             }
             Ok(AtHand::End) | Err(Failed) => false,
         }
@@ -79,8 +79,8 @@ impl<R> TcpLink<'_, R> {
 }
 
 impl<R: Clock + Wait> TcpLink<'_, R> {
-    /// Gives the connection back to its pool, where it rests or is closed. One that failed is let go.
-    pub(crate) fn give_back(self, pool: &Pool) {
+    /// Gives the connection back to its pool, where it rests as one of this worker or is closed. One that failed is let go.
+    pub(crate) fn give_back(self, pool: &Pool, worker: usize) {
         let TcpLink {
             clock,
             kept,
@@ -92,7 +92,7 @@ impl<R: Clock + Wait> TcpLink<'_, R> {
         if read_faults > 0 || write_faults > 0 {
             pool.let_go(clock, kept);
         } else if is_resting {
-            pool.rest(clock, kept);
+            pool.rest(clock, kept, worker);
         } else {
             pool.close(clock, kept);
         }

@@ -12,13 +12,19 @@ use std::os::fd::AsRawFd;
 use std::rt::Clock;
 use std::time::Instant;
 
+/// What the clock shows.
+fn now_of<R: Clock>(clock: &R) -> Result<Instant, Failed> {
+    match Instant::now(clock) {
+        Ok(now) => Ok(now),
+        Err(_) => Err(Failed),
+    }
+}
+
 impl Kept {
     /// Waits until it may be ready for this, a second at most. It is a fault where its deadline has passed, or the time
     /// that it has once a signal asked the process to end.
     fn wait<R: Clock>(&mut self, clock: &R, awaited: Awaited, events: i16) -> Result<(), Failed> {
-        let Ok(now) = Instant::now(clock) else {
-            return Err(Failed);
-        };
+        let now = now_of(clock)?;
         self.until = self.until.then(awaited, now);
         let left = self.until.millis_left(now);
         if left == 0 || self.is_over(now) {
@@ -47,6 +53,7 @@ impl Kept {
                 self.note_read(count < into.len());
                 return Ok(count);
             }
+            self.hand_out()?;
             self.wait(clock, Awaited::Body, POLLIN)?;
         }
         Err(Failed)
@@ -65,10 +72,17 @@ impl Kept {
         Err(Failed)
     }
 
-    /// Writes what the client takes now, or has it wait, where there is room. What waits goes first.
+    /// Gathers it with others, or writes what the client takes now, or has it wait, where there is room. What waits goes
+    /// first.
     fn write_some<R: Clock>(&mut self, clock: &R, piece: &[u8]) -> Result<Option<usize>, Failed>
         ensures within { IfOk result (λ went. IfSome went (λ n. n ≤ length piece.now)) }
     {
+        if self.gathers() {
+            let gathered = self.gather(piece, now_of(clock)?)?;
+            if gathered > 0 {
+                return Ok(Some(gathered));
+            }
+        }
         self.hand_out()?;
         if !self.has_waiting() {
             let taken = write_now(&mut self.stream, piece)?;
@@ -77,9 +91,7 @@ impl Kept {
             }
         }
         // From now on the client has its time to take the response.
-        let Ok(now) = Instant::now(clock) else {
-            return Err(Failed);
-        };
+        let now = now_of(clock)?;
         self.until = self.until.then(Awaited::Taking, now);
         let aside = self.put_aside(piece);
         Ok((aside > 0).then_some(aside))

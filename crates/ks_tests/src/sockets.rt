@@ -19,12 +19,12 @@ use std::{io, thread};
 /// What looks like a request at once, since no head has such a line.
 const LINE: &[u8] = b"abc\n";
 
-/// A pool of the connections to a port of its own, and the address.
+/// A pool for two workers of the connections to a port of its own, and the address.
 fn listen(rt: &HostRuntime) -> io::Result<(Pool, SocketAddr)> {
     let any = SocketAddrV4::new(Ipv4Addr::LOCALHOST, 0);
     let listener = TcpListener::bind(rt, SocketAddr::V4(any))?;
     let address = listener.local_addr()?;
-    Ok((Pool::new(rt, listener, None)?, address))
+    Ok((Pool::new(rt, listener, 2, None)?, address))
 }
 
 /// A client at this address, which has sent this.
@@ -85,13 +85,14 @@ where
     );
 }
 
-/// A worker over the system's folder and a pool, who has served no link.
+/// The worker of this number over the system's folder and a pool, who has served no link.
 fn idle_worker<'a>(
     rt: &'a HostRuntime,
     pool: &'a Pool,
+    number: u32,
 ) -> Result<Worker<RealDesk<'a, HostRuntime>, Folder<'a, HostRuntime>>, Memory> {
     Ok(Worker {
-        desk: RealDesk::new(rt, Some(pool)),
+        desk: RealDesk::new(rt, Some(pool)).of_worker(number),
         dir: Folder::new(rt.alloc(), rt, "keys")?,
         served: false,
     })
@@ -104,7 +105,7 @@ fn desks_on_threads_share_a_pool(rt: HostRuntime) -> Result<(), Fail> {
     for _ in 0..2 {
         clients.push(client(&rt, address, LINE)?)?;
     }
-    let mut workers = [idle_worker(&rt, &pool)?, idle_worker(&rt, &pool)?];
+    let mut workers = [idle_worker(&rt, &pool, 0)?, idle_worker(&rt, &pool, 1)?];
     serve_each(&rt, &mut workers);
     assert!(rt; workers.iter().all(|worker| worker.served));
     for client in &mut clients {
