@@ -70,7 +70,7 @@ def beyond_descriptors(program, folder):
     """One client more than the descriptors, again and again."""
     with limited(program, folder, resource.RLIMIT_NOFILE, DESCRIPTORS) as server:
         kept, times = [], []
-        for _ in range(DESCRIPTORS - 64 + TIMES):
+        for _ in range(DESCRIPTORS - 64 - 3 * WORKERS + TIMES):
             began = time.monotonic()
             one = Connection(server.port, 20)
             require(one.ask("GET", "/v3").status == 200, "a client beyond the descriptors")

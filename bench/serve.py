@@ -24,6 +24,8 @@ WORKERS = (1, 4)
 TOKENS, ROUNDS = 1000, 10_000
 # How many requests a client that does not wait for each response sends at once.
 DEPTH = 16
+# How many clients a worker has in the row of more clients than workers.
+CLIENTS = 16
 
 # A script of wrk: each thread sends the requests of a file, from a place of its own on.
 SCRIPT = """
@@ -64,12 +66,12 @@ def script_file(work, requests):
     return path
 
 
-def by_wrk(work, port, workers, requests, seconds):
+def by_wrk(work, port, workers, clients, requests, seconds):
     """Responses a second, the median and the 99th percentile in milliseconds."""
     script, path = os.path.join(work, "load.lua"), script_file(work, requests)
     with open(script, "w", encoding="ascii") as file:
         file.write(SCRIPT)
-    words = ["wrk", "-t", str(workers), "-c", str(workers), "-d", f"{seconds}s", "-s", script, f"http://127.0.0.1:{port}", "--", path]
+    words = ["wrk", "-t", str(workers), "-c", str(clients), "-d", f"{seconds}s", "-s", script, f"http://127.0.0.1:{port}", "--", path]
     ran = subprocess.run(words, stdout=subprocess.PIPE, stderr=subprocess.STDOUT, check=False)
     found = re.search(rb"measured (\d+) (\d+) ([\d.]+) ([\d.]+) (\d+)", ran.stdout)
     require(found is not None, f"wrk: {ran.stdout.decode()}")
@@ -95,14 +97,14 @@ def client(port, requests, depth, start, until, results):
         results.put(str(why))
 
 
-def by_python(port, workers, requests, depth, seconds):
+def by_python(port, clients, requests, depth, seconds):
     """The same, by a process for each connection."""
     results, until = multiprocessing.Queue(), time.time() + seconds
-    clients = [multiprocessing.Process(target=client, args=(port, requests, depth, number * 251, until, results)) for number in range(workers)]
-    for each in clients:
+    processes = [multiprocessing.Process(target=client, args=(port, requests, depth, number * 251, until, results)) for number in range(clients)]
+    for each in processes:
         each.start()
-    told = [results.get(timeout=seconds + 60) for _ in clients]
-    for each in clients:
+    told = [results.get(timeout=seconds + 60) for _ in processes]
+    for each in processes:
         each.join()
     for part in told:
         require(not isinstance(part, str), part)
@@ -123,7 +125,7 @@ def opening(folder):
 
 
 def loads(port, project):
-    """The rows: what each is, its pieces, and how many requests each piece has."""
+    """The rows: what each is, its pieces, how many requests each piece has, and how many clients each worker."""
     password = login("ann", "secret", project_scope("demo"))
     with Connection(port) as connection:
         first = connection.ask("POST", "/v3/auth/tokens", password).fields["X-Subject-Token"]
@@ -137,11 +139,12 @@ def loads(port, project):
         mixed[place] = request("PATCH", f"/v3/projects/{project}", body, tokens[place])
     at_once = [b"".join(validations[place:place + DEPTH]) for place in range(0, TOKENS - DEPTH, DEPTH)]
     return [
-        ("GET /v3", [request("GET", "/v3")], 1),
-        (f"validations of {TOKENS:,} tokens", validations, 1),
-        (f"such validations, {DEPTH} sent at once", at_once, DEPTH),
-        (f"logins with {ROUNDS:,} rounds", [request("POST", "/v3/auth/tokens", password)], 1),
-        ("validations with a change in a hundred", mixed, 1),
+        ("GET /v3", [request("GET", "/v3")], 1, 1),
+        (f"validations of {TOKENS:,} tokens", validations, 1, 1),
+        (f"such validations of {CLIENTS} clients a worker", validations, 1, CLIENTS),
+        (f"such validations, {DEPTH} sent at once", at_once, DEPTH, 1),
+        (f"logins with {ROUNDS:,} rounds", [request("POST", "/v3/auth/tokens", password)], 1, 1),
+        ("validations with a change in a hundred", mixed, 1, 1),
     ]
 
 
@@ -150,13 +153,13 @@ def named(workers):
     return "1 worker" if workers == 1 else f"{workers} workers"
 
 
-def measured(server, work, workers, requests, depth, seconds):
+def measured(server, work, workers, clients, requests, depth, seconds):
     """A load on a server: the requests a second, those a second of each core that it had, and both in words."""
     began, worked = time.monotonic(), server.seconds()
     if shutil.which("wrk"):
-        rate, half, most = by_wrk(work, server.port, workers, requests, seconds)
+        rate, half, most = by_wrk(work, server.port, workers, clients * workers, requests, seconds)
     else:
-        rate, half, most = by_python(server.port, workers, requests, depth, seconds)
+        rate, half, most = by_python(server.port, clients * workers, requests, depth, seconds)
     cores = (server.seconds() - worked) / (time.monotonic() - began)
     # Of requests that are sent at once, no client measures one alone.
     times = f"p50 {half:.3f} ms, p99 {most:.3f} ms, " if depth == 1 else ""
@@ -177,19 +180,26 @@ def measure(programs, seconds, work):
                 for program, folder, (file, _) in zip(programs, folders, opened)
             ]
             for rows in zip(*(loads(server.port, project) for server, (_, project) in zip(servers, opened))):
-                for number, (server, (what, requests, depth)) in enumerate(zip(servers, rows)):
-                    rate, each, told = measured(server, work, workers, requests, depth, seconds)
+                for number, (server, (what, requests, depth, clients)) in enumerate(zip(servers, rows)):
                     beside = ", beside it" if number else ""
+                    try:
+                        rate, each, told = measured(server, work, workers, clients, requests, depth, seconds)
+                    except Failure as why:
+                        # A program that gives each connection a worker answers no further ones.
+                        require(number and clients > 1, str(why))
+                        told = "not all clients are answered"
+                    else:
+                        rates[what, workers, number] = rate, each
                     print(f"{what}, {named(workers)}{beside}: {told}", flush=True)
-                    rates[what, workers, number] = rate, each
     least, most = WORKERS
     for what in dict.fromkeys(what for what, *_ in rates):
         (few, few_each), (many, many_each) = rates[what, least, 0], rates[what, most, 0]
         print(f"{what}: {named(most)} do {many / few:.2f} times what {named(least)} does; of its cores each does {few_each:,.0f} "
               f"with {named(least)} and {many_each:,.0f} with {named(most)}, {many_each / few_each:.2f} of that")
         for workers in WORKERS if len(programs) > 1 else ():
-            ratio = rates[what, workers, 0][1] / rates[what, workers, 1][1]
-            print(f"{what}: with {named(workers)} a core does {ratio:.2f} times what it does for the other program")
+            if (what, workers, 1) in rates:
+                ratio = rates[what, workers, 0][1] / rates[what, workers, 1][1]
+                print(f"{what}: with {named(workers)} a core does {ratio:.2f} times what it does for the other program")
 
 
 def main():
