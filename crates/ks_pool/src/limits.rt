@@ -48,7 +48,8 @@ pub const LEAP_SECONDS: u64 = 60;
 /// How many milliseconds one wait for connections, or for the client of one, takes at most: so often the end is looked for.
 pub const WAIT_MILLIS: i32 = 1_000;
 
-/// How many milliseconds the wait of a worker on guard takes at most: so often it looks at what came for busy workers.
+/// How many milliseconds the wait of a worker takes at most that is on guard alone: so often guards look at what came for busy
+/// workers, all together.
 pub const GUARD_MILLIS: i32 = 2;
 
 /// How many times a worker waits for what comes for itself until it looks at what came for others.

@@ -31,8 +31,8 @@ pub struct Turn {
     pub most: i32,
 }
 
-/// Who of the workers waits. While one is busy, or was since then, those that have nothing to do are on guard: they look
-/// every few milliseconds at what came for busy ones. Else they sleep.
+/// Who of the workers waits. While one is busy, or was since then, those that have nothing to do are on guard: together they
+/// look every few milliseconds at what came for busy ones. Else they sleep.
 #[derive(Drop)]
 pub struct Waiters {
     waiters: Vec<Waiter>,
@@ -78,7 +78,9 @@ impl Waiters {
         if others_are_busy || waiter.seen != lent {
             waiter.doing = Doing::Guard;
             self.guards = self.guards.saturating_add(1);
-            turn.most = GUARD_MILLIS;
+            // The more guards there are, the longer each may wait.
+            let guards = i32::try_from(self.guards).unwrap_or(i32::MAX);
+            turn.most = GUARD_MILLIS.saturating_mul(guards).min(WAIT_MILLIS);
         } else {
             waiter.doing = Doing::Sleep;
             self.sleepers = self.sleepers.saturating_add(1);
