@@ -18,12 +18,9 @@ COMPUTED = ("Examples", "Vectors")
 KNOWN = [
     ["all_below_at of crates/ks_aes_cbc/proofs/Fields.antt", "below_at of crates/ks_totp/proofs/LetterLemmas.antt"],
     ["over_zeros of crates/ks_hmac/proofs/HmacLemmas.antt", "over_zeros of crates/ks_totp/proofs/HmacLemmas.antt"],
-    ["insert_mapped of crates/ks_appcred/proofs/MappedLemmas.antt", "map_insert of crates/ks_index/proofs/PickLemmas.antt"],
-    ["remove_mapped of crates/ks_appcred/proofs/MappedLemmas.antt", "map_remove of crates/ks_index/proofs/PickLemmas.antt"],
 ]
 # What nothing cites any more, and goes with the next change of its crate for the same reason.
-LEFT = [f"{name} of crates/ks_index/proofs/{file}.antt" for name, file in
-        (("none_there", "PickLemmas"), ("pushed_all", "IndexLemmas"), ("pushed_below", "IndexLemmas"))]
+LEFT = []
 
 
 def without_comments(path):

@@ -1,20 +1,19 @@
 -- Indexes: places in the order of the keys of the rows there, and what each change of the rows leaves of them.
-use Rattle.std.proofs.Common.{◌≡◌, ◌≢◌, ℕ, zero, suc, ◌+◌, ◌-◌, ◌<◌, ◌≤◌, Bool, true, false, not, ◌⊎◌, inl, inr, List, [], ◌∷◌, ◌++◌, length, map, take, drop, get_or, refl, sym, ap, subst, ◌∙◌, arith}
+use Rattle.std.proofs.Common.{◌≡◌, ◌≢◌, ℕ, zero, suc, ◌+◌, ◌<◌, ◌≤◌, Bool, true, false, not, ◌⊎◌, inl, inr, List, [], ◌∷◌, ◌++◌, length, map, take, drop, get_or, refl, sym, ap, subst, ◌∙◌, arith}
 use Rattle.std.proofs.Math.ListN.{set}
-use Rattle.std.specs.List.{AllByRecursion, filter, insert, remove}
+use Rattle.std.specs.List.{AllByRecursion, filter, insert}
 use Rattle.std.specs.declared.cmp.Ordering.{Ordering}
 use Rattle.std.specs.declared.cmp.Ordering.TheVariants.{Equal}
 use Rattle.std.specs.Ordering.{is_eq}
 use Rattle.std.specs.Cmp.{IsTotalOrder}
-use Rattle.std.proofs.lemmas.Bool.Decides.{nat_tests}
 use Rattle.std.proofs.lemmas.Cmp.{tied_itself, tied_back}
 use Rattle.std.proofs.lemmas.Grind.{common_steps}
 use Rattle.std.proofs.lemmas.List.{get_or-set_other, get_or-set_same, length-set}
 use Rattle.std.proofs.lemmas.List.Edits.{length-insert, get_or-insert_below}
 use Rattle.ks_base.specs.Tables.{AreAbove, IsAscending, Among, has_key, drop_row}
 use Rattle.ks_base.specs.Places.{IsGapAt}
-use Rattle.ks_index.specs.Indexes.{AreCovered, AreUnlike, IsIndex, IsIndexBut, IsPartIndex}
-use Rattle.ks_base.proofs.AmongLemmas.{all_among, among_all, among_left, among_push, among_right, map_among, among_mapped}
+use Rattle.ks_index.specs.Indexes.{AreCovered, IsIndex, IsIndexBut, IsPartIndex}
+use Rattle.ks_base.proofs.AmongLemmas.{all_among, among_all, among_push}
 use Rattle.ks_base.proofs.LinkLemmas.{none_left}
 use Rattle.ks_base.proofs.PlaceLemmas.{above_at, ascending_insert}
 use Rattle.ks_base.proofs.RowLemmas.{eq_is, same_row, among_drop, filter_among}
@@ -201,21 +200,7 @@ in_index {K} {X} cmp key o rows places at slot e lt but gap = record {
     by p below (inr ge) (inl more) = among_insert places slot at p (but.all p below (λ is. omega arith))
     by p below (inr ge) (inr le) = let is : at ≡ p = omega arith in subst (Among (insert places slot at)) is (insert_among places slot at)
 
--- places go in one by one
-
-pub pushed_all : (places : List ℕ) (at : ℕ) → ((p : ℕ) → p < at → Among places p) → (p : ℕ) → p < at + 1 → Among (places ++ at ∷ []) p
-pushed_all places at all p below = by (below_or_not p at)
-  where
-    by : (p < at) ⊎ (at ≤ p) → Among (places ++ at ∷ []) p
-    by (inl less) = among_left places (at ∷ []) p (all p less)
-    by (inr least) = let is : at ≡ p = omega (arith, below, least) in subst (Among (places ++ at ∷ [])) is (among_right places (at ∷ []) at (inl refl))
-
-pub pushed_below : (places : List ℕ) (at : ℕ) → ((p : ℕ) → Among places p → p < at) → (p : ℕ) → Among (places ++ at ∷ []) p → p < at + 1
-pushed_below places at within p among = by (among_push places at p among)
-  where
-    by : Among places p ⊎ (at ≡ p) → p < at + 1
-    by (inl among) = omega (arith, within p among)
-    by (inr is) = omega (arith, is)
+-- a place goes in
 
 pub part_put : {K X : Type 0} (cmp : K → K → Ordering) (key : X → K) → IsTotalOrder cmp → (rows : List X) (places : List ℕ) (at slot : ℕ) (e : X) →
     at < length rows → IsPartIndex cmp key rows places → IsGapAt cmp (λ p. key (get_or rows p e)) (key (get_or rows at e)) places slot →

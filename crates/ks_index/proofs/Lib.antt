@@ -1,8 +1,9 @@
-pub mod IndexLemmas
-pub mod KeepLemmas
-pub mod MoveLemmas
+mod IndexLemmas
+mod KeepLemmas
+pub mod MappedLemmas
+mod MoveLemmas
 pub mod NameLemmas
-pub mod OrderedLemmas
-pub mod PickLemmas
+mod OrderedLemmas
+mod PickLemmas
 pub mod RunLemmas
-pub mod SideLemmas
+mod SideLemmas

@@ -6,7 +6,7 @@ use Rattle.std.specs.declared.cmp.Ordering.{Ordering}
 use Rattle.std.specs.declared.cmp.Ordering.TheVariants.{Equal}
 use Rattle.std.specs.Cmp.{IsTotalOrder}
 use Rattle.std.proofs.lemmas.Cmp.{tied_itself}
-use Rattle.ks_base.specs.Tables.{Among, IsAscending, find_row}
+use Rattle.ks_base.specs.Tables.{Among, find_row}
 use Rattle.ks_base.specs.Places.{IsFoundAt, IsGapAt}
 use Rattle.ks_base.proofs.AmongLemmas.{all_among, among_all, get_among}
 use Rattle.ks_base.proofs.PlaceLemmas.{ascending_set, drop_found, find_gap, found_place}

@@ -14,8 +14,9 @@ use Rattle.ks_base.specs.Places.{IsFoundAt, IsGapAt, IsPlace}
 use Rattle.ks_base.proofs.AmongLemmas.{all_among, among_all, among_left, among_mapped, among_push, among_right, get_among, map_among}
 use Rattle.ks_base.proofs.LinkLemmas.{none_left}
 use Rattle.ks_base.proofs.RowLemmas.{same_row}
-use Rattle.ks_index.specs.Indexes.{AreListed, AreUnlike, IsIndex, IsIndexBut, below, picked}
-use Rattle.ks_index.proofs.IndexLemmas.{ascending_mapped, below_or_not, get_any, get_pushed, pushed_index, in_index, same_place}
+use Rattle.ks_index.specs.Indexes.{AreListed, AreUnlike, IsIndex, below, picked}
+use Rattle.ks_index.proofs.IndexLemmas.{ascending_mapped, below_or_not, get_pushed, pushed_index, in_index, same_place}
+use Rattle.ks_index.proofs.MappedLemmas.{insert_mapped, remove_mapped, place_mapped}
 use Rattle.ks_index.proofs.NameLemmas.{among_get, ascending_at, found_here, id_equal}
 
 -- maps
@@ -24,18 +25,6 @@ pub map_alike : {X Y : Type 0} (f g : X → Y) (xs : List X) → ((x : X) → Am
 map_alike f g [] alike = refl
 map_alike {X} {Y} f g (x ∷ xs) alike =
     ap (λ (y : Y). y ∷ map f xs) (alike x (inl refl)) ∙ ap (λ (l : List Y). g x ∷ l) (map_alike f g xs (λ z among. alike z (inr among)))
-
-map_insert : {X Y : Type 0} (f : X → Y) (xs : List X) (i : ℕ) (x : X) → map f (insert xs i x) ≡ insert (map f xs) i (f x)
-map_insert f [] zero x = refl
-map_insert f [] (suc i) x = refl
-map_insert f (y ∷ xs) zero x = refl
-map_insert {X} {Y} f (y ∷ xs) (suc i) x = ap (λ (l : List Y). f y ∷ l) (map_insert f xs i x)
-
-map_remove : {X Y : Type 0} (f : X → Y) (xs : List X) (i : ℕ) → map f (remove xs i) ≡ remove (map f xs) i
-map_remove f [] zero = refl
-map_remove f [] (suc i) = refl
-map_remove f (y ∷ xs) zero = refl
-map_remove {X} {Y} f (y ∷ xs) (suc i) = ap (λ (l : List Y). f y ∷ l) (map_remove f xs i)
 
 map_set : {X Y : Type 0} (f g : X → Y) (xs : List X) (i : ℕ) (y : Y) (d : X) → i < length xs → g (get_or xs i d) ≡ y →
     ((j : ℕ) → j < length xs → j ≢ i → g (get_or xs j d) ≡ f (get_or xs j d)) → map g xs ≡ set (map f xs) i y
@@ -54,27 +43,9 @@ map_append : {X Y : Type 0} (f : X → Y) (xs ys : List X) → map f (xs ++ ys) 
 map_append f [] ys = refl
 map_append {X} {Y} f (x ∷ xs) ys = ap (λ (l : List Y). f x ∷ l) (map_append f xs ys)
 
--- a search of what is mapped
-
-found_mapped : {K X Y : Type 0} (cmp : K → K → Ordering) (key : Y → K) (f : X → Y) (k : K) (xs : List X) (i : ℕ) →
-    IsFoundAt cmp (λ x. key (f x)) k xs i → IsFoundAt cmp key k (map f xs) i
-found_mapped cmp key f k [] i is = absurd is
-found_mapped cmp key f k (x ∷ xs) zero is = is
-found_mapped cmp key f k (x ∷ xs) (suc i) is = (is.0, found_mapped cmp key f k xs i is.1)
-
-all_mapped : {X Y : Type 0} (P : Y → Type 0) (f : X → Y) (xs : List X) → AllByRecursion (λ x. P (f x)) xs → AllByRecursion P (map f xs)
-all_mapped P f [] all = tt
-all_mapped P f (x ∷ xs) all = (all.0, all_mapped P f xs all.1)
-
 all_unmapped : {X Y : Type 0} (P : Y → Type 0) (f : X → Y) (xs : List X) → AllByRecursion P (map f xs) → AllByRecursion (λ x. P (f x)) xs
 all_unmapped P f [] all = tt
 all_unmapped P f (x ∷ xs) all = (all.0, all_unmapped P f xs all.1)
-
-gap_mapped : {K X Y : Type 0} (cmp : K → K → Ordering) (key : Y → K) (f : X → Y) (k : K) (xs : List X) (i : ℕ) →
-    IsGapAt cmp (λ x. key (f x)) k xs i → IsGapAt cmp key k (map f xs) i
-gap_mapped cmp key f k xs zero is = all_mapped (λ y. cmp (key y) k ≡ Greater) f xs is
-gap_mapped cmp key f k [] (suc i) is = absurd is
-gap_mapped cmp key f k (x ∷ xs) (suc i) is = (is.0, gap_mapped cmp key f k xs i is.1)
 
 gap_unmapped : {K X Y : Type 0} (cmp : K → K → Ordering) (key : Y → K) (f : X → Y) (k : K) (xs : List X) (i : ℕ) →
     IsGapAt cmp key k (map f xs) i → IsGapAt cmp (λ x. key (f x)) k xs i
@@ -89,11 +60,6 @@ gap_alike {K} {X} cmp f g k xs zero alike is =
 gap_alike cmp f g k [] (suc i) alike is = absurd is
 gap_alike {K} cmp f g k (x ∷ xs) (suc i) alike is =
     (subst (λ (y : K). cmp y k ≡ Less) (alike x (inl refl)) is.0, gap_alike cmp f g k xs i (λ y among. alike y (inr among)) is.1)
-
-pub place_mapped : {K X Y : Type 0} (cmp : K → K → Ordering) (key : Y → K) (f : X → Y) (k : K) (xs : List X) (r : Result ℕ ℕ) →
-    IsPlace cmp (λ x. key (f x)) k xs r → IsPlace cmp key k (map f xs) r
-place_mapped cmp key f k xs (Ok i) is = found_mapped cmp key f k xs i is
-place_mapped cmp key f k xs (Err i) is = gap_mapped cmp key f k xs i is
 
 -- the rows at places
 
@@ -161,7 +127,7 @@ pub picked_insert : {X : Type 0} (rows : List X) (places : List ℕ) (at : ℕ) 
     picked (insert rows (length rows) row) (insert places at (length rows)) ≡ insert (picked rows places) at row
 picked_insert {X} rows places at row within more =
     picked_is (insert rows (length rows) row) (insert places at (length rows)) row more
-    ∙ map_insert new places at (length rows)
+    ∙ insert_mapped new places at (length rows)
     ∙ ap (λ (l : List X). insert l at (new (length rows))) (map_alike new (λ p. get_or rows p row) places (λ p among. get_pushed rows row row p (all_among (λ q. q < length rows) places p within among)))
     ∙ ap (insert (map (λ p. get_or rows p row) places) at) (get_or-insert_at rows (length rows) row row (omega arith))
     ∙ ap (λ (l : List X). insert l at row) (sym (picked_is rows places row within))
@@ -190,7 +156,7 @@ not_both Greater equal less = cc
 pub picked_remove : {X : Type 0} (rows : List X) (places : List ℕ) (at : ℕ) (d : X) → AllByRecursion (λ p. p < length rows) places →
     AllByRecursion (λ p. p < length rows) (remove places at) → picked rows (remove places at) ≡ remove (picked rows places) at
 picked_remove {X} rows places at d within left =
-    picked_is rows (remove places at) d left ∙ map_remove (λ p. get_or rows p d) places at ∙ ap (λ (l : List X). remove l at) (sym (picked_is rows places d within))
+    picked_is rows (remove places at) d left ∙ remove_mapped (λ p. get_or rows p d) places at ∙ ap (λ (l : List X). remove l at) (sym (picked_is rows places d within))
 
 -- places differ
 pub differ_at : {K : Type 0} (cmp : K → K → Ordering) (key : ℕ → K) → IsTotalOrder cmp → (places : List ℕ) (i j : ℕ) → IsAscending cmp key places →
@@ -289,10 +255,6 @@ picked_below (x ∷ xs) =
     ∙ take_whole (x ∷ xs)
 
 -- no rows
-
-pub none_there : (places : List ℕ) (n : ℕ) → n ≡ 0 → AllByRecursion (λ p. p < n) places → places ≡ []
-none_there [] n none within = refl
-none_there (p ∷ places) n none within = absurd (omega (arith, none, within.0))
 
 pub none_picked : {X : Type 0} (P : X → Type 0) (rows : List X) (places : List ℕ) → length rows ≡ 0 → AllByRecursion (λ p. p < length rows) places → AllByRecursion P (picked rows places)
 unfolding picked

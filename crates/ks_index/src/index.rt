@@ -43,7 +43,7 @@ pub(crate) fn compare<R: Named>(row: &R, home: &[u8], name: &[u8], id: &[u8]) ->
 }
 
 /// The slot of the row with this home, name and id, or the one where it belongs.
-pub(crate) fn slot<R: Named>(
+fn slot<R: Named>(
     rows: &[Boxed<R>],
     places: &[u32],
     other: &R,

@@ -2,7 +2,8 @@ use Rattle.std.proofs.Common.{rules}
 use Rattle.std.proofs.lemmas.Cmp.{nat_list_cmp_total}
 use Rattle.std.proofs.lemmas.Fn.{always_returns_same}
 use Rattle.std.specs.Arc.{arc_value}
-use Rattle.ks_appcred.proofs.MappedLemmas.{ascending_unmapped, place_mapped}
+use Rattle.ks_appcred.proofs.MappedLemmas.{ascending_unmapped}
+use Rattle.ks_index.proofs.MappedLemmas.{place_mapped}
 use Rattle.ks_base.specs.Tables.{id_cmp}
 use Rattle.ks_base.proofs.PlaceLemmas.{searched_place}
 use Rattle.ks_appcred.proofs.orders.id_place.Goals as goal

@@ -1,6 +1,6 @@
 use Rattle.std.proofs.Common.{◌∙◌, ap, map}
 use Rattle.std.specs.Arc.{arc_value}
-use Rattle.ks_appcred.proofs.MappedLemmas.{insert_mapped}
+use Rattle.ks_index.proofs.MappedLemmas.{insert_mapped}
 use Rattle.ks_appcred.proofs.orders.insert_within.Goals as goal
 
 pub returns : goal.returns

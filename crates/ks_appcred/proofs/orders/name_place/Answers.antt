@@ -2,7 +2,8 @@ use Rattle.std.proofs.Common.{rules}
 use Rattle.std.proofs.lemmas.Fn.{always_returns_same}
 use Rattle.std.specs.Arc.{arc_value}
 use Rattle.ks_appcred.specs.Orders.{name_of}
-use Rattle.ks_appcred.proofs.MappedLemmas.{ascending_unmapped, place_mapped}
+use Rattle.ks_appcred.proofs.MappedLemmas.{ascending_unmapped}
+use Rattle.ks_index.proofs.MappedLemmas.{place_mapped}
 use Rattle.ks_index.specs.Indexes.{name_cmp}
 use Rattle.ks_index.proofs.NameLemmas.{name_total}
 use Rattle.ks_base.proofs.PlaceLemmas.{searched_place}

@@ -1,4 +1,4 @@
-use Rattle.std.proofs.Common.{◌≡◌, ◌-◌, ◌<◌, ℕ, zero, suc, true, false, length, get_or, sym, ap, subst, ◌∙◌, arith, rules}
+use Rattle.std.proofs.Common.{◌≡◌, ◌-◌, ◌<◌, ℕ, zero, suc, true, false, length, get_or, sym, ap, ◌∙◌, arith, rules}
 use Rattle.ks_index.specs.Indexes.{picked}
 use Rattle.std.proofs.lemmas.List.Edits.{length-remove}
 use Rattle.ks_index.proofs.IndexLemmas.{get_any}

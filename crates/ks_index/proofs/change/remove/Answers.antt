@@ -1,10 +1,10 @@
-use Rattle.std.proofs.Common.{◌≡◌, ◌+◌, ◌-◌, ◌<◌, ◌≤◌, ℕ, List, length, get_or, map, sym, ap, subst, ◌∙◌, arith, rules}
+use Rattle.std.proofs.Common.{◌≡◌, ◌+◌, ◌<◌, ◌≤◌, ℕ, length, get_or, map, sym, ap, subst, ◌∙◌, arith, rules}
 use Rattle.std.specs.List.{remove}
 use Rattle.std.proofs.lemmas.Cmp.{nat_list_cmp_total}
 use Rattle.ks_base.specs.OrderLaws.{id_exact}
 use Rattle.ks_base.specs.Tables.{id_cmp}
 use Rattle.ks_base.proofs.AmongLemmas.{all_among, get_among}
-use Rattle.ks_index.specs.Indexes.{AreNamesBut, AreNamesOf, IsIndex, IsIndexBut, WasMoved, full_cmp, full_name, picked}
+use Rattle.ks_index.specs.Indexes.{AreNamesBut, IsIndex, IsIndexBut, WasMoved, full_cmp, full_name, picked}
 use Rattle.ks_index.proofs.IndexLemmas.{get_any, written_back}
 use Rattle.ks_index.proofs.MoveLemmas.{IsSwapped, index_without, kept_index, kept_picked, moved_index, swapped_picked}
 use Rattle.ks_index.proofs.PickLemmas.{picked_remove}

@@ -1,7 +1,5 @@
-use Rattle.std.proofs.Common.{◌≡◌, [], List, length, map, rules, sym, ap, get_or, ◌∙◌, ℕ}
-use Rattle.ks_base.specs.Rows.{Id}
+use Rattle.std.proofs.Common.{◌≡◌, length, map, rules, sym, ap, get_or, ◌∙◌, ℕ}
 use Rattle.ks_base.proofs.ListLemmas.{map_twice}
-use Rattle.ks_index.specs.Indexes.{picked}
 use Rattle.ks_index.proofs.PickLemmas.{empty_picked, picked_is}
 use Rattle.ks_index.proofs.runs.ids_at.Goals as goal
 

@@ -1,4 +1,4 @@
-use Rattle.std.proofs.Common.{◌≡◌, ◌<◌, ℕ, Some, get_or, length, sym, ap, subst, ◌∙◌, arith}
+use Rattle.std.proofs.Common.{◌<◌, ℕ, Some, get_or, length, sym, ap, subst, ◌∙◌, arith}
 use Rattle.ks_base.specs.Tables.{id_cmp, IsAscending, find_row}
 use Rattle.ks_base.proofs.PlaceLemmas.{find_found, find_gap}
 use Rattle.ks_index.specs.Indexes.{picked}
