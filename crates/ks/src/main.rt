@@ -4,6 +4,7 @@
 #![tactic(auto)]
 
 ghost use Rattle.std.specs.Prelude.{◌<◌, IfOk, length};
+ghost use Rattle.ks_keeper.specs.Keeper.{IsTidy};
 
 mod book;
 mod listening;
@@ -14,22 +15,25 @@ mod standard_streams;
 mod teller;
 mod threads;
 
-use book::{book_of, path_of_book};
+use book::{CommandBook, book_of, path_of_book};
 use ks_base::{Memory, Text};
 use ks_commands::Fault;
+use ks_keeper::Keeper;
 use ks_outside::{Folder, RealSink, RealSource};
 use ks_pool::{Log, Pool, RealDesk};
-use ks_top::{Ended, run};
+use ks_top::run;
 use ks_words::{Words, read_words};
 use listening::{desks, listen};
 use log_file::open_log;
 use modes::may_open;
 use opening_file::OpeningFile;
-use std::env;
 use std::fs::File;
 use std::io::ErrorKind;
+use std::net::Net;
 use std::process::ExitCode;
-use std::rt::Env;
+use std::rt::{Clock, Env, Files};
+use std::sync::Wait;
+use std::{env, io};
 use teller::{Teller, path_of};
 use threads::can_run;
 
@@ -76,10 +80,10 @@ fn out_of_threads<R: Eprint>(rt: &R, workers: u32) -> ExitCode {
     ExitCode::from(Fault::Memory.status())
 }
 
-/// Says that there was no memory to begin.
-fn out_of_memory<R: Eprint>(rt: &R) -> ExitCode {
-    teller::tell(rt, &Fault::Memory);
-    ExitCode::from(Fault::Memory.status())
+/// Says why the program ends before its command began.
+fn failed<R: Eprint>(rt: &R, fault: &Fault) -> ExitCode {
+    teller::tell(rt, fault);
+    ExitCode::from(fault.status())
 }
 
 /// The log that the command names, if it names one. Where it can't be opened one line says so, and the status is that of an
@@ -106,68 +110,98 @@ fn opened(rt: &HostRuntime, path: &str) -> Option<File> {
     File::open(rt, path).ok()
 }
 
+/// How many workers the command asks for, one where it serves none.
+fn workers_of(command: &Words) -> u32 {
+    match command.serving() {
+        Some(serving) => serving.workers,
+        None => 1,
+    }
+}
+
+/// Says why the command did not end whole. Where there is no memory for the place, it is told without it.
+fn tell_at<R: AllocGlobal + Files + Eprint>(rt: &R, teller: &Teller<'_>, fault: &Fault) {
+    if teller.tell(rt, fault).is_err() {
+        teller::tell(rt, fault);
+    }
+}
+
+/// What a command works with.
+struct Prepared {
+    log: Option<Log>,
+    /// The opening file, where it could be opened.
+    opened: Option<File>,
+    keeper: CommandBook,
+}
+
+/// Opens what the command names. `Err` has the status with which the program ends, where that can't be.
+fn prepare(rt: &HostRuntime, command: &Words, file: &str, book: &str) -> Result<Prepared, ExitCode>
+    ensures { IfOk result (λ made. ⟦<CommandBook as Keeper>⟧.whole made.keeper → IsTidy (⟦<CommandBook as Keeper>⟧.kept made.keeper)) }
+{
+    let log = log_of(rt, command)?;
+    let opened = opened(rt, file);
+    let keeper = book_of(rt, command, book, opened.is_some())?;
+    Ok(Prepared {
+        log,
+        opened,
+        keeper,
+    })
+}
+
+/// The pool of a command that serves, which listens from now on, or why none does.
+fn pool_of<R: Net + Clock + Wait + AllocGlobal>(
+    rt: &R,
+    command: &Words,
+    log: Option<Log>,
+) -> (Option<Pool>, Option<io::Error>) {
+    let Some(serving) = command.serving() else {
+        return (None, None);
+    };
+    match listen(rt, path_of(command.address()), serving.workers, log) {
+        Ok(pool) => (Some(pool), None),
+        Err(error) => (None, Some(error)),
+    }
+}
+
 fn main(rt: HostRuntime) -> ExitCode {
     if !standard_streams::hold() {
-        teller::tell(&rt, &Fault::Write);
-        return ExitCode::from(Fault::Write.status());
+        return failed(&rt, &Fault::Write);
     }
     let words = match words(&rt) {
         Ok(words) => words,
-        Err(fault) => {
-            teller::tell(&rt, &fault);
-            return ExitCode::from(fault.status());
-        }
+        Err(fault) => return failed(&rt, &fault),
     };
     let Ok(command) = read_words(rt.alloc(), words.as_slice()) else {
-        return out_of_memory(&rt);
+        return failed(&rt, &Fault::Memory);
     };
-    let file = path_of(command.file());
-    let folder = path_of(command.folder());
-    let address = path_of(command.address());
-    let workers = match command.serving() {
-        Some(places) => places.workers,
-        None => 1,
-    };
+    let workers = workers_of(&command);
     if !can_run(&rt, workers) {
         return out_of_threads(&rt, workers);
     }
-    let log = match log_of(&rt, &command) {
-        Ok(log) => log,
-        Err(status) => return status,
-    };
+    let file = path_of(command.file());
+    let folder = path_of(command.folder());
     let Ok(book) = path_of_book(rt.alloc(), file) else {
-        return out_of_memory(&rt);
+        return failed(&rt, &Fault::Memory);
     };
-    let opened = opened(&rt, file);
-    let keeper = match book_of(&rt, &command, book.as_str(), opened.is_some()) {
-        Ok(keeper) => keeper,
+    let Prepared {
+        log,
+        opened,
+        keeper,
+    } = match prepare(&rt, &command, file, book.as_str()) {
+        Ok(prepared) => prepared,
         Err(status) => return status,
+    };
+    if command.serving().is_some() {
+        modes::tell(&rt, file, book.as_str(), folder);
+    }
+    let (pool, unbound) = pool_of(&rt, &command, log);
+    let Ok((mut dir, desks)) = places(&rt, folder, pool.as_ref(), workers) else {
+        return failed(&rt, &Fault::Memory);
     };
     let mut source = OpeningFile::new(opened);
-    let listening = match command.serving() {
-        Some(_) => {
-            modes::tell(&rt, file, book.as_str(), folder);
-            Some(listen(&rt, address, workers, log))
-        }
-        None => None,
-    };
-    let (pool, unbound) = match listening {
-        Some(Ok(pool)) => (Some(pool), None),
-        Some(Err(error)) => (None, Some(error)),
-        None => (None, None),
-    };
-    let Ok((mut dir, desks)) = places(&rt, folder, pool.as_ref(), workers) else {
-        return out_of_memory(&rt);
-    };
     let mut input = RealSource::new(rt.stdin());
     let mut output = RealSink::new(rt.stdout());
     // Only over the runtime itself may desks go to threads.
-    let Ended {
-        status,
-        fault,
-        state,
-        ..
-    } = run(
+    let ended = run(
         &rt,
         words.as_slice(),
         &mut input,
@@ -177,20 +211,17 @@ fn main(rt: HostRuntime) -> ExitCode {
         desks,
         keeper,
     );
-    if let Some(fault) = &fault {
+    if let Some(fault) = &ended.fault {
         let teller = Teller {
             file,
             book: book.as_str(),
             folder,
-            address,
+            address: path_of(command.address()),
             has_failed: source.has_failed(),
             unbound,
-            is_open: state.is_some(),
+            is_open: ended.state.is_some(),
         };
-        // Where there is no memory for the place, the status stays, and the fault is told without it.
-        if teller.tell(&rt, fault).is_err() {
-            teller::tell(&rt, fault);
-        }
+        tell_at(&rt, &teller, fault);
     }
-    ExitCode::from(status)
+    ExitCode::from(ended.status)
 }
