@@ -8,8 +8,10 @@ import json
 import sys
 import tempfile
 
-import talk
+# Before talk, which names tests/, where another tables.py is.
 from tables import asked, opened, request
+
+import talk
 
 SIZES = [(0, 0), (5, 15), (40, 120), (1_024, 8_192)]
 URL = "http://cloud.example:8774/v2.1/$(project_id)s"

@@ -5,7 +5,8 @@
     tests/instructions.py --keep    writes the counts of this run as the figures
 
 The figures stand in bench/instructions.txt: the instructions of a line of `check` and of a request of `talk`, of a validation and of
-listings of grants also among 10,000 users with 100,000 grants, and the most bytes that the program had asked for and not given back.
+listings of grants also among 10,000 users with 100,000 grants, of a validation whose token has a large catalog, and the most bytes that
+the program had asked for and not given back.
 Instructions come of two runs under valgrind over the same line or request, of which the second has more of them, so that the beginning
 and the end of a run do not count. Such counts repeat exactly on one machine. Where there is no valgrind, nothing is counted. The program
 is bin/ks of this repository; the environment's KS names another.
@@ -26,6 +27,7 @@ from served import fresh
 TOP = os.path.dirname(os.path.dirname(os.path.abspath(__file__)))
 # Before tests/, which has a tables.py too.
 sys.path.insert(0, os.path.join(TOP, "bench"))
+import catalog
 import tables
 import talk
 
@@ -45,19 +47,22 @@ with open(os.path.join(TOP, "examples", "check.txt"), "rb") as file:
     KEY, *LINES = file.read().splitlines(keepends=True)
 
 
-def many_rows():
-    """An opening file with 10,000 users and 100,000 grants. It goes when the script ends."""
+def written(opening):
+    """An opening file. It goes when the script ends."""
     folder = tempfile.mkdtemp()
     atexit.register(shutil.rmtree, folder, ignore_errors=True)
-    path = os.path.join(folder, "many.json")
+    path = os.path.join(folder, "opening.json")
     with open(path, "w", encoding="utf-8") as out:
-        json.dump(tables.opening(10_000, 100_000, 0)[0], out, separators=(",", ":"))
+        json.dump(opening, out, separators=(",", ":"))
     return path
 
 
-MANY = many_rows()
+TOLD, _, USERS, PROJECTS, _ = tables.opening(10_000, 100_000, 0)
+MANY = written(TOLD)
+CLOUD = written(catalog.opening(40, 120))
 # Listings of the grants of one user and at one project.
-GRANTS = b"".join(tables.request("GET", f"/v3/role_assignments?{of}", talk.sealed()) for of in ("user.id=u1", "scope.project.id=p99"))
+GRANTED = f"user.id={USERS[1]}", f"scope.project.id={PROJECTS[-1]}"
+GRANTS = b"".join(tables.request("GET", f"/v3/role_assignments?{of}", talk.sealed()) for of in GRANTED)
 
 # Runs whose instructions are counted: the words of the command line, what stands in front, what is repeated, how often in both
 # runs, and the names of the counts, each with the front of the names of the functions that count.
@@ -70,6 +75,7 @@ INSTRUCTIONS = [
     (TALK, b"", BODY, 100, 600, {"talk: a body of 4,000 bytes": ""}),
     (TALK, b"", talk.validation(talk.sealed()), 50, 250, {"talk: a validation": ""}),
     (["talk", MANY, "keys"], b"", talk.validation(talk.sealed()), 50, 250, {"talk: a validation among 100,000 grants": ""}),
+    (["talk", CLOUD, "keys"], b"", talk.validation(talk.sealed()), 50, 250, {"talk: a validation with 120 endpoints": ""}),
     (["talk", MANY, "keys"], b"", GRANTS, 50, 250, {"talk: the grants of a user and those at a project, of 100,000": ""}),
 ]
 # Runs whose memory is counted.
@@ -83,7 +89,7 @@ TUNABLES = "glibc.cpu.hwcaps=-ERMS,-FSRM,-AVX2,-AVX2_Usable,-AVX512F,-AVX512F_Us
 
 def begun(words):
     """The words, with an opening file of which nothing is kept yet."""
-    return [fresh(word) if word in (OPENING, MANY) else word for word in words]
+    return [fresh(word) if word in (OPENING, MANY, CLOUD) else word for word in words]
 
 
 def program():

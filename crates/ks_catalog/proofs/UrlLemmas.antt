@@ -1,6 +1,6 @@
 -- URLs with an id in each place, byte by byte; and that they are texts.
-use Rattle.std.proofs.Common.{◌≡◌, ℕ, zero, suc, ◌+◌, ◌-◌, ◌/◌, ◌%◌, ◌<◌, ◌≤◌, Bool, true, false, cond, ◌&&◌, ◌||◌, ◌==◌, List, [], ◌∷◌, ◌++◌, length, take, drop, Option, Some, None, option_map, refl, sym, ap, subst, ◌∙◌, arith, sub-one}
-use Rattle.std.specs.Prelude.{IsUtf8, codes, nat_eq, nat_lt, encode_utf8_all}
+use Rattle.std.proofs.Common.{◌≡◌, ℕ, zero, suc, ◌+◌, ◌/◌, ◌%◌, ◌<◌, ◌≤◌, Bool, true, false, cond, ◌&&◌, ◌||◌, ◌==◌, List, [], ◌∷◌, ◌++◌, length, take, drop, Option, Some, None, option_map, refl, sym, ap, subst, ◌∙◌, arith}
+use Rattle.std.specs.Prelude.{IsUtf8, codes, get_or, is_some, nat_eq, nat_lt, encode_utf8_all}
 use Rattle.std.specs.List.{AllByRecursion, list_all, starts_with}
 use Rattle.std.specs.Option.{option_map_or}
 use Rattle.std.proofs.Math.Utf8.{encode, scalar, scalars}
@@ -9,7 +9,10 @@ use Rattle.std.proofs.lemmas.Slice.Eq.{starts_is}
 use Rattle.std.proofs.lemmas.Str.{IsUtf8-append, IsUtf8-encode, IsUtf8-nil, encode_ascii, length-encode, len_utf8_bounds}
 use Rattle.ks_base.specs.Ids.{IsId}
 use Rattle.ks_base.proofs.IdLemmas.{id_is_utf8}
-use Rattle.ks_catalog.specs.Urls.{filled, filled_behind, is_mark, name_length, place_length}
+use Rattle.ks_catalog.specs.Urls.{filled, filled_behind, has_place, is_mark, name_length, place_length}
+use Rattle.ks_catalog.specs.steps.Places.{IsFirstPlace, IsPlain}
+use Rattle.std.proofs.lemmas.List.{append-nil, append_assoc, drop_more, drop-drop, length-drop, take_all, take_more}
+use Rattle.std.proofs.Math.ListN.{drop_of_length-le}
 
 abbrev is_low : ℕ → Bool
 is_low b = nat_lt b 128
@@ -36,10 +39,6 @@ unfolding filled_behind
 nothing_left zero id = refl
 nothing_left (suc n) id = refl
 
-pub nothing_behind : (left : ℕ) (id rest : List ℕ) → length rest ≡ 0 → filled_behind left id rest ≡ []
-nothing_behind left id [] none = nothing_left left id
-nothing_behind left id (b ∷ rest) none = absurd (omega arith)
-
 within_place : (n : ℕ) (id : List ℕ) (b : ℕ) (bytes : List ℕ) → filled_behind (suc n) id (b ∷ bytes) ≡ filled_behind n id bytes
 unfolding filled_behind
 within_place n id b bytes = refl
@@ -49,19 +48,65 @@ at_byte : (id : List ℕ) (b : ℕ) (bytes : List ℕ) (place : Option ℕ) → 
 unfolding filled_behind
 at_byte id b bytes place is = ap (λ (p : Option ℕ). option_map_or (λ left. id ++ filled_behind left id bytes) p (b ∷ filled_behind zero id bytes)) is
 
-pub lies_in_place : (left : ℕ) (id : List ℕ) (b : ℕ) (bytes : List ℕ) → 0 < left → filled_behind left id (b ∷ bytes) ≡ filled_behind (left - 1) id bytes
-lies_in_place zero id b bytes some = absurd (omega arith)
-lies_in_place (suc left) id b bytes some = within_place left id b bytes ∙ ap (λ k. filled_behind k id bytes) (sym (sub-one (suc left)))
+-- ---- the first place
 
-pub begins_place : (left : ℕ) (id : List ℕ) (b : ℕ) (bytes : List ℕ) (n : ℕ) → left ≤ 0 → place_length b bytes ≡ Some n →
-    filled_behind left id (b ∷ bytes) ≡ id ++ filled_behind n id bytes
-begins_place zero id b bytes n none is = at_byte id b bytes (Some n) is
-begins_place (suc left) id b bytes n none is = absurd (omega arith)
+-- behind a place the text goes on
+behind_place : (n : ℕ) (id bytes : List ℕ) → filled_behind n id bytes ≡ filled id (drop n bytes)
+behind_place zero id bytes = refl
+behind_place (suc n) id [] = nothing_left (suc n) id ∙ sym (nothing_left zero id)
+behind_place (suc n) id (b ∷ bytes) = within_place n id b bytes ∙ behind_place n id bytes
 
-pub stands_for_itself : (left : ℕ) (id : List ℕ) (b : ℕ) (bytes : List ℕ) → left ≤ 0 → place_length b bytes ≡ None →
-    filled_behind left id (b ∷ bytes) ≡ b ∷ filled_behind zero id bytes
-stands_for_itself zero id b bytes none is = at_byte id b bytes None is
-stands_for_itself (suc left) id b bytes none is = absurd (omega arith)
+has_at : (b : ℕ) (bytes : List ℕ) (place : Option ℕ) → place_length b bytes ≡ place → has_place (b ∷ bytes) ≡ (is_some place || has_place bytes)
+unfolding has_place
+has_at b bytes place is = ap (λ (p : Option ℕ). is_some p || has_place bytes) is
+
+-- no place begins among so many bytes
+pub record IsPassed (at : ℕ) (url : List ℕ) : Type 0 where
+  pub has : has_place url ≡ has_place (drop at url)
+  pub fills : (id : List ℕ) → filled id url ≡ take at url ++ filled id (drop at url)
+
+pub one_passed : (at : ℕ) (url : List ℕ) → at < length url → IsPassed at url → None ≡ place_length (get_or url at 0) (drop (at + 1) url) →
+    IsPassed (at + 1) url
+one_passed at url within passed none =
+    let b = get_or url at 0 in
+    let rest = drop (at + 1) url in
+    let here : drop at url ≡ b ∷ rest = drop_more url at 0 within in
+    let more : take (at + 1) url ≡ take at url ++ b ∷ [] = take_more url at 0 within in
+    record {
+      has = passed.has ∙ ap has_place here ∙ has_at b rest None (sym none);
+      fills = λ id.
+          passed.fills id ∙ ap (λ (bytes : List ℕ). take at url ++ filled id bytes) here
+          ∙ ap (λ (bytes : List ℕ). take at url ++ bytes) (at_byte id b rest None (sym none))
+          ∙ sym (ap (λ (before : List ℕ). before ++ filled id rest) more ∙ append_assoc (take at url) (b ∷ []) (filled id rest));
+    }
+
+pub place_found : (at : ℕ) (url : List ℕ) (n : ℕ) → at < length url → IsPassed at url → Some n ≡ place_length (get_or url at 0) (drop (at + 1) url) →
+    n ≤ length (drop (at + 1) url) → IsFirstPlace (at, at + 1 + n) url
+place_found at url n within passed is long =
+    let b = get_or url at 0 in
+    let rest = drop (at + 1) url in
+    let here : drop at url ≡ b ∷ rest = drop_more url at 0 within in
+    record {
+      some = omega arith;
+      within = omega (arith, length-drop (at + 1) url, long);
+      stands = passed.has ∙ ap has_place here ∙ has_at b rest (Some n) (sym is);
+      fills = λ id.
+          passed.fills id ∙ ap (λ (bytes : List ℕ). take at url ++ filled id bytes) here
+          ∙ ap (λ (bytes : List ℕ). take at url ++ bytes)
+          (at_byte id b rest (Some n) (sym is) ∙ ap (λ (bytes : List ℕ). id ++ bytes) (behind_place n id rest ∙ ap (filled id) (drop-drop n (at + 1) url)));
+    }
+
+pub all_passed : (at : ℕ) (url : List ℕ) → length url ≤ at → IsPassed at url → IsPlain url
+unfolding has_place
+all_passed at url past passed =
+    let nothing : drop at url ≡ [] = drop_of_length-le url {i = at} past in
+    record {
+      none = passed.has ∙ ap has_place nothing;
+      stays = λ id.
+          passed.fills id ∙ ap (λ (bytes : List ℕ). take at url ++ filled id bytes) nothing
+          ∙ ap (λ (bytes : List ℕ). take at url ++ bytes) (nothing_left zero id)
+          ∙ append-nil (take at url) ∙ take_all at url past;
+    }
 
 -- ---- a place is ASCII
 

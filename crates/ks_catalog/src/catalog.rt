@@ -2,6 +2,8 @@ ghost use Rattle.std.specs.Prelude.{◌≡◌, [], option_copied};
 ghost use Rattle.ks_base.specs.Catalog.{region_of, service_of, endpoint_of};
 ghost use Rattle.ks_base.specs.Tables.{id_cmp, IsAscending};
 
+use crate::offers::ServiceOutList;
+use crate::shared::Shared;
 use ks_base::{Boxed, EndpointRow, Id, IdTable, RegionRow, ServiceRow};
 use std::alloc::Global;
 use std::marker::Model;
@@ -12,6 +14,8 @@ pub struct Catalog {
     pub(crate) regions: IdTable<RegionRow>,
     pub(crate) services: IdTable<ServiceRow>,
     pub(crate) endpoints: IdTable<EndpointRow>,
+    /// What all projects are offered of these; none, where it was not made since a service or an endpoint changed.
+    pub(crate) offers: Option<Shared<ServiceOutList>>,
 }
 
 impl Drop for Catalog {
@@ -21,16 +25,21 @@ impl Drop for Catalog {
             regions: _,
             services: _,
             endpoints: _,
+            offers: _,
         } = self;
     }
 }
 
 impl Model for Catalog {
+    ghost use Rattle.std.specs.Prelude.{◌≡◌, IfSome};
     ghost use Rattle.ks_base.specs.Catalog.{CatalogState};
+    ghost use Rattle.ks_catalog.specs.Offers.{offers_of};
 
     ghost Value = { CatalogState };
 
     ghost view = { λ all. record { regions = all.regions; services = all.services; endpoints = all.endpoints } };
+
+    ghost invariant = { λ all. IfSome all.offers (λ offers. offers ≡ offers_of all.endpoints all.services) };
 }
 
 impl Catalog {
@@ -43,6 +52,7 @@ impl Catalog {
             regions: IdTable::new(alloc),
             services: IdTable::new(alloc),
             endpoints: IdTable::new(alloc),
+            offers: None,
         }
     }
 
@@ -60,6 +70,7 @@ impl Catalog {
             regions,
             services,
             endpoints,
+            offers: None,
         }
     }
 

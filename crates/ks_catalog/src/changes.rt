@@ -67,6 +67,7 @@ impl Catalog {
         ensures { Changes CatalogFault.Memory (add_service_fault self.old row) self.old (with_service row self.old) result self.new }
     {
         self.may_add_service(&row)?;
+        self.offers = None;
         self.services.put(row)?;
         Ok(())
     }
@@ -78,6 +79,7 @@ impl Catalog {
         ensures { Changes CatalogFault.Memory (add_endpoint_fault self.old row) self.old (with_endpoint row self.old) result self.new }
     {
         self.may_add_endpoint(&row)?;
+        self.offers = None;
         self.endpoints.put(row)?;
         Ok(())
     }
@@ -103,6 +105,7 @@ impl Catalog {
         ensures memory { result ≢ Err CatalogFault.Memory }
     {
         self.may_set_service(&row)?;
+        self.offers = None;
         self.services.put(row)?;
         Ok(())
     }
@@ -115,6 +118,7 @@ impl Catalog {
         ensures memory { result ≢ Err CatalogFault.Memory }
     {
         self.may_set_endpoint(&row)?;
+        self.offers = None;
         self.endpoints.put(row)?;
         Ok(())
     }
@@ -137,6 +141,7 @@ impl Catalog {
         ensures memory { result ≢ Err CatalogFault.Memory }
     {
         self.service_stands(id)?;
+        self.offers = None;
         self.services.remove(id);
         self.endpoints.keep(&OfOthers { service: id });
         Ok(())
@@ -148,6 +153,7 @@ impl Catalog {
         ensures memory { result ≢ Err CatalogFault.Memory }
     {
         self.endpoint_stands(id)?;
+        self.offers = None;
         self.endpoints.remove(id);
         Ok(())
     }

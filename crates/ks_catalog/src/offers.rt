@@ -1,12 +1,12 @@
-ghost use Rattle.std.specs.Prelude.{◌≡◌, ◌++◌, length, map, option_copied, option_to_list, IfOk, OnOk};
+//! What all projects are offered, before the id of one stands in the URLs.
+ghost use Rattle.std.specs.Prelude.{◌≡◌, ◌∷◌, [], ◌++◌, length, map, IfOk, OnOk};
 ghost use Rattle.std.specs.List.Sorted.{IsSearchInRange};
 ghost use Rattle.ks_base.specs.Places.{IsPlace};
 ghost use Rattle.ks_base.specs.Tables.{id_cmp, IsAscending};
-ghost use Rattle.ks_catalog.specs.ProjectCatalog.{catalog_of, endpoint_out, services_out};
+ghost use Rattle.ks_catalog.specs.ProjectCatalog.{endpoint_at};
+ghost use Rattle.ks_catalog.specs.Offers.{offers_of};
 ghost use Rattle.ks_catalog.specs.steps.Offers.{bare_services, with_endpoint};
 
-use crate::Catalog;
-use crate::urls::filled_url;
 use ks_base::{Boxed, EndpointRow, Id, Interface, ListOf, Memory, ServiceRow, Text};
 use std::alloc::Global;
 
@@ -16,7 +16,7 @@ pub struct EndpointOut {
     pub id: Id,
     pub interface: Interface,
     pub region: Option<Id>,
-    /// Its URL, with the id of the token's project in each place.
+    /// Its URL; in an offer to all projects with places for a project's id.
     pub url: Text,
 }
 
@@ -36,38 +36,24 @@ pub struct ServiceOut {
 /// Services, each in its place.
 pub type ServiceOutList = ListOf<ServiceOut>;
 
-/// The endpoint with its URL filled, where it fills.
-#[tactic(auto, unfolding(crate::specs::ProjectCatalog::endpoint_out))]
-fn endpoint_out(
-    alloc: Global,
-    row: &EndpointRow,
-    project: &Option<Id>,
-) -> Result<Option<EndpointOut>, Memory>
-    ensures { IfOk result (λ made. made ≡ endpoint_out project.now row.now) }
+/// The endpoint, with its URL as it stands.
+fn endpoint_offered(row: &EndpointRow) -> Result<EndpointOut, Memory>
+    ensures { IfOk result (λ made. made ≡ endpoint_at row.now row.now.url) }
 {
-    match filled_url(alloc, &row.url, project)? {
-        Some(url) => Ok(Some(EndpointOut {
-            id: row.id,
-            interface: row.interface,
-            region: row.region,
-            url,
-        })),
-        None => Ok(None),
-    }
+    Ok(EndpointOut {
+        id: row.id,
+        interface: row.interface,
+        region: row.region,
+        url: row.url.copy()?,
+    })
 }
 
-fn push_endpoint(
-    made: &mut EndpointOutList,
-    alloc: Global,
-    row: &EndpointRow,
-    project: &Option<Id>,
-) -> Result<(), Memory>
-    ensures { OnOk result (made.new ≡ made.old ++ option_to_list (endpoint_out project.now row.now)) }
+/// Offers an endpoint behind the others of its service.
+fn push_endpoint(made: &mut EndpointOutList, row: &EndpointRow) -> Result<(), Memory>
+    ensures { OnOk result (made.new ≡ made.old ++ endpoint_at row.now row.now.url ∷ []) }
 {
-    match endpoint_out(alloc, row, project)? {
-        Some(endpoint) => made.push(endpoint),
-        None => Ok(()),
-    }
+    let endpoint = endpoint_offered(row)?;
+    made.push(endpoint)
 }
 
 /// The place of the service with this id, or the one where it belongs.
@@ -79,26 +65,21 @@ fn place(services: &[ServiceOut], id: &Id) -> Result<usize, usize>
     services.binary_search_by(|service| service.id.cmp(id))
 }
 
-/// Tells an enabled endpoint behind the others of its service, where that is among these and the URL fills.
-fn add_endpoint(
-    services: &mut [ServiceOut],
-    alloc: Global,
-    row: &EndpointRow,
-    project: &Option<Id>,
-) -> Result<(), Memory>
+/// Offers an enabled endpoint behind the others of its service, where that is among these.
+fn add_endpoint(services: &mut [ServiceOut], row: &EndpointRow) -> Result<(), Memory>
     requires { IsAscending id_cmp (λ service. service.id) services.old }
-    ensures { OnOk result (services.new ≡ map (with_endpoint project.now row.now) services.old) }
+    ensures { OnOk result (services.new ≡ map (with_endpoint row.now) services.old) }
 {
     if !row.enabled {
         return Ok(());
     }
     match place(services, &row.service) {
-        Ok(at) => push_endpoint(&mut services[at].endpoints, alloc, row, project),
+        Ok(at) => push_endpoint(&mut services[at].endpoints, row),
         Err(_) => Ok(()),
     }
 }
 
-/// The enabled services, in the order of their ids, before any endpoint is told.
+/// The enabled services, in the order of their ids, before any endpoint is offered.
 fn bare_services(alloc: Global, rows: &[Boxed<ServiceRow>]) -> Result<Vec<ServiceOut>, Memory>
     ensures { IfOk result (λ made. made.items ≡ bare_services rows.now) }
 {
@@ -117,37 +98,18 @@ fn bare_services(alloc: Global, rows: &[Boxed<ServiceRow>]) -> Result<Vec<Servic
     Ok(made)
 }
 
-/// The enabled services, in the order of their ids, each with its endpoints. Each endpoint is looked at once.
-fn services_out(
+/// The enabled services, in the order of their ids, each with its enabled endpoints. Each endpoint is looked at once.
+pub(crate) fn offers_of(
     alloc: Global,
     rows: &[Boxed<ServiceRow>],
     endpoints: &[Boxed<EndpointRow>],
-    project: &Option<Id>,
 ) -> Result<ServiceOutList, Memory>
     requires { IsAscending id_cmp (λ row. row.id) rows.now }
-    ensures { IfOk result (λ made. made ≡ services_out project.now endpoints.now rows.now) }
+    ensures { IfOk result (λ made. made ≡ offers_of endpoints.now rows.now) }
 {
     let mut made = bare_services(alloc, rows)?;
     for row in endpoints {
-        add_endpoint(made.as_mut_slice(), alloc, row.get(), project)?;
+        add_endpoint(made.as_mut_slice(), row.get())?;
     }
     Ok(ServiceOutList::from_vec(made))
-}
-
-impl Catalog {
-    /// The catalog of a project: the enabled services, in the order of their ids, each with its enabled endpoints, in
-    /// the order of theirs, whose URL fills. A URL fills by the project's id in the place of each `$(project_id)s`,
-    /// `%(project_id)s`, `$(tenant_id)s` and `%(tenant_id)s`; without a project one with such a place does not.
-    #[tactic(auto, unfolding(crate::specs::ProjectCatalog::catalog_of))]
-    pub fn listed(&self, project: Option<&Id>) -> Result<ServiceOutList, Memory>
-        ensures { IfOk result (λ services. services ≡ catalog_of self.now (option_copied project.entry)) }
-    {
-        let project = project.copied();
-        services_out(
-            self.alloc,
-            self.services.rows(),
-            self.endpoints.rows(),
-            &project,
-        )
-    }
 }

@@ -10,7 +10,7 @@ ghost use Rattle.ks_machine.specs.Validity.{is_scoped};
 use crate::names::{homed_project, homed_user, titled_domain, titled_roles};
 use ks_auth::{Tables, is_system};
 use ks_base::{Id, IdList, Memory, Text};
-use ks_catalog::ServiceOutList;
+use ks_catalog::ProjectCatalog;
 use ks_machine::{Homed, Titled, TitledList, TokenOut, TrustUse};
 use ks_payload::Payload;
 use std::alloc::Global;
@@ -114,7 +114,7 @@ fn roles_told(
 }
 
 /// The services of its scope, where the token has one.
-pub fn catalog_told(tables: &Tables, payload: &Payload) -> Result<Option<ServiceOutList>, Memory>
+pub fn catalog_told(tables: &Tables, payload: &Payload) -> Result<Option<ProjectCatalog>, Memory>
     ensures { IfOk result (λ told. told ≡ catalog_with (rows_told tables.now) payload.now) }
 {
     if is_scoped(payload) {

@@ -8,7 +8,7 @@ ghost use Rattle.ks_checks.specs.Plans.{Plans, valid_of};
 
 use ks_auth::Tables;
 use ks_base::{Memory, Text};
-use ks_catalog::ServiceOutList;
+use ks_catalog::ProjectCatalog;
 use ks_checks::told::catalog_told;
 use ks_checks::{Caller, Halt, Plan};
 use ks_machine::BodyOut;
@@ -16,12 +16,12 @@ use ks_payload::Payload;
 use std::alloc::Global;
 
 /// The services of the scope; without a scope there are none.
-fn services_of(alloc: Global, tables: &Tables, payload: &Payload) -> Result<ServiceOutList, Memory>
+fn services_of(alloc: Global, tables: &Tables, payload: &Payload) -> Result<ProjectCatalog, Memory>
     ensures { IfOk result (λ services. services ≡ unwrap_or (catalog_with (rows_told tables.now) payload.now) []) }
 {
     match catalog_told(tables, payload)? {
         Some(services) => Ok(services),
-        None => Ok(ServiceOutList::new(alloc)),
+        None => ProjectCatalog::empty(alloc),
     }
 }
 

@@ -7,7 +7,7 @@ use ks_base::{
     ListOf, Memory, ProjectRow, RegionRow, RoleList, RoleRow, SecretRow, ServiceRow, Text,
     TrustRow, TryCopy, UserRow,
 };
-use ks_catalog::ServiceOutList;
+use ks_catalog::ProjectCatalog;
 use std::alloc::Global;
 
 /// An id and the name that goes with it.
@@ -68,7 +68,7 @@ pub struct TokenOut {
     /// Whether it is for the whole system.
     pub system: bool,
     /// The services of its scope. None exactly where the token has no scope.
-    pub catalog: Option<ServiceOutList>,
+    pub catalog: Option<ProjectCatalog>,
 }
 
 impl Drop for TokenOut {
@@ -154,7 +154,7 @@ pub enum BodyOut {
     /// The indices of the keys that are held, rising, and the one that seals.
     Keys(IndexList, u32),
     /// The services of the caller's scope.
-    Catalog(ServiceOutList, Text),
+    Catalog(ProjectCatalog, Text),
     /// A new application credential, its roles with their names, and its secret, which is told this once.
     AppCredMade(Boxed<AppCredRow>, TitledList, Text),
     AppCreds(RowList, Text),

@@ -6,6 +6,7 @@ ghost use Rattle.ks_render.specs.Bodies.{body_of, granted_body, text_of, tokens_
 ghost use Rattle.ks_render.specs.Errors.{bad_body};
 ghost use Rattle.ks_render.specs.steps.Writing.{Lists};
 
+use crate::catalog::{catalog_size, write_catalog_then_links};
 use crate::credentials::write_app_cred_made;
 use crate::errors::{write_bad, write_refused};
 use crate::listings::{
@@ -17,7 +18,6 @@ use crate::tokens::write_token;
 use crate::version::write_version;
 use json::Writer;
 use ks_base::{Bytes, Memory, Text};
-use ks_catalog::ServiceOutList;
 use ks_http::HttpCause;
 use ks_machine::{BodyOut, Reply, TokenOut};
 use std::alloc::{AllocError, Global};
@@ -33,22 +33,13 @@ fn room_for(count: usize) -> usize {
     ROOM + count.min(4096) * 256
 }
 
-/// How many services and endpoints a catalog has, together.
-fn catalog_size(services: &ServiceOutList) -> usize {
-    let mut size = services.as_slice().len();
-    for service in services.as_slice() {
-        size = size.saturating_add(service.endpoints.as_slice().len());
-    }
-    size
-}
-
 fn token_room(told: &TokenOut) -> usize {
     let roles = match &told.roles {
         Some(roles) => roles.as_slice().len(),
         None => 0,
     };
     let offers = match &told.catalog {
-        Some(services) => catalog_size(services),
+        Some(catalog) => catalog_size(catalog),
         None => 0,
     };
     room_for(roles.saturating_add(offers))
@@ -70,7 +61,7 @@ fn granted_room(granted: &BodyOut) -> usize {
         BodyOut::TrustRoles(roles, _) => room_for(roles.as_slice().len()),
         BodyOut::Events(events, _) => room_for(events.as_slice().len()),
         BodyOut::Keys(_, _) => ROOM,
-        BodyOut::Catalog(services, _) => room_for(catalog_size(services)),
+        BodyOut::Catalog(catalog, _) => room_for(catalog_size(catalog)),
         BodyOut::AppCredMade(_, roles, _) => room_for(roles.as_slice().len()),
         BodyOut::AppCreds(rows, _) => room_for(rows.as_slice().len()),
         BodyOut::Secrets(rows, _) => room_for(rows.as_slice().len()),
@@ -120,9 +111,7 @@ fn write_granted(
             write_rows_then_links(out, "events", events, url, path, link)
         }
         BodyOut::Keys(held, primary) => write_keys(out, held, *primary, url, link),
-        BodyOut::Catalog(services, path) => {
-            write_rows_then_links(out, "catalog", services, url, path, link)
-        }
+        BodyOut::Catalog(catalog, path) => write_catalog_then_links(out, catalog, url, path, link),
         BodyOut::AppCredMade(cred, roles, secret) => {
             write_app_cred_made(out, cred.get(), roles, secret, url, link)
         }

@@ -24,7 +24,8 @@ fn make_url(link: &mut String, url: &Text, path: &Text) -> Result<(), AllocError
     push(link, path.as_str())
 }
 
-fn write_links(
+/// Writes under the name `links` where a listing stands.
+pub fn write_links(
     out: &mut Writer,
     url: &Text,
     path: &Text,

@@ -7,13 +7,13 @@ ghost use Rattle.ks_render.specs.Named.{homed_value, titled_value, titles_value}
 ghost use Rattle.ks_render.specs.Tokens.{audit_ids, audit_value, chain_values, method_values, methods_value, system_entries, system_value, token_body, token_value, trust_use_value, user_told};
 ghost use Rattle.ks_render.specs.steps.Writing.{Enters, Lists, Tells};
 
-use crate::listings::write_rows;
+use crate::catalog::write_catalog;
 use crate::named::{write_homed, write_titled_entry, write_titles};
 use crate::writing::{write_flag, write_id, write_id_object, write_null, write_text, write_time};
 use base64::engine::general_purpose::URL_SAFE_NO_PAD;
 use json::Writer;
 use ks_base::Text;
-use ks_catalog::ServiceOutList;
+use ks_catalog::ProjectCatalog;
 use ks_machine::{Homed, Titled, TitledList, TokenOut, TrustUse};
 use std::alloc::AllocError;
 
@@ -95,16 +95,15 @@ fn write_trust(out: &mut Writer, trust: &Option<TrustUse>) -> Result<(), AllocEr
 }
 
 /// Writes the catalog of a token with a scope.
-fn write_catalog(
+fn write_scope_catalog(
     out: &mut Writer,
-    catalog: &Option<ServiceOutList>,
-    url: &Text,
+    catalog: &Option<ProjectCatalog>,
     link: &mut String,
 ) -> Result<(), AllocError>
     ensures { OnOk result (Enters out.old out.new (entry_of (codes "catalog") services_told catalog.now)) }
 {
     match catalog {
-        Some(services) => write_rows(out, "catalog", services, url, link),
+        Some(catalog) => write_catalog(out, catalog, link),
         None => Ok(()),
     }
 }
@@ -201,7 +200,7 @@ fn write_token_value(
     out.begin_object()?;
     write_trust(out, &told.trust)?;
     write_audit_ids(out, told, link)?;
-    write_catalog(out, &told.catalog, url, link)?;
+    write_scope_catalog(out, &told.catalog, link)?;
     write_domain(out, &told.domain)?;
     write_time(out, "expires_at", told.expires)?;
     write_is_domain(out, &told.project)?;

@@ -10,7 +10,7 @@ use crate::{Decision, Identity};
 use ks_auth::Facts;
 use ks_checks::{Halt, Plan};
 use ks_laws::lawful_fronts_go_on;
-use ks_machine::{Call, moment, restricted_tokens_are_held_back};
+use ks_machine::{Call, Command, moment, restricted_tokens_are_held_back};
 use ks_plan::plan_call;
 
 impl Identity {
@@ -26,9 +26,22 @@ impl Identity {
         // What the machine answers is such that a restricted application credential makes no other, and no trust.
         restricted_tokens_are_held_back();
         lawful_fronts_go_on();
+        self.prepare(call);
         let moment = self.moment_of(call);
         let planned = self.planned(call, facts, moment);
         self.settle(call, facts, moment, planned)
+    }
+
+    /// Makes ready what the call may tell of the catalog.
+    fn prepare(&mut self, call: &Call)
+        ensures { self.new ≡ self.old }
+    {
+        match call.command {
+            Command::Login(_) | Command::Validate(_) | Command::ShowCatalog => self
+                .catalog
+                .prepare(),
+            _ => {}
+        }
     }
 
     /// The moment of the call.
