@@ -15,10 +15,10 @@ mod standard_streams;
 mod teller;
 mod threads;
 
-use book::{CommandBook, book_of, path_of_book};
+use book::{book_of, path_of_book};
 use ks_base::{Memory, Text};
 use ks_commands::Fault;
-use ks_keeper::Keeper;
+use ks_keeper::{Keeper, OptionalBook};
 use ks_outside::{Folder, RealSink, RealSource};
 use ks_pool::{Log, Pool, RealDesk};
 use ks_top::run;
@@ -130,12 +130,12 @@ struct Prepared {
     log: Option<Log>,
     /// The opening file, where it could be opened.
     opened: Option<File>,
-    keeper: CommandBook,
+    keeper: OptionalBook,
 }
 
 /// Opens what the command names. `Err` has the status with which the program ends, where that can't be.
 fn prepare(rt: &HostRuntime, command: &Words, file: &str, book: &str) -> Result<Prepared, ExitCode>
-    ensures { IfOk result (λ made. ⟦<CommandBook as Keeper>⟧.whole made.keeper → IsTidy (⟦<CommandBook as Keeper>⟧.kept made.keeper)) }
+    ensures { IfOk result (λ made. ⟦<OptionalBook as Keeper>⟧.whole made.keeper → IsTidy (⟦<OptionalBook as Keeper>⟧.kept made.keeper)) }
 {
     let log = log_of(rt, command)?;
     let opened = opened(rt, file);

@@ -6,3 +6,4 @@ pub mod ReplaceLemmas
 pub mod FindLemmas
 pub mod KeptLemmas
 pub mod MemoryLemmas
+pub mod SendLemmas

@@ -1,11 +1,11 @@
--- The book of a command may go to another thread.
+-- A book in a file may go to another thread.
 use denote.RattleType.{RattleType}
 use denote.Struct.Declared as declared
 use denote.Struct.Struct.{Struct, Shape}
 use denote.Param.Send.{IsSend, sendable, recorded_send, struct_send, view_send}
 use Rattle.std.proofs.Crossing.{crosses}
-use Rattle.ks.specs.contracts.book.CommandBook as kept
 use Rattle.ks_keeper.specs.contracts.book.Book as book
+use Rattle.ks_keeper.specs.contracts.optional_book.OptionalBook as optional
 use Rattle.sqlite.specs.contracts.cache.Entry as entry
 use Rattle.sqlite.specs.contracts.connection.Connection as connection
 use Rattle.sqlite.specs.contracts.history.History as history
@@ -233,11 +233,11 @@ book_send =
     let of = book.TheInside.the_type (store.the_row disk (modelled_disk.ghosts host.the_row unknown.the_row calls.ghosts modelled_disk.no_dict start.ghosts modelled_disk.no_dict modelled_disk.no_dict)) (store_store.ghosts disk (modelled_disk.ghosts host.the_row unknown.the_row calls.ghosts modelled_disk.no_dict start.ghosts modelled_disk.no_dict modelled_disk.no_dict) store_store.no_dict) in
     view_send (book.TheInside.the_row (store.the_row disk (modelled_disk.ghosts host.the_row unknown.the_row calls.ghosts modelled_disk.no_dict start.ghosts modelled_disk.no_dict modelled_disk.no_dict)) (store_store.ghosts disk (modelled_disk.ghosts host.the_row unknown.the_row calls.ghosts modelled_disk.no_dict start.ghosts modelled_disk.no_dict modelled_disk.no_dict) store_store.no_dict)) _ _ _ _ (recorded_send (Struct book_shape) _ of.to of.to_one book_fields)
 
-abbrev kept_shape : Shape
-kept_shape = declared.shape (kept.the_type)
+abbrev optional_shape : Shape
+optional_shape = declared.shape (optional.the_type)
 
-kept_fields : IsSend (Struct kept_shape)
-kept_fields = struct_send kept_shape (search (book_send, crosses, sendable) depth 40, tt)
+optional_fields : IsSend (Struct optional_shape)
+optional_fields = struct_send optional_shape (search (book_send, crosses, sendable) depth 40, tt)
 
-pub kept_send : IsSend kept.the_row
-kept_send = recorded_send (Struct kept_shape) _ kept.the_type.to kept.the_type.to_one kept_fields
+pub optional_book_send : IsSend optional.the_row
+optional_book_send = recorded_send (Struct optional_shape) _ optional.the_type.to optional.the_type.to_one optional_fields
