@@ -6,7 +6,7 @@ use crate::statements::create;
 use crate::tables::is_book;
 use crate::tidy::{Untidy, untidiness};
 use crate::{Book, Keeper};
-use sqlite::{Connection, Error, ErrorCode, File, FileStore};
+use sqlite::{Alter, Connection, Error, ErrorCode, File, FileStore};
 use std::alloc::AllocError;
 use std::fs::OpenOptions;
 use std::io::ErrorKind;
@@ -108,21 +108,27 @@ impl Book<FileStore<File>> {
     {
         make(rt, path)?;
         let mut conn = Connection::open(rt, path)?;
-        let schema = conn.schema();
-        // A stop may have come before the tables were made.
-        if schema.tables.is_empty() && schema.indexes.is_empty() && schema.views.is_empty() {
-            create(&mut conn)?;
-        }
-        if !is_book(conn.schema()) {
-            return Err(NotBook::OtherTables);
-        }
-        if let Some(why) = untidiness(&mut conn)? {
-            return Err(why.into());
-        }
+        prepare(&mut conn)?;
         match Book::over(rt.alloc(), conn) {
             Ok(book) => Ok(book),
             Err(_) => Err(NotBook::OtherTables),
         }
+    }
+}
+
+/// Makes the tables of a book where there are none, and refuses those of no book and what is not tidy.
+fn prepare<S: Alter>(conn: &mut Connection<S>) -> Result<(), NotBook> {
+    let schema = conn.schema();
+    // A stop may have come before the tables were made.
+    if schema.tables.is_empty() && schema.indexes.is_empty() && schema.views.is_empty() {
+        create(conn)?;
+    }
+    if !is_book(conn.schema()) {
+        return Err(NotBook::OtherTables);
+    }
+    match untidiness(conn)? {
+        Some(why) => Err(why.into()),
+        None => Ok(()),
     }
 }
 
