@@ -18,16 +18,21 @@ SIZES = [(200, 200, 0), (10_000, 10_000, 0), (10_000, 100_000, 0), (60_000, 100_
 PROJECTS = 100
 
 
+def unordered(count):
+    """So many different short ids, in an order that is no order of theirs."""
+    return [f"{number * 0x9E3779B1 % 2 ** 32:08x}" for number in range(1, count + 1)]
+
+
 def opening(users, grants, members):
     """An opening like that of the examples, with more users, groups and projects, and so many grants and memberships among them."""
     with open(talk.O1, encoding="utf-8") as file:
         told = json.load(file)
     admin, role = told["users"][0]["id"], told["roles"][1]["id"]
-    # Short ids, so that the largest opening is one that may be.
-    ids = [f"u{number}" for number in range(users - len(told["users"]))]
-    projects = [f"p{number}" for number in range(PROJECTS)]
-    groups = [f"g{number}" for number in range(PROJECTS)] if members else []
-    told["users"] += [{"id": id, "domain_id": "default", "name": f"user{number}"} for number, id in enumerate(ids)]
+    # In no order, as Keystone's ids are, and short, so that the largest opening is one that may be.
+    ids = unordered(users - len(told["users"]))
+    projects = unordered(PROJECTS)
+    groups = unordered(PROJECTS) if members else []
+    told["users"] += [{"id": id, "domain_id": "default", "name": f"{id[::-1]} user{number}"} for number, id in enumerate(ids)]
     # The user of the logins.
     told["users"][-1]["password"] = "a secret"
     told["projects"] += [{"id": id, "domain_id": "default", "name": f"project{number}"} for number, id in enumerate(projects)]
@@ -103,14 +108,17 @@ def measured(ks, path, told, admin, ids, projects, role, count):
     login = {"auth": {"identity": {"methods": ["password"], "password": {"user": named}}}}
     many = count * 10
     gone = ids[: min(count, len(ids) // 2)]
+    # New names come between those that stand.
+    new = [f"{id} new" for id in unordered(count)]
+    names = [user["name"] for user in told["users"][-count:]]
     # On the last half of the projects nobody has a role: some of them go, and grants come on the others. What stands is no change.
     bare = projects[PROJECTS // 2 : PROJECTS * 3 // 4]
     late = [(ids[-1 - n % 100], projects[-1 - n // 100]) for n in range(min(count, PROJECTS // 4 * 100))]
     rows = [
         ("validation", [talk.validation(token)] * many, 200),
         ("login by name", [request("POST", "/v3/auth/tokens", "", login)] * many, 201),
-        ("a user made", [request("POST", "/v3/users", token, {"user": {"name": f"new{n}"}}) for n in range(count)], 201),
-        ("a user by name", [request("GET", f"/v3/users?name=user{n}", token) for n in range(count)], 200),
+        ("a user made", [request("POST", "/v3/users", token, {"user": {"name": name}}) for name in new], 201),
+        ("a user by name", [request("GET", "/v3/users?name=" + name.replace(" ", "%20"), token) for name in names], 200),
         ("a grant made", [request("PUT", f"/v3/projects/{at}/users/{id}/roles/{role}", token) for id, at in late], 204),
         ("a user's grants listed", [request("GET", f"/v3/role_assignments?user.id={id}", token) for id in gone], 200),
         ("a project's grants listed", [request("GET", f"/v3/role_assignments?scope.project.id={id}", token) for id in bare], 200),
@@ -119,10 +127,10 @@ def measured(ks, path, told, admin, ids, projects, role, count):
     ]
     for name, requests, wanted in rows:
         figures[name] = asked(run, requests, wanted)
-    run.stdin.close()
     with open(f"/proc/{run.pid}/status", encoding="utf-8") as file:
         peak = [line.split()[1] for line in file if line.startswith("VmHWM")]
-    figures["most resident, MiB"] = int(peak[0]) / 1024 if peak else 0
+    figures["most resident, MiB"] = int(peak[0]) / 1024
+    run.stdin.close()
     if run.wait() != 0:
         talk.fail("the program ended otherwise")
     return figures

@@ -1,5 +1,5 @@
 -- Indexes: places in the order of the keys of the rows there, and what each change of the rows leaves of them.
-use Rattle.std.proofs.Common.{◌≡◌, ◌≢◌, ℕ, zero, suc, ◌+◌, ◌<◌, ◌≤◌, Bool, true, false, not, ◌⊎◌, inl, inr, List, [], ◌∷◌, ◌++◌, length, map, take, drop, get_or, refl, sym, ap, subst, ◌∙◌, arith}
+use Rattle.std.proofs.Common.{◌≡◌, ◌≢◌, ℕ, zero, suc, ◌+◌, ◌<◌, ◌≤◌, Bool, true, false, not, ◌⊎◌, inl, inr, List, [], ◌∷◌, ◌++◌, length, map, get_or, refl, sym, ap, subst, ◌∙◌, arith}
 use Rattle.std.proofs.Math.ListN.{set}
 use Rattle.std.specs.List.{AllByRecursion, filter, insert}
 use Rattle.std.specs.declared.cmp.Ordering.{Ordering}
@@ -7,7 +7,6 @@ use Rattle.std.specs.declared.cmp.Ordering.TheVariants.{Equal}
 use Rattle.std.specs.Ordering.{is_eq}
 use Rattle.std.specs.Cmp.{IsTotalOrder}
 use Rattle.std.proofs.lemmas.Cmp.{tied_itself, tied_back}
-use Rattle.std.proofs.lemmas.Grind.{common_steps}
 use Rattle.std.proofs.lemmas.List.{get_or-set_other, get_or-set_same, length-set}
 use Rattle.std.proofs.lemmas.List.Edits.{length-insert, get_or-insert_below}
 use Rattle.ks_base.specs.Tables.{AreAbove, IsAscending, Among, has_key, drop_row}
@@ -252,10 +251,3 @@ same_place cmp key o (row ∷ rows) (suc p) zero d up first second same =
     cc
 same_place cmp key o (row ∷ rows) (suc p) (suc q) d up first second same =
     ap suc (same_place cmp key o rows p q d up.1 (omega arith) (omega arith) same)
-
--- what a call leaves in a whole slice of a vector
-pub written_back : {X : Type 0} (new old : List X) (n : ℕ) → (length new ≡ length old) × (length old ≡ n) → take n (new ++ drop (length new) old) ≡ new
-written_back new old n e =
-    let none : drop (length new) old ≡ [] = grind (arith, common_steps) in
-    let end : new ++ drop (length new) old ≡ new = grind (arith, common_steps) in
-    grind (arith, common_steps)

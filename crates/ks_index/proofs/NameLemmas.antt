@@ -1,5 +1,5 @@
 -- What an index by home and name finds.
-use Rattle.std.proofs.Common.{◌≡◌, ◌≢◌, Bor, option_copied, IfSome, IfNone, IsTrue, ℕ, zero, suc, ◌+◌, ◌-◌, ◌<◌, ◌≤◌, Bool, true, false, not, ◌&&◌, cond, ◌⊎◌, inl, inr, List, [], ◌∷◌, length, get_or, slice_get, Option, Some, None, Result, Ok, Err, refl, sym, ap, subst, ◌∙◌, arith}
+use Rattle.std.proofs.Common.{◌≡◌, ◌≢◌, Bor, option_copied, IfSome, IfNone, IsTrue, ℕ, zero, suc, ◌+◌, ◌-◌, ◌<◌, ◌≤◌, Bool, true, false, not, ◌&&◌, cond, ◌⊎◌, inl, inr, List, [], ◌∷◌, length, get_or, Option, Some, None, Result, Ok, Err, refl, sym, ap, subst, ◌∙◌, arith}
 use Rattle.std.specs.List.{AllByRecursion, find, insert, remove}
 use Rattle.std.specs.declared.cmp.Ordering.{Ordering}
 use Rattle.std.specs.declared.cmp.Ordering.TheVariants.{Less, Equal, Greater}
@@ -56,9 +56,9 @@ ascending_at cmp key (x ∷ xs) (suc i) (suc j) d up less lt = ascending_at cmp 
 
 -- what is above the last is above all
 behind_at : {K X : Type 0} (cmp : K → K → Ordering) (key : X → K) → IsTotalOrder cmp → (k : K) (xs : List X) (at : ℕ) (last : X) →
-    IsAscending cmp key xs → suc at ≡ length xs → slice_get xs at ≡ Some last → cmp (key last) k ≡ Less → IsGapAt cmp key k xs (length xs)
+    IsAscending cmp key xs → suc at ≡ length xs → last ≡ get_or xs at last → cmp (key last) k ≡ Less → IsGapAt cmp key k xs (length xs)
 behind_at cmp key o k [] at last up end is less = tt
-behind_at cmp key o k (x ∷ []) zero last up end is less = (cc, tt)
+behind_at cmp key o k (x ∷ []) zero last up end is less = (subst (λ row. cmp (key row) k ≡ Less) is less, tt)
 behind_at cmp key o k (x ∷ []) (suc at) last up end is less = absurd (omega (arith, end))
 behind_at cmp key o k (x ∷ (y ∷ xs)) zero last up end is less = absurd (omega (arith, end))
 behind_at cmp key o k (x ∷ (y ∷ xs)) (suc at) last up end is less =
@@ -66,7 +66,7 @@ behind_at cmp key o k (x ∷ (y ∷ xs)) (suc at) last up end is less =
     (o.trans (key x) (key y) k up.0.0 rest.0, rest)
 
 pub behind_place : {K X : Type 0} (cmp : K → K → Ordering) (key : X → K) → IsTotalOrder cmp → (k : K) (xs : List X) (last : X) →
-    IsAscending cmp key xs → slice_get xs (length xs - 1) ≡ Some last → cmp (key last) k ≡ Less → IsGapAt cmp key k xs (length xs)
+    IsAscending cmp key xs → last ≡ get_or xs (length xs - 1) last → cmp (key last) k ≡ Less → IsGapAt cmp key k xs (length xs)
 behind_place cmp key o k [] last up is less = tt
 behind_place cmp key o k (x ∷ xs) last up is less = behind_at cmp key o k (x ∷ xs) (length (x ∷ xs) - 1) last up (omega arith) is less
 

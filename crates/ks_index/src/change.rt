@@ -1,6 +1,7 @@
 //! Changes of a table's rows and of both its indexes. The rows stand where they came, but for the last one, which takes the place of
 //! one that goes.
-ghost use Rattle.std.specs.Prelude.{◌≡◌, ◌<◌, ◌≤◌, filter, length, map, set, get_or, vec_len, vec_capacity, OnOk, OnErr};
+ghost use Rattle.std.specs.Prelude.{◌≡◌, ◌<◌, ◌≤◌, filter, length, map, set, get_or, OnOk, OnErr};
+ghost use Rattle.std.specs.VecDeque.{deque_len, deque_capacity};
 ghost use Rattle.std.specs.List.{insert, remove};
 ghost use Rattle.ks_base.specs.Tables.{id_cmp};
 ghost use Rattle.ks_base.specs.Places.{IsGapAt};
@@ -8,17 +9,18 @@ ghost use Rattle.ks_index.specs.Indexes.{AreNamesBut, AreNamesOf, AreUnlike, IsI
 
 use crate::index::{next_place, place_of, slot_of};
 use ks_base::{Boxed, Memory, Named, Test};
+use std::collections::VecDeque;
 
 /// Puts a place into the index by name, which lacks it.
-fn put_in<R: Named>(rows: &[Boxed<R>], names: &mut Vec<u32>, at: u32)
+fn put_in<R: Named>(rows: &[Boxed<R>], names: &mut VecDeque<u32>, at: u32)
     requires at { at < length rows.now }
-    requires room { vec_len names.old < vec_capacity names.old }
+    requires room { deque_len names.old < deque_capacity names.old }
     requires unlike { AreUnlike R.key rows.now }
     requires but { AreNamesBut R.within R.naming R.key rows.now names.old.items at }
     ensures { AreNamesOf R.within R.naming R.key rows.now names.new.items }
 {
     let row = rows[at as usize].get();
-    match slot_of(rows, names.as_slice(), row) {
+    match slot_of(rows, names, row) {
         Ok(_) => unreachable!(),
         Err(slot) => match names.insert(slot, at) {
             Ok(()) => {}
@@ -28,17 +30,18 @@ fn put_in<R: Named>(rows: &[Boxed<R>], names: &mut Vec<u32>, at: u32)
 }
 
 /// Takes a place out of the index by name, which leaves room for one.
-fn take_out<R: Named>(rows: &[Boxed<R>], names: &mut Vec<u32>, at: u32)
+fn take_out<R: Named>(rows: &[Boxed<R>], names: &mut VecDeque<u32>, at: u32)
     requires at { at < length rows.now }
     requires names { AreNamesOf R.within R.naming R.key rows.now names.old.items }
     ensures but { AreNamesBut R.within R.naming R.key rows.now names.new.items at }
-    ensures room { vec_len names.new < vec_capacity names.new }
+    ensures room { deque_len names.new < deque_capacity names.new }
 {
     let row = rows[at as usize].get();
-    match slot_of(rows, names.as_slice(), row) {
-        Ok(slot) => {
-            let _place = names.remove(slot);
-        }
+    match slot_of(rows, names, row) {
+        Ok(slot) => match names.remove(slot) {
+            Some(_) => {}
+            None => unreachable!(),
+        },
         Err(_) => unreachable!(),
     }
 }
@@ -46,8 +49,8 @@ fn take_out<R: Named>(rows: &[Boxed<R>], names: &mut Vec<u32>, at: u32)
 /// Puts a new row behind all others, and its place into both indexes. A row that found no memory is dropped.
 pub(crate) fn insert<R: Named>(
     rows: &mut Vec<Boxed<R>>,
-    ids: &mut Vec<u32>,
-    names: &mut Vec<u32>,
+    ids: &mut VecDeque<u32>,
+    names: &mut VecDeque<u32>,
     at: usize,
     row: R,
 ) -> Result<(), Memory>
@@ -74,7 +77,12 @@ pub(crate) fn insert<R: Named>(
 }
 
 /// Puts a row over the one with its id. It takes no memory.
-pub(crate) fn replace<R: Named>(rows: &mut Vec<Boxed<R>>, names: &mut Vec<u32>, at: u32, row: R)
+pub(crate) fn replace<R: Named>(
+    rows: &mut Vec<Boxed<R>>,
+    names: &mut VecDeque<u32>,
+    at: u32,
+    row: R,
+)
     requires at { at < length rows.old.items }
     requires key { R.key (get_or rows.old.items at row) ≡ R.key row }
     requires unlike { AreUnlike R.key rows.old.items }
@@ -88,13 +96,18 @@ pub(crate) fn replace<R: Named>(rows: &mut Vec<Boxed<R>>, names: &mut Vec<u32>, 
 }
 
 /// Tells both indexes that the row at this place was behind all others before.
-fn renumber<R: Named>(rows: &[Boxed<R>], ids: &mut [u32], names: &mut [u32], at: u32)
+fn renumber<R: Named>(
+    rows: &[Boxed<R>],
+    ids: &mut VecDeque<u32>,
+    names: &mut VecDeque<u32>,
+    at: u32,
+)
     requires at { at < length rows.now }
-    requires ids { WasMoved id_cmp R.key rows.now ids.old at }
-    requires names { WasMoved full_cmp (full_name R.within R.naming R.key) rows.now names.old at }
-    ensures ids { IsIndex id_cmp R.key rows.now ids.new }
-    ensures names { AreNamesOf R.within R.naming R.key rows.now names.new }
-    ensures rows { (row : R) → row ≡ get_or rows.now at row → picked rows.now ids.new ≡ map (λ place. get_or rows.now place row) ids.old }
+    requires ids { WasMoved id_cmp R.key rows.now ids.old.items at }
+    requires names { WasMoved full_cmp (full_name R.within R.naming R.key) rows.now names.old.items at }
+    ensures ids { IsIndex id_cmp R.key rows.now ids.new.items }
+    ensures names { AreNamesOf R.within R.naming R.key rows.now names.new.items }
+    ensures rows { (row : R) → row ≡ get_or rows.now at row → picked rows.now ids.new.items ≡ map (λ place. get_or rows.now place row) ids.old.items }
 {
     let row = rows[at as usize].get();
     match place_of(rows, ids, row, row.id()) {
@@ -110,8 +123,8 @@ fn renumber<R: Named>(rows: &[Boxed<R>], ids: &mut [u32], names: &mut [u32], at:
 /// Takes the row out that stands at this place among the ids. It takes no memory.
 pub(crate) fn remove<R: Named>(
     rows: &mut Vec<Boxed<R>>,
-    ids: &mut Vec<u32>,
-    names: &mut Vec<u32>,
+    ids: &mut VecDeque<u32>,
+    names: &mut VecDeque<u32>,
     at: usize,
 )
     requires at { at < length ids.old.items }
@@ -121,24 +134,21 @@ pub(crate) fn remove<R: Named>(
     ensures ids { IsIndex id_cmp R.key rows.new.items ids.new.items }
     ensures names { AreNamesOf R.within R.naming R.key rows.new.items names.new.items }
 {
-    let place = ids.remove(at);
+    let Some(place) = ids.remove(at) else {
+        unreachable!()
+    };
     take_out(rows.as_slice(), names, place);
     let _row = rows.swap_remove(place as usize);
     if (place as usize) < rows.len() {
-        renumber(
-            rows.as_slice(),
-            ids.as_mut_slice(),
-            names.as_mut_slice(),
-            place,
-        );
+        renumber(rows.as_slice(), ids, names, place);
     }
 }
 
 /// Takes the rows out that fail a test, the last one first. It takes no memory.
 pub(crate) fn keep<R: Named, T: Test<R>>(
     rows: &mut Vec<Boxed<R>>,
-    ids: &mut Vec<u32>,
-    names: &mut Vec<u32>,
+    ids: &mut VecDeque<u32>,
+    names: &mut VecDeque<u32>,
     test: &T,
 )
     requires ids { IsIndex id_cmp R.key rows.old.items ids.old.items }

@@ -10,6 +10,7 @@ ghost use Rattle.ks_index.specs.Indexes.{AreListed, AreNamesOf, IsIndex, full_cm
 use crate::Rows;
 use ks_base::{Boxed, Id, Memory, Named, Row, Test};
 use std::cmp::Ordering;
+use std::collections::VecDeque;
 
 /// The row at this place; the other, where there is none.
 pub(crate) fn row_at<'a, R>(rows: &'a [Boxed<R>], place: u32, other: &'a R) -> &'a R
@@ -45,24 +46,28 @@ pub(crate) fn compare<R: Named>(row: &R, home: &[u8], name: &[u8], id: &[u8]) ->
 /// The slot of the row with this home, name and id, or the one where it belongs.
 fn slot<R: Named>(
     rows: &[Boxed<R>],
-    places: &[u32],
+    places: &VecDeque<u32>,
     other: &R,
     home: &[u8],
     name: &[u8],
     id: &[u8],
 ) -> Result<usize, usize>
-    requires { IsAscending full_cmp (λ place. full_name R.within R.naming R.key (get_or rows.now place other.now)) places.now }
-    ensures bound { IsSearchInRange result (length places.now) }
-    ensures place { IsPlace full_cmp (λ place. full_name R.within R.naming R.key (get_or rows.now place other.now)) ((name.now, home.now), id.now) places.now result }
+    requires { IsAscending full_cmp (λ place. full_name R.within R.naming R.key (get_or rows.now place other.now)) places.now.items }
+    ensures bound { IsSearchInRange result (length places.now.items) }
+    ensures place { IsPlace full_cmp (λ place. full_name R.within R.naming R.key (get_or rows.now place other.now)) ((name.now, home.now), id.now) places.now.items result }
 {
     places.binary_search_by(|place| compare(row_at(rows, *place, other), home, name, id))
 }
 
 /// The slot of this row, or the one where it belongs.
-pub(crate) fn slot_of<R: Named>(rows: &[Boxed<R>], places: &[u32], row: &R) -> Result<usize, usize>
-    requires { IsAscending full_cmp (λ place. full_name R.within R.naming R.key (get_or rows.now place row.now)) places.now }
-    ensures bound { IsSearchInRange result (length places.now) }
-    ensures place { IsPlace full_cmp (λ place. full_name R.within R.naming R.key (get_or rows.now place row.now)) (full_name R.within R.naming R.key row.now) places.now result }
+pub(crate) fn slot_of<R: Named>(
+    rows: &[Boxed<R>],
+    places: &VecDeque<u32>,
+    row: &R,
+) -> Result<usize, usize>
+    requires { IsAscending full_cmp (λ place. full_name R.within R.naming R.key (get_or rows.now place row.now)) places.now.items }
+    ensures bound { IsSearchInRange result (length places.now.items) }
+    ensures place { IsPlace full_cmp (λ place. full_name R.within R.naming R.key (get_or rows.now place row.now)) (full_name R.within R.naming R.key row.now) places.now.items result }
 {
     slot(
         rows,
@@ -77,22 +82,26 @@ pub(crate) fn slot_of<R: Named>(rows: &[Boxed<R>], places: &[u32], row: &R) -> R
 /// The place among the ids of the row with this id, or the one where it belongs.
 pub(crate) fn place_of<R: Row>(
     rows: &[Boxed<R>],
-    ids: &[u32],
+    ids: &VecDeque<u32>,
     other: &R,
     id: &Id,
 ) -> Result<usize, usize>
-    requires { IsAscending id_cmp (λ place. R.key (get_or rows.now place other.now)) ids.now }
-    ensures bound { IsSearchInRange result (length ids.now) }
-    ensures place { IsPlace id_cmp (λ place. R.key (get_or rows.now place other.now)) id.now ids.now result }
+    requires { IsAscending id_cmp (λ place. R.key (get_or rows.now place other.now)) ids.now.items }
+    ensures bound { IsSearchInRange result (length ids.now.items) }
+    ensures place { IsPlace id_cmp (λ place. R.key (get_or rows.now place other.now)) id.now ids.now.items result }
 {
     ids.binary_search_by(|place| row_at(rows, *place, other).id().cmp(id))
 }
 
 /// The same of the rows as the ids list them.
-pub(crate) fn place_among<R: Row>(rows: &[Boxed<R>], ids: &[u32], id: &Id) -> Result<usize, usize>
-    requires { IsIndex id_cmp R.key rows.now ids.now }
-    ensures bound { IsSearchInRange result (length ids.now) }
-    ensures place { IsPlace id_cmp R.key id.now (picked rows.now ids.now) result }
+pub(crate) fn place_among<R: Row>(
+    rows: &[Boxed<R>],
+    ids: &VecDeque<u32>,
+    id: &Id,
+) -> Result<usize, usize>
+    requires { IsIndex id_cmp R.key rows.now ids.now.items }
+    ensures bound { IsSearchInRange result (length ids.now.items) }
+    ensures place { IsPlace id_cmp R.key id.now (picked rows.now ids.now.items) result }
 {
     match rows.first() {
         Some(other) => place_of(rows, ids, other.get(), id),
@@ -101,10 +110,15 @@ pub(crate) fn place_among<R: Row>(rows: &[Boxed<R>], ids: &[u32], id: &Id) -> Re
 }
 
 /// The first slot that may have a row of this home and name.
-fn first_slot<R: Named>(rows: &[Boxed<R>], places: &[u32], home: &[u8], name: &[u8]) -> usize
-    requires { AreNamesOf R.within R.naming R.key rows.now places.now }
-    ensures before { (slot : ℕ) (other : R) → slot < result → slot < length places.now → is_named R.within R.naming home.now name.now (row_in rows.now places.now slot other) ≡ false }
-    ensures behind { (other : R) → result < length places.now → full_cmp (full_name R.within R.naming R.key (row_in rows.now places.now result other)) ((name.now, home.now), []) ≢ Less }
+fn first_slot<R: Named>(
+    rows: &[Boxed<R>],
+    places: &VecDeque<u32>,
+    home: &[u8],
+    name: &[u8],
+) -> usize
+    requires { AreNamesOf R.within R.naming R.key rows.now places.now.items }
+    ensures before { (slot : ℕ) (other : R) → slot < result → slot < length places.now.items → is_named R.within R.naming home.now name.now (row_in rows.now places.now.items slot other) ≡ false }
+    ensures behind { (other : R) → result < length places.now.items → full_cmp (full_name R.within R.naming R.key (row_in rows.now places.now.items result other)) ((name.now, home.now), []) ≢ Less }
 {
     let Some(other) = rows.first() else {
         return 0;
@@ -118,14 +132,14 @@ fn first_slot<R: Named>(rows: &[Boxed<R>], places: &[u32], home: &[u8], name: &[
 /// The row at a slot, if it has this home and name.
 fn named_at<'a, R: Named>(
     rows: &'a [Boxed<R>],
-    places: &[u32],
+    places: &VecDeque<u32>,
     slot: usize,
     home: &[u8],
     name: &[u8],
 ) -> Option<&'a R>
-    requires { AllByRecursion (λ place. place < length rows.now) places.now }
-    ensures some { IfSome result (λ row. (slot < length places.now) × (row.now ≡ row_in rows.now places.now slot row.now) × IsTrue (is_named R.within R.naming home.now name.now row.now)) }
-    ensures none { IfNone result ((other : R) → slot < length places.now → is_named R.within R.naming home.now name.now (row_in rows.now places.now slot other) ≡ false) }
+    requires { AllByRecursion (λ place. place < length rows.now) places.now.items }
+    ensures some { IfSome result (λ row. (slot < length places.now.items) × (row.now ≡ row_in rows.now places.now.items slot row.now) × IsTrue (is_named R.within R.naming home.now name.now row.now)) }
+    ensures none { IfNone result ((other : R) → slot < length places.now.items → is_named R.within R.naming home.now name.now (row_in rows.now places.now.items slot other) ≡ false) }
 {
     let row = rows[*places.get(slot)? as usize].get();
     if row.home() == home && row.name().as_slice() == name {
@@ -138,11 +152,11 @@ fn named_at<'a, R: Named>(
 /// The first row of this home and name, in the order of ids.
 pub(crate) fn named<'a, R: Named>(
     rows: &'a [Boxed<R>],
-    places: &[u32],
+    places: &VecDeque<u32>,
     home: &[u8],
     name: &[u8],
 ) -> Option<&'a R>
-    requires { AreNamesOf R.within R.naming R.key rows.now places.now }
+    requires { AreNamesOf R.within R.naming R.key rows.now places.now.items }
     ensures { (listed : List R) → AreListed R.key rows.now listed → option_copied result ≡ find (is_named R.within R.naming home.now name.now) listed }
 {
     let slot = first_slot(rows, places, home, name);
@@ -152,10 +166,10 @@ pub(crate) fn named<'a, R: Named>(
 /// The first other row with the home and name of this one, in the order of ids.
 pub(crate) fn other_named<'a, R: Named>(
     rows: &'a [Boxed<R>],
-    places: &[u32],
+    places: &VecDeque<u32>,
     row: &R,
 ) -> Option<&'a R>
-    requires { AreNamesOf R.within R.naming R.key rows.now places.now }
+    requires { AreNamesOf R.within R.naming R.key rows.now places.now.items }
     ensures { (listed : List R) → AreListed R.key rows.now listed → option_copied result ≡ find (is_other_named R.within R.naming R.key row.now) listed }
 {
     let home = row.home();
@@ -171,11 +185,11 @@ pub(crate) fn other_named<'a, R: Named>(
 /// The first row that passes the test, in the order of ids.
 pub(crate) fn first<'a, R: Row, T: Test<R>>(
     rows: &'a [Boxed<R>],
-    ids: &'a [u32],
+    ids: &'a VecDeque<u32>,
     test: &T,
 ) -> Option<&'a R>
-    requires { AllByRecursion (λ place. place < length rows.now) ids.now }
-    ensures { option_copied result ≡ find (T.test test.now) (picked rows.now ids.now) }
+    requires { AllByRecursion (λ place. place < length rows.now) ids.now.items }
+    ensures { option_copied result ≡ find (T.test test.now) (picked rows.now ids.now.items) }
 {
     Rows::new(rows, ids).find(|row| test.test(row))
 }

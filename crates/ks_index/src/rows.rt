@@ -5,33 +5,39 @@ ghost use Rattle.std.specs.Iterator.{YieldsFirstRef, item_count};
 ghost use Rattle.ks_index.specs.Indexes.{picked};
 
 use ks_base::Boxed;
+use std::collections::VecDeque;
+use std::collections::vec_deque::Iter;
 use std::marker::Model;
 
 /// The rows of a table in the order of their ids, lent one after another; contracts see those that are still to come.
 #[derive(Drop)]
 pub struct Rows<'a, R> {
     rows: &'a [Boxed<R>],
-    places: &'a [u32],
+    places: Iter<'a, u32>,
 }
 
 impl<'a, R> Model for Rows<'a, R> {
     ghost use Rattle.std.specs.Prelude.{List, length, ◌<◌};
     ghost use Rattle.std.specs.List.{AllByRecursion};
+    ghost use Rattle.std.specs.VecDeque.Iter.{deque_iter_rest};
     ghost use Rattle.ks_index.specs.Indexes.{picked};
 
     ghost Value = { List R };
 
-    ghost view = { λ all. picked all.rows.now all.places.now };
+    ghost view = { λ all. picked all.rows.now (deque_iter_rest all.places) };
 
-    ghost invariant = { λ all. AllByRecursion (λ place. place < length all.rows.now) all.places.now };
+    ghost invariant = { λ all. AllByRecursion (λ place. place < length all.rows.now) (deque_iter_rest all.places) };
 }
 
 impl<'a, R> Rows<'a, R> {
-    pub(crate) fn new(rows: &'a [Boxed<R>], places: &'a [u32]) -> Rows<'a, R>
-        requires { AllByRecursion (λ place. place < length rows.now) places.now }
-        ensures { result ≡ picked rows.now places.now }
+    pub(crate) fn new(rows: &'a [Boxed<R>], places: &'a VecDeque<u32>) -> Rows<'a, R>
+        requires { AllByRecursion (λ place. place < length rows.now) places.now.items }
+        ensures { result ≡ picked rows.now places.now.items }
     {
-        Rows { rows, places }
+        Rows {
+            rows,
+            places: places.iter(),
+        }
     }
 
     /// How many are still to come.
@@ -50,9 +56,7 @@ impl<'a, R> Iterator for Rows<'a, R> {
     ghost remaining = { item_count (λ rows. rows) };
 
     fn next(&mut self) -> Option<&'a R> {
-        let (first, others) = self.places.split_first()?;
-        let row = self.rows[*first as usize].get();
-        self.places = others;
-        Some(row)
+        let first = self.places.next()?;
+        Some(self.rows[*first as usize].get())
     }
 }

@@ -1,6 +1,7 @@
 //! The rows of one name, whose places stand side by side in the index of a table.
 ghost use Rattle.std.specs.Prelude.{◌≡◌, ◌<◌, List, filter, get_or, length, map, IfOk};
 ghost use Rattle.std.specs.List.{AllByRecursion};
+ghost use Rattle.std.specs.VecDeque.Iter.{deque_iter_rest};
 ghost use Rattle.ks_base.specs.Rows.{same};
 ghost use Rattle.ks_base.specs.Tables.{id_cmp, IsAscending};
 ghost use Rattle.ks_index.specs.Indexes.{AreListed, AreNamesOf, full_cmp, full_name, picked};
@@ -11,6 +12,8 @@ use crate::ordered::in_order;
 use ks_base::{Boxed, Id, IdList, Memory, Named, Test};
 use std::alloc::{AllocError, Global};
 use std::cmp::Ordering;
+use std::collections::VecDeque;
+use std::collections::vec_deque::Iter;
 
 /// How the row's name compares with this one.
 fn compare_name<R: Named>(row: &R, name: &[u8]) -> Ordering
@@ -22,12 +25,12 @@ fn compare_name<R: Named>(row: &R, name: &[u8]) -> Ordering
 /// The places of the rows of this name.
 fn run_named<'a, R: Named>(
     rows: &[Boxed<R>],
-    places: &'a [u32],
+    places: &'a VecDeque<u32>,
     other: &R,
     name: &[u8],
-) -> &'a [u32]
-    requires { IsAscending full_cmp (λ place. full_name R.within R.naming R.key (get_or rows.now place other.now)) places.now }
-    ensures { result.now ≡ filter (λ place. same (R.naming (get_or rows.now place other.now)) name.now) places.now }
+) -> Iter<'a, u32>
+    requires { IsAscending full_cmp (λ place. full_name R.within R.naming R.key (get_or rows.now place other.now)) places.now.items }
+    ensures { deque_iter_rest result ≡ filter (λ place. same (R.naming (get_or rows.now place other.now)) name.now) places.now.items }
 {
     let low = places.partition_point(|place| compare_name(
         row_at(rows, *place, other),
@@ -37,20 +40,19 @@ fn run_named<'a, R: Named>(
         row_at(rows, *place, other),
         name,
     ).is_le());
-    &places[low..high]
+    places.range(low..high)
 }
 
 /// The ids of the rows at these places, as the places stand.
 fn ids_there<R: Named>(
     alloc: Global,
     rows: &[Boxed<R>],
-    places: &[u32],
+    places: Iter<'_, u32>,
     other: &R,
 ) -> Result<Vec<Id>, AllocError>
-    ensures { IfOk result (λ ids. ids.items ≡ map (λ place. R.key (get_or rows.now place other.now)) places.now) }
+    ensures { IfOk result (λ ids. ids.items ≡ map (λ place. R.key (get_or rows.now place other.now)) (deque_iter_rest places.entry)) }
 {
     places
-        .iter()
         .map(|place| *row_at(rows, *place, other).id())
         .collect(alloc)
 }
@@ -59,15 +61,15 @@ fn ids_there<R: Named>(
 pub(crate) fn ids_at<R: Named>(
     alloc: Global,
     rows: &[Boxed<R>],
-    places: &[u32],
+    places: &VecDeque<u32>,
 ) -> Result<IdList, Memory>
-    requires { AllByRecursion (λ place. place < length rows.now) places.now }
-    ensures { IfOk result (λ ids. ids ≡ map R.key (picked rows.now places.now)) }
+    requires { AllByRecursion (λ place. place < length rows.now) places.now.items }
+    ensures { IfOk result (λ ids. ids ≡ map R.key (picked rows.now places.now.items)) }
 {
     let Some(first) = rows.first() else {
         return Ok(IdList::new(alloc));
     };
-    let ids = ids_there(alloc, rows, places, first.get())?;
+    let ids = ids_there(alloc, rows, places.iter(), first.get())?;
     Ok(IdList::from_vec(ids))
 }
 
@@ -75,11 +77,11 @@ pub(crate) fn ids_at<R: Named>(
 pub(crate) fn ids_passing<R: Named, T: Test<R>>(
     alloc: Global,
     rows: &[Boxed<R>],
-    places: &[u32],
+    places: &VecDeque<u32>,
     test: &T,
 ) -> Result<IdList, Memory>
-    requires { AllByRecursion (λ place. place < length rows.now) places.now }
-    ensures { IfOk result (λ ids. ids ≡ map R.key (filter (T.test test.now) (picked rows.now places.now))) }
+    requires { AllByRecursion (λ place. place < length rows.now) places.now.items }
+    ensures { IfOk result (λ ids. ids ≡ map R.key (filter (T.test test.now) (picked rows.now places.now.items))) }
 {
     let mut ids = IdList::new(alloc);
     for row in Rows::new(rows, places) {
@@ -94,10 +96,10 @@ pub(crate) fn ids_passing<R: Named, T: Test<R>>(
 pub(crate) fn ids_named<R: Named>(
     alloc: Global,
     rows: &[Boxed<R>],
-    places: &[u32],
+    places: &VecDeque<u32>,
     name: &[u8],
 ) -> Result<IdList, Memory>
-    requires { AreNamesOf R.within R.naming R.key rows.now places.now }
+    requires { AreNamesOf R.within R.naming R.key rows.now places.now.items }
     ensures { IfOk result (λ ids. (listed : List R) → AreListed R.key rows.now listed → ids ≡ map R.key (filter (λ row. same (R.naming row) name.now) listed)) }
 {
     let Some(first) = rows.first() else {

@@ -6,6 +6,7 @@ ghost use Rattle.ks_index.specs.Indexes.{is_named, is_other_named};
 use crate::{Rows, change, index, made, runs};
 use ks_base::{Boxed, Id, IdList, Memory, Named, Test, Text};
 use std::alloc::Global;
+use std::collections::VecDeque;
 use std::marker::Model;
 
 /// Rows in the order of their ids, one for each id, which are found by their ids and by their names. A row stays where it
@@ -14,9 +15,9 @@ use std::marker::Model;
 pub struct Table<R: Named> {
     rows: Vec<Boxed<R>>,
     /// The places of the rows, in the order of their ids.
-    ids: Vec<u32>,
+    ids: VecDeque<u32>,
     /// The places of the rows, in the order of their names, homes and ids.
-    names: Vec<u32>,
+    names: VecDeque<u32>,
 }
 
 impl<R: Named> Model for Table<R> {
@@ -38,8 +39,8 @@ impl<R: Named> Table<R> {
     {
         Table {
             rows: Vec::new(alloc),
-            ids: Vec::new(alloc),
-            names: Vec::new(alloc),
+            ids: VecDeque::new(alloc),
+            names: VecDeque::new(alloc),
         }
     }
 
@@ -58,7 +59,7 @@ impl<R: Named> Table<R> {
         ensures found { option_copied result ≡ find_row id_cmp R.key id.now self.now }
         ensures ascending { IsAscending id_cmp R.key self.now }
     {
-        match index::place_among(self.rows.as_slice(), self.ids.as_slice(), id) {
+        match index::place_among(self.rows.as_slice(), &self.ids, id) {
             Ok(at) => Some(self.rows[self.ids[at] as usize].get()),
             Err(_) => None,
         }
@@ -78,7 +79,7 @@ impl<R: Named> Table<R> {
         ensures err { OnErr result (self.new ≡ self.old) }
         ensures stands { IsSome (find_row id_cmp R.key (R.key row) self.old) → IsOk result }
     {
-        match index::place_among(self.rows.as_slice(), self.ids.as_slice(), row.id()) {
+        match index::place_among(self.rows.as_slice(), &self.ids, row.id()) {
             Ok(at) => {
                 change::replace(&mut self.rows, &mut self.names, self.ids[at], row);
                 Ok(())
@@ -94,7 +95,7 @@ impl<R: Named> Table<R> {
     pub fn remove(&mut self, id: &Id)
         ensures { self.new ≡ drop_row id_cmp R.key id.now self.old }
     {
-        match index::place_among(self.rows.as_slice(), self.ids.as_slice(), id) {
+        match index::place_among(self.rows.as_slice(), &self.ids, id) {
             Ok(at) => change::remove(&mut self.rows, &mut self.ids, &mut self.names, at),
             Err(_) => {}
         }
@@ -111,26 +112,21 @@ impl<R: Named> Table<R> {
     pub fn named(&self, home: &[u8], name: &Text) -> Option<&R>
         ensures { option_copied result ≡ find (is_named R.within R.naming home.now name.now) self.now }
     {
-        index::named(
-            self.rows.as_slice(),
-            self.names.as_slice(),
-            home,
-            name.as_slice(),
-        )
+        index::named(self.rows.as_slice(), &self.names, home, name.as_slice())
     }
 
     /// The first other row with the home and the name of this one, in the order of ids.
     pub fn other_named(&self, row: &R) -> Option<&R>
         ensures { option_copied result ≡ find (is_other_named R.within R.naming R.key row.now) self.now }
     {
-        index::other_named(self.rows.as_slice(), self.names.as_slice(), row)
+        index::other_named(self.rows.as_slice(), &self.names, row)
     }
 
     /// The first row that passes the test, in the order of ids.
     pub fn first<T: Test<R>>(&self, test: &T) -> Option<&R>
         ensures { option_copied result ≡ find (T.test test.now) self.now }
     {
-        index::first(self.rows.as_slice(), self.ids.as_slice(), test)
+        index::first(self.rows.as_slice(), &self.ids, test)
     }
 
     /// The rows, in the order of their ids.
@@ -138,18 +134,14 @@ impl<R: Named> Table<R> {
         ensures rows { result ≡ self.now }
         ensures ascending { IsAscending id_cmp R.key self.now }
     {
-        Rows::new(self.rows.as_slice(), self.ids.as_slice())
+        Rows::new(self.rows.as_slice(), &self.ids)
     }
 
     /// The ids of the rows, in their order.
     pub fn ids(&self) -> Result<IdList, Memory>
         ensures { IfOk result (λ ids. ids ≡ map R.key self.now) }
     {
-        runs::ids_at(
-            *self.rows.allocator(),
-            self.rows.as_slice(),
-            self.ids.as_slice(),
-        )
+        runs::ids_at(*self.rows.allocator(), self.rows.as_slice(), &self.ids)
     }
 
     /// The ids of the rows that pass the test, in their order.
@@ -159,7 +151,7 @@ impl<R: Named> Table<R> {
         runs::ids_passing(
             *self.rows.allocator(),
             self.rows.as_slice(),
-            self.ids.as_slice(),
+            &self.ids,
             test,
         )
     }
@@ -171,7 +163,7 @@ impl<R: Named> Table<R> {
         runs::ids_named(
             *self.rows.allocator(),
             self.rows.as_slice(),
-            self.names.as_slice(),
+            &self.names,
             name.as_slice(),
         )
     }

@@ -13,35 +13,35 @@ pub unreachable-requires : goal.unreachable-requires
 unreachable-requires g c =
     let row = c.get-row.result.now in
     let is = subst (λ (r : _). r ≡ get_or c.args.rows.now c.args.at r) (sym c.get-row.ensures) c.index-rows-at.is in
-    moved_stands id_cmp g.R.Row.key nat_list_cmp_total c.args.rows.now c.args.ids.now c.args.at c.in-Err.field-0 row c.requires.at is c.requires.ids
-    (subst (λ k. IsGapAt id_cmp (λ (p : ℕ). g.R.Row.key (get_or c.args.rows.now p row)) k c.args.ids.now c.in-Err.field-0) c.id.ensures c.in-Err.ensures.place)
+    moved_stands id_cmp g.R.Row.key nat_list_cmp_total c.args.rows.now c.args.ids.now.items c.args.at c.in-Err.field-0 row c.requires.at is c.requires.ids
+    (subst (λ k. IsGapAt id_cmp (λ (p : ℕ). g.R.Row.key (get_or c.args.rows.now p row)) k c.args.ids.now.items c.in-Err.field-0) c.id.ensures c.in-Err.ensures.place)
 
 pub unreachable-requires-in-Err-slot_of : goal.unreachable-requires-in-Err-slot_of
 unreachable-requires-in-Err-slot_of g c =
     let row = c.get-row.result.now in
     let is = subst (λ (r : _). r ≡ get_or c.args.rows.now c.args.at r) (sym c.get-row.ensures) c.index-rows-at.is in
-    moved_stands full_cmp (full_name g.R.Named.within g.R.Named.naming g.R.Row.key) full_total c.args.rows.now c.args.names.now c.args.at c.in-Err-slot_of.field-0 row c.requires.at is
+    moved_stands full_cmp (full_name g.R.Named.within g.R.Named.naming g.R.Row.key) full_total c.args.rows.now c.args.names.now.items c.args.at c.in-Err-slot_of.field-0 row c.requires.at is
     c.requires.names c.in-Err-slot_of.ensures.place
 
 pub returns-clause-ids : goal.returns-clause-ids
 returns-clause-ids g c =
     let row = c.get-row.result.now in
     let is = subst (λ (r : _). r ≡ get_or c.args.rows.now c.args.at r) (sym c.get-row.ensures) c.index-rows-at.is in
-    let found = subst (λ k. IsFoundAt id_cmp (λ (p : ℕ). g.R.Row.key (get_or c.args.rows.now p row)) k c.args.ids.now c.in-Ok.place) c.id.ensures c.in-Ok.ensures.place in
-    renamed_index id_cmp g.R.Row.key nat_list_cmp_total id_exact c.args.rows.now c.args.ids.now c.args.at c.in-Ok.place row c.requires.at is c.in-Ok.ensures.bound c.requires.ids found
+    let found = subst (λ k. IsFoundAt id_cmp (λ (p : ℕ). g.R.Row.key (get_or c.args.rows.now p row)) k c.args.ids.now.items c.in-Ok.place) c.id.ensures c.in-Ok.ensures.place in
+    renamed_index id_cmp g.R.Row.key nat_list_cmp_total id_exact c.args.rows.now c.args.ids.now.items c.args.at c.in-Ok.place row c.requires.at is c.in-Ok.ensures.bound c.requires.ids found
 
 pub returns-clause-names : goal.returns-clause-names
 returns-clause-names g c =
     let row = c.get-row.result.now in
     let is = subst (λ (r : _). r ≡ get_or c.args.rows.now c.args.at r) (sym c.get-row.ensures) c.index-rows-at.is in
-    renamed_index full_cmp (full_name g.R.Named.within g.R.Named.naming g.R.Row.key) full_total full_exact c.args.rows.now c.args.names.now c.args.at c.in-Ok-slot_of.slot row c.requires.at is
+    renamed_index full_cmp (full_name g.R.Named.within g.R.Named.naming g.R.Row.key) full_total full_exact c.args.rows.now c.args.names.now.items c.args.at c.in-Ok-slot_of.slot row c.requires.at is
     c.in-Ok-slot_of.ensures.bound c.requires.names c.in-Ok-slot_of.ensures.place
 
 pub returns-clause-rows : goal.returns-clause-rows
 returns-clause-rows g c = λ other same.
     let row = c.get-row.result.now in
     let is = subst (λ (r : _). r ≡ get_or c.args.rows.now c.args.at r) (sym c.get-row.ensures) c.index-rows-at.is in
-    let found = subst (λ k. IsFoundAt id_cmp (λ (p : ℕ). g.R.Row.key (get_or c.args.rows.now p row)) k c.args.ids.now c.in-Ok.place) c.id.ensures c.in-Ok.ensures.place in
+    let found = subst (λ k. IsFoundAt id_cmp (λ (p : ℕ). g.R.Row.key (get_or c.args.rows.now p row)) k c.args.ids.now.items c.in-Ok.place) c.id.ensures c.in-Ok.ensures.place in
     let one : row ≡ other = is ∙ get_any c.args.rows.now c.args.at row other c.requires.at ∙ sym same in
-    renamed_picked id_cmp g.R.Row.key nat_list_cmp_total id_exact c.args.rows.now c.args.ids.now c.args.at c.in-Ok.place row c.requires.at is c.in-Ok.ensures.bound c.requires.ids found
-    ∙ ap (λ (r : _). map (λ (p : ℕ). get_or c.args.rows.now p r) c.args.ids.now) one
+    renamed_picked id_cmp g.R.Row.key nat_list_cmp_total id_exact c.args.rows.now c.args.ids.now.items c.args.at c.in-Ok.place row c.requires.at is c.in-Ok.ensures.bound c.requires.ids found
+    ∙ ap (λ (r : _). map (λ (p : ℕ). get_or c.args.rows.now p r) c.args.ids.now.items) one

@@ -6,7 +6,7 @@ use Rattle.ks_index.proofs.index.other_named.Goals as goal
 pub returns-in_err-holder : goal.returns-in_err-holder
 returns-in_err-holder g c = λ listed list.
     let rows = c.args.rows.now in
-    let places = c.args.places.now in
+    let places = c.args.places.now.items in
     let row = c.args.row.now in
     let h = c.home-home.result.now in
     let n = c.as_slice-name.result.now in
@@ -20,7 +20,7 @@ returns-in_err-holder g c = λ listed list.
 pub returns-then-ne : goal.returns-then-ne
 returns-then-ne g c = λ listed list.
     let rows = c.args.rows.now in
-    let places = c.args.places.now in
+    let places = c.args.places.now.items in
     let row = c.args.row.now in
     let h = c.home-home.result.now in
     let n = c.as_slice-name.result.now in
@@ -35,7 +35,7 @@ returns-then-ne g c = λ listed list.
 pub returns : goal.returns
 returns g c = λ listed list.
     let rows = c.args.rows.now in
-    let places = c.args.places.now in
+    let places = c.args.places.now.items in
     let row = c.args.row.now in
     let h = c.home-home.result.now in
     let n = c.as_slice-name.result.now in

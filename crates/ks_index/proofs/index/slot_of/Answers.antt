@@ -10,4 +10,4 @@ returns-clause-place g c =
     let name = c.as_slice.ensures.bytes ∙ c.name.ensures in
     let id = c.as_slice-2.ensures.bytes ∙ c.id.ensures in
     let whole : ((c.as_slice.result.now, c.home.result.now), c.as_slice-2.result.now) ≡ full_name g.R.Named.within g.R.Named.naming g.R.Row.key row = λ i. ((name i, c.home.ensures i), id i) in
-    subst (λ k. IsPlace full_cmp key_at k c.args.places.now c.slot.result) whole c.slot.ensures.place
+    subst (λ k. IsPlace full_cmp key_at k c.args.places.now.items c.slot.result) whole c.slot.ensures.place

@@ -19,7 +19,7 @@ returns g c listed list =
     let ids = c.in_ok-ids.ids.items in
     let are = c.in_ok-left.ensures ∙ ap (map (λ (p : ℕ). key (get_or rows p other))) c.run_named-run.ensures in
     c.from_vec.ensures
-    ∙ ids_of_places full_cmp (full_name g.R.Named.within g.R.Named.naming key) key test rows listed c.args.places.now other ids c.requires list
+    ∙ ids_of_places full_cmp (full_name g.R.Named.within g.R.Named.naming key) key test rows listed c.args.places.now.items other ids c.requires list
     c.in_ok-ids.ensures.ascending (λ id. subst (λ (l : List Id). Among ids id ↔ Among l id) are (c.in_ok-ids.ensures.same id))
 
 pub returns-in_default : goal.returns-in_default

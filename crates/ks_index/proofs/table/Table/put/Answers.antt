@@ -1,4 +1,4 @@
-use Rattle.std.proofs.Common.{◌<◌, ℕ, get_or, length, sym, ap, subst, ◌∙◌, arith}
+use Rattle.std.proofs.Common.{◌<◌, ℕ, get_or, length, sym, ap, subst, ◌∙◌}
 use Rattle.std.proofs.Math.ListN.{set}
 use Rattle.std.proofs.lemmas.Cmp.{nat_list_cmp_total}
 use Rattle.ks_base.specs.OrderLaws.{id_exact}
@@ -14,8 +14,8 @@ pub replace-requires-clause-key : goal.replace-requires-clause-key
 replace-requires-clause-key g c =
     let rows = c.self.inside.rows.items in
     let ids = c.self.inside.ids.items in
-    let inside : c.in-Ok.at < length ids = omega (arith, c.in-Ok.ensures.bound, ap length c.as_slice-2.ensures.value) in
-    let found = rw (c.as_slice.ensures.value, c.as_slice-2.ensures.value, c.id.ensures) at c.in-Ok.ensures.place in
+    let inside : c.in-Ok.at < length ids = c.in-Ok.ensures.bound in
+    let found = rw (c.as_slice.ensures.value, c.id.ensures) at c.in-Ok.ensures.place in
     ap (λ (p : ℕ). g.R.Row.key (get_or rows p c.args.row)) (c.index.ensures ∙ get_any ids c.in-Ok.at c.index.result.now 0 inside)
     ∙ found_key id_cmp g.R.Row.key id_exact (g.R.Row.key c.args.row) rows ids c.in-Ok.at c.args.row c.self.invariant.0.within inside found
 
@@ -26,9 +26,9 @@ pub invariant_of-self : goal.invariant_of-self
 invariant_of-self g c =
     let rows = c.self.inside.rows.items in
     let ids = c.self.inside.ids.items in
-    let inside : c.in-Ok.at < length ids = omega (arith, c.in-Ok.ensures.bound, ap length c.as_slice-2.ensures.value) in
+    let inside : c.in-Ok.at < length ids = c.in-Ok.ensures.bound in
     let is = c.index.ensures ∙ get_any ids c.in-Ok.at c.index.result.now 0 inside in
-    let found = rw (c.as_slice.ensures.value, c.as_slice-2.ensures.value, c.id.ensures) at c.in-Ok.ensures.place in
+    let found = rw (c.as_slice.ensures.value, c.id.ensures) at c.in-Ok.ensures.place in
     let key = ap (λ (p : ℕ). g.R.Row.key (get_or rows p c.args.row)) is
     ∙ found_key id_cmp g.R.Row.key id_exact (g.R.Row.key c.args.row) rows ids c.in-Ok.at c.args.row c.self.invariant.0.within inside found in
     let lt = subst (λ p. p < length rows) (sym is) (all_among (λ p. p < length rows) ids (get_or ids c.in-Ok.at 0) c.self.invariant.0.within (get_among ids c.in-Ok.at 0 inside)) in (
@@ -39,7 +39,7 @@ invariant_of-self g c =
 
 pub returns-in_err-insert-in-Err-clause-stands : goal.returns-in_err-insert-in-Err-clause-stands
 returns-in_err-insert-in-Err-clause-stands g c =
-    let gap = rw (c.as_slice.ensures.value, c.as_slice-2.ensures.value, c.id.ensures) at c.in-Err.ensures.place in
+    let gap = rw (c.as_slice.ensures.value, c.id.ensures) at c.in-Err.ensures.place in
     λ stands. absurd (none_stands _ (ap (find_row id_cmp g.R.Row.key (g.R.Row.key c.args.row)) (sym c.self.view_is)
     ∙ find_gap id_cmp g.R.Row.key (g.R.Row.key c.args.row) (picked c.self.inside.rows.items c.self.inside.ids.items) _ gap) stands)
 
@@ -47,8 +47,8 @@ pub returns-in-Ok-clause-ok : goal.returns-in-Ok-clause-ok
 returns-in-Ok-clause-ok g c =
     let rows = c.self.inside.rows.items in
     let ids = c.self.inside.ids.items in
-    let inside : c.in-Ok.at < length ids = omega (arith, c.in-Ok.ensures.bound, ap length c.as_slice-2.ensures.value) in
-    let found = rw (c.as_slice.ensures.value, c.as_slice-2.ensures.value, c.id.ensures) at c.in-Ok.ensures.place in
+    let inside : c.in-Ok.at < length ids = c.in-Ok.ensures.bound in
+    let found = rw (c.as_slice.ensures.value, c.id.ensures) at c.in-Ok.ensures.place in
     let is = c.index.ensures ∙ get_any ids c.in-Ok.at c.index.result.now 0 inside in
     ap (λ l. picked l ids) (c.replace.ensures.rows ∙ ap (λ (p : ℕ). set rows p c.args.row) is)
     ∙ picked_set id_cmp g.R.Row.key nat_list_cmp_total rows ids c.in-Ok.at c.args.row c.self.invariant.0 inside
@@ -56,6 +56,6 @@ returns-in-Ok-clause-ok g c =
 
 pub returns-in_ok-insert-in-Err-clause-ok : goal.returns-in_ok-insert-in-Err-clause-ok
 returns-in_ok-insert-in-Err-clause-ok g c =
-    let gap = rw (c.as_slice.ensures.value, c.as_slice-2.ensures.value, c.id.ensures) at c.in-Err.ensures.place in
+    let gap = rw (c.as_slice.ensures.value, c.id.ensures) at c.in-Err.ensures.place in
     c.in_ok-insert-in-Err.ensures.ok ∙ sym (put_gap id_cmp g.R.Row.key c.args.row (picked c.self.inside.rows.items c.self.inside.ids.items) _ gap)
     ∙ ap (put_row id_cmp g.R.Row.key c.args.row) c.self.view_is
