@@ -3,10 +3,10 @@
 #![tactic(auto)]
 
 mod clock;
+mod connection;
 mod deadline;
 mod ending;
 mod framing;
-mod kept;
 mod limits;
 mod line;
 mod log;

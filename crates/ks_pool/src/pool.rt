@@ -1,5 +1,5 @@
 use crate::clock::WatchedClock;
-use crate::kept::{AtHand, Kept};
+use crate::connection::{AtHand, Connection};
 use crate::limits::{ACCEPTS, CONNECTIONS, END_SECONDS, SPARE_DESCRIPTORS, WORKER_DESCRIPTORS};
 use crate::line::{Line, Seen};
 use crate::log::Log;
@@ -140,7 +140,7 @@ impl Pool {
         &self,
         rt: &R,
         worker: usize,
-    ) -> Result<Option<Kept>, Failed> {
+    ) -> Result<Option<Connection>, Failed> {
         'reports: for _ in rt.forever() {
             let report = self.wait(rt, worker)?;
             let Ok(now) = Instant::now(rt) else {
@@ -149,12 +149,12 @@ impl Pool {
             match self.step(rt, worker, report, now)? {
                 Step::End => return Ok(None),
                 Step::Accept => self.accept_all(rt, now)?,
-                Step::Serve(kept, woken) => {
+                Step::Serve(connection, woken) => {
                     if let Some(woken) = woken {
                         self.pollers.of(woken).wake();
                     }
-                    if let Some(kept) = self.sort(rt, kept, now) {
-                        return Ok(Some(kept));
+                    if let Some(connection) = self.sort(rt, connection, now) {
+                        return Ok(Some(connection));
                     }
                 }
                 Step::Sweep | Step::Wait => {}
@@ -203,44 +203,49 @@ impl Pool {
     }
 
     /// A connection again, if a request of it is at hand. Else it rests, or is let go.
-    fn sort<R: Wait>(&self, rt: &R, mut kept: Kept, now: Instant) -> Option<Kept> {
-        match kept.go_on(now) {
-            Ok(AtHand::Request) => return Some(kept),
+    fn sort<R: Wait>(
+        &self,
+        rt: &R,
+        mut connection: Connection,
+        now: Instant,
+    ) -> Option<Connection> {
+        match connection.go_on(now) {
+            Ok(AtHand::Request) => return Some(connection),
             Ok(AtHand::Part) => {
-                kept.wait_on(now);
-                let worker = kept.registration.worker;
-                self.slots.lock(rt).put(&self.pollers, kept, worker);
+                connection.wait_on(now);
+                let worker = connection.registration.worker;
+                self.slots.lock(rt).put(&self.pollers, connection, worker);
             }
-            Ok(AtHand::End) | Err(Failed) => self.let_go(rt, kept),
+            Ok(AtHand::End) | Err(Failed) => self.let_go(rt, connection),
         }
         None
     }
 
     /// Takes back a connection of which the next request is to come, and which then is this worker's.
-    pub fn rest<R: Clock + Wait>(&self, rt: &R, mut kept: Kept, worker: usize) {
+    pub fn rest<R: Clock + Wait>(&self, rt: &R, mut connection: Connection, worker: usize) {
         match Instant::now(rt) {
             Ok(now) => {
-                kept.rest(now);
-                self.slots.lock(rt).put(&self.pollers, kept, worker);
+                connection.rest(now);
+                self.slots.lock(rt).put(&self.pollers, connection, worker);
             }
-            Err(_) => self.let_go(rt, kept),
+            Err(_) => self.let_go(rt, connection),
         }
     }
 
     /// Takes back a connection of which no more is answered. It is let go once its client has taken what waits for it,
     /// and has closed its side.
-    pub fn close<R: Clock + Wait>(&self, rt: &R, mut kept: Kept) {
-        kept.end();
+    pub fn close<R: Clock + Wait>(&self, rt: &R, mut connection: Connection) {
+        connection.end();
         match Instant::now(rt) {
-            Ok(now) => drop(self.sort(rt, kept, now)),
-            Err(_) => self.let_go(rt, kept),
+            Ok(now) => drop(self.sort(rt, connection, now)),
+            Err(_) => self.let_go(rt, connection),
         }
     }
 
     /// Lets a connection go.
-    pub fn let_go<R: Wait>(&self, rt: &R, kept: Kept) {
-        let key = kept.registration.key;
-        drop(kept);
+    pub fn let_go<R: Wait>(&self, rt: &R, connection: Connection) {
+        let key = connection.registration.key;
+        drop(connection);
         self.slots.lock(rt).forget(key);
     }
 

@@ -3,7 +3,7 @@ ghost use Rattle.ks_outside.specs.Counts.{Counts, next_count};
 ghost use Rattle.ks_outside.specs.Real.{untold_desk};
 
 use crate::clock::WatchedClock;
-use crate::kept::Kept;
+use crate::connection::Connection;
 use crate::{Pool, TcpLink};
 use ks_base::{Memory, Receipt};
 use ks_outside::{Answered, Desk, Failed};
@@ -90,9 +90,9 @@ impl<'a, R: Clock + RandomSource + Wait + Eprint> Desk for RealDesk<'a, R> {
         ensures exact { self.new ≡ record self.old { accept_faults = (if is_ok result then self.old.accept_faults else next_count self.old.accept_faults) } }
     {
         match next_of(self.pool, self.rt, self.place()) {
-            Ok(Some(kept)) => {
-                self.client = Some(kept.client);
-                Ok(Some(TcpLink::new(self.rt, kept)))
+            Ok(Some(connection)) => {
+                self.client = Some(connection.client);
+                Ok(Some(TcpLink::new(self.rt, connection)))
             }
             Ok(None) => Ok(None),
             Err(Failed) => {
@@ -181,7 +181,7 @@ fn next_of<R: Clock + Wait + Eprint>(
     pool: Option<&Pool>,
     rt: &R,
     worker: usize,
-) -> Result<Option<Kept>, Failed> {
+) -> Result<Option<Connection>, Failed> {
     match pool {
         Some(pool) => pool.next(rt, worker),
         None => Err(Failed),

@@ -1,6 +1,6 @@
 //! Where a connection is reported.
 
-use crate::kept::Kept;
+use crate::connection::Connection;
 use crate::poller::Pollers;
 use mio::net::TcpStream;
 use mio::{Interest, Token};
@@ -39,7 +39,7 @@ impl Registration {
     }
 }
 
-impl Kept {
+impl Connection {
     /// Has it reported to this worker from now on. It is reported once more where that is due, or where the worker is another
     /// one than before.
     pub fn report_to(&mut self, pollers: &Pollers, worker: usize, is_due: bool) -> io::Result<()> {

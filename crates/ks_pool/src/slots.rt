@@ -1,5 +1,5 @@
+use crate::connection::Connection;
 use crate::ending::Ending;
-use crate::kept::Kept;
 use crate::limits::LAST_WAIT_MILLIS;
 use crate::poller::{Pollers, Report};
 use crate::registration::Registration;
@@ -16,7 +16,7 @@ use std::time::Instant;
 #[derive(Drop)]
 enum Slot {
     /// It rests here.
-    Resting(Kept),
+    Resting(Connection),
     /// A worker has it, and whether something was reported of it since.
     Lent(bool),
 }
@@ -31,7 +31,7 @@ pub enum Step {
     /// Connections wait at the listener.
     Accept,
     /// This connection was lent, and this worker is to be woken, if one is.
-    Serve(Kept, Option<usize>),
+    Serve(Connection, Option<usize>),
     /// Nothing.
     Wait,
 }
@@ -104,16 +104,16 @@ impl Slots {
         };
         self.last = registration.worker;
         if registration.register(pollers, &mut stream).is_ok() {
-            let kept = Kept::new(self.alloc, stream, client, registration, now);
-            drop(self.slots.insert(Slot::Resting(kept)));
+            let connection = Connection::new(self.alloc, stream, client, registration, now);
+            drop(self.slots.insert(Slot::Resting(connection)));
         }
     }
 
     /// Lends the connection of this place, if one rests there, and else notes that something was reported of it.
-    fn lend(&mut self, key: usize) -> Option<Kept> {
+    fn lend(&mut self, key: usize) -> Option<Connection> {
         let slot = self.slots.get_mut(key)?;
         match mem::replace(slot, Slot::Lent(false)) {
-            Slot::Resting(kept) => Some(kept),
+            Slot::Resting(connection) => Some(connection),
             Slot::Lent(_) => {
                 *slot = Slot::Lent(true);
                 None
@@ -123,19 +123,19 @@ impl Slots {
 
     /// Takes a connection back, and has it reported to this worker from now on. It is reported again where something was reported
     /// of it meanwhile, or where a further request lies ready. Once the end has begun, one of which nothing is at work is let go.
-    pub fn put(&mut self, pollers: &Pollers, mut kept: Kept, worker: usize) {
-        let key = kept.registration.key;
-        if self.ending.has_begun() && kept.is_idle() {
+    pub fn put(&mut self, pollers: &Pollers, mut connection: Connection, worker: usize) {
+        let key = connection.registration.key;
+        if self.ending.has_begun() && connection.is_idle() {
             self.forget(key);
             return;
         }
-        let is_due = self.was_reported(key) || kept.is_whole();
-        if kept.report_to(pollers, worker, is_due).is_err() {
+        let is_due = self.was_reported(key) || connection.is_whole();
+        if connection.report_to(pollers, worker, is_due).is_err() {
             self.forget(key);
             return;
         }
         if let Some(slot) = self.slots.get_mut(key) {
-            *slot = Slot::Resting(kept);
+            *slot = Slot::Resting(connection);
         }
     }
 
@@ -164,9 +164,9 @@ impl Slots {
             Report::Nothing | Report::Woken => Step::Wait,
             Report::Listener => Step::Accept,
             Report::Connection(key, has_closed) => match self.lend(key) {
-                Some(mut kept) => {
-                    kept.hear(has_closed);
-                    Step::Serve(kept, self.waiters.lend())
+                Some(mut connection) => {
+                    connection.hear(has_closed);
+                    Step::Serve(connection, self.waiters.lend())
                 }
                 None => Step::Wait,
             },
@@ -200,7 +200,7 @@ impl Slots {
     /// Whether a request or a response of a connection that rests here is under way.
     fn is_at_work(&self) -> bool {
         self.slots.iter().any(|(_, slot)| match slot {
-            Slot::Resting(kept) => kept.is_at_work(),
+            Slot::Resting(connection) => connection.is_at_work(),
             // Its worker sees to it.
             Slot::Lent(_) => false,
         })
@@ -217,7 +217,7 @@ impl Slots {
 
     fn is_over(&self, key: usize, now: Instant) -> bool {
         match self.slots.get(key) {
-            Some(Slot::Resting(kept)) => kept.until.has_passed(now),
+            Some(Slot::Resting(connection)) => connection.until.has_passed(now),
             Some(Slot::Lent(_)) | None => false,
         }
     }
@@ -226,10 +226,10 @@ impl Slots {
     fn oldest(&self) -> Option<(usize, Instant)> {
         let mut oldest: Option<(usize, Instant)> = None;
         for (key, slot) in self.slots.iter() {
-            if let Slot::Resting(kept) = slot {
+            if let Slot::Resting(connection) = slot {
                 oldest = match oldest {
-                    Some((_, rested)) if rested <= kept.rested => oldest,
-                    Some(_) | None => Some((key, kept.rested)),
+                    Some((_, rested)) if rested <= connection.rested => oldest,
+                    Some(_) | None => Some((key, connection.rested)),
                 };
             }
         }

@@ -3,8 +3,8 @@ ghost use Rattle.ks_outside.specs.Counts.{next_count};
 ghost use Rattle.ks_outside.specs.Streams.{OnlyReads, OnlyWrites, TookNone};
 ghost use Rattle.ks_outside.specs.Real.{untold_stream};
 
+use crate::connection::{AtHand, Connection};
 use crate::deadline::Awaited;
-use crate::kept::{AtHand, Kept};
 use crate::limits::REQUESTS_AT_ONCE;
 use crate::pool::Pool;
 use ks_outside::{Failed, Sink, Source, Stream};
@@ -21,7 +21,7 @@ use std::sync::Wait;
 #[derive(Drop)]
 pub struct TcpLink<'a, R> {
     clock: &'a R,
-    kept: Kept,
+    connection: Connection,
     /// How many requests were answered while a further one lay ready.
     answered: u32,
     /// It may be put aside until more comes.
@@ -40,12 +40,12 @@ impl<'a, R> Model for TcpLink<'a, R> {
 
 impl<'a, R> TcpLink<'a, R> {
     /// A link over this connection, which has not failed yet.
-    pub(crate) fn new(clock: &'a R, kept: Kept) -> TcpLink<'a, R>
+    pub(crate) fn new(clock: &'a R, connection: Connection) -> TcpLink<'a, R>
         ensures { result ≡ record { reads = 0; writes = 0 } }
     {
         TcpLink {
             clock,
-            kept,
+            connection,
             answered: 0,
             is_resting: false,
             read_faults: 0,
@@ -57,21 +57,23 @@ impl<'a, R> TcpLink<'a, R> {
 impl<R> TcpLink<'_, R> {
     /// Whether others are to have their turn, behind many answers or one that its client was slow to take.
     fn is_others_turn(&self) -> bool {
-        self.answered >= REQUESTS_AT_ONCE || self.kept.until.is_of(Awaited::Taking)
+        self.answered >= REQUESTS_AT_ONCE || self.connection.until.is_of(Awaited::Taking)
     }
 
     /// Whether nothing more can be done for it, or others are to have their turn.
     fn may_rest(&mut self) -> bool
         ensures same { self.new ≡ self.old }
     {
-        if self.kept.is_stuck() {
+        if self.connection.is_stuck() {
             return true;
         }
-        match self.kept.read_ahead() {
-            Ok(AtHand::Part) => self.kept.hand_out().is_ok(),
+        match self.connection.read_ahead() {
+            Ok(AtHand::Part) => self.connection.hand_out().is_ok(),
             Ok(AtHand::Request) => {
                 self.answered = self.answered.saturating_add(1);
-                self.kept.is_whole() && self.is_others_turn() && self.kept.hand_out().is_ok()
+                self.connection.is_whole()
+                    && self.is_others_turn()
+                    && self.connection.hand_out().is_ok()
             }
             Ok(AtHand::End) | Err(Failed) => false,
         }
@@ -83,18 +85,18 @@ impl<R: Clock + Wait> TcpLink<'_, R> {
     pub(crate) fn give_back(self, pool: &Pool, worker: usize) {
         let TcpLink {
             clock,
-            kept,
+            connection,
             answered: _,
             is_resting,
             read_faults,
             write_faults,
         } = self;
         if read_faults > 0 || write_faults > 0 {
-            pool.let_go(clock, kept);
+            pool.let_go(clock, connection);
         } else if is_resting {
-            pool.rest(clock, kept, worker);
+            pool.rest(clock, connection, worker);
         } else {
-            pool.close(clock, kept);
+            pool.close(clock, connection);
         }
     }
 }
@@ -115,7 +117,7 @@ impl<R: Clock> Source for TcpLink<'_, R> {
         ensures exact { self.new ≡ record self.old { reads = (if is_ok result then self.old.reads else next_count self.old.reads) } }
     {
         self.is_resting = false;
-        let answer = self.kept.read(self.clock, into);
+        let answer = self.connection.read(self.clock, into);
         if answer.is_err() {
             self.read_faults = self.read_faults.saturating_add(1);
         }
@@ -145,7 +147,7 @@ impl<R: Clock> Sink for TcpLink<'_, R> {
         ensures err { OnErr result (self.new ≡ record self.old { writes = next_count self.old.writes }) }
     {
         self.is_resting = false;
-        match self.kept.write(self.clock, piece) {
+        match self.connection.write(self.clock, piece) {
             Ok(count) if count > 0 => Ok(count),
             answer => {
                 self.write_faults = self.write_faults.saturating_add(1);

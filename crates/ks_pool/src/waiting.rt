@@ -1,8 +1,8 @@
 //! Calls to a connection that wait for its client.
 ghost use Rattle.std.specs.Prelude.{◌<◌, ◌≤◌, IfOk, IfSome, length};
 
+use crate::connection::Connection;
 use crate::deadline::Awaited;
-use crate::kept::Kept;
 use crate::limits::WAIT_MILLIS;
 use crate::socket::{read_now, write_now};
 use ks_outside::Failed;
@@ -20,7 +20,7 @@ fn now_of<R: Clock>(clock: &R) -> Result<Instant, Failed> {
     }
 }
 
-impl Kept {
+impl Connection {
     /// Waits until it may be ready for this, a second at most. It is a fault where its deadline has passed, or the time
     /// that it has once a signal asked the process to end.
     fn wait<R: Clock>(&mut self, clock: &R, awaited: Awaited, events: i16) -> Result<(), Failed> {

@@ -32,7 +32,7 @@ use Rattle.ks_top.specs.declared.begun.Start.{Start}
 use Rattle.ks_commands.specs.declared.fault.Fault.{Fault}
 use Rattle.ks_commands.specs.declared.fault.Fault.TheVariants as fault
 use Rattle.ks_top.specs.declared.opened.NotOpened.{NotOpened}
-use Rattle.ks_top.specs.declared.opened.Opened.{Opened}
+use Rattle.ks_top.specs.declared.opened.OpenIdentity.{OpenIdentity}
 use Rattle.ks_top.specs.Identities.{Begins, StaysKept, Stopped, Stops}
 use Rattle.ks_top.specs.Identities as stop
 use Rattle.ks_commands.specs.Opened.{IsGiven, IsOther, IsText, ReadsFile}
@@ -216,7 +216,7 @@ pub front_anew : (opening : PlainOpening) → first_front opening ≡ restored_f
 unfolding last_moment_in
 front_anew opening = refl
 
-began_anew : {Link Seat K : Type 0} (keeping : Keeping K) (old new : World Link Seat K) (start : Start) (opened : Opened K)
+began_anew : {Link Seat K : Type 0} (keeping : Keeping K) (old new : World Link Seat K) (start : Start) (opened : OpenIdentity K)
     → BegunAnew keeping old new start → opened.identity ≡ start.identity → opened.url ≡ start.url → opened.opening ≡ start.opening → entries_of opened.past ≡ []
     → OnlyReads ⊥ old.file new.file → ((told : List ℕ) → old.file.left ≡ Some told → ReadsFile told new.file.left) → OnlyLooks ⊥ old.dir new.dir
     → keeping.faults old.keeper ≤ keeping.faults new.keeper → (keeping.whole new.keeper → keeping.whole old.keeper)
@@ -241,7 +241,7 @@ began_anew keeping old new start opened begun identity url opening past reads re
       since = since;
     }
 
-pub opened_anew : {Link Seat K : Type 0} (keeping : Keeping K) (old mid : World Link Seat K) (start : Start) (opened : Opened K)
+pub opened_anew : {Link Seat K : Type 0} (keeping : Keeping K) (old mid : World Link Seat K) (start : Start) (opened : OpenIdentity K)
     → BegunAnew keeping old mid start → opened.keeper ≡ mid.keeper
     → opened.identity ≡ start.identity → opened.url ≡ start.url → opened.opening ≡ start.opening → entries_of opened.past ≡ []
     → OnlyReads ⊥ old.file mid.file → ((told : List ℕ) → old.file.left ≡ Some told → ReadsFile told mid.file.left) → OnlyLooks ⊥ old.dir mid.dir
@@ -252,7 +252,7 @@ opened_anew keeping old mid start opened begun keeper identity url opening past 
     (began_anew keeping old mid start opened begun identity url opening past reads reach looks faults since)
 
 -- with all changes that its keeper holds; in the world in the middle they were not made yet
-pub opened_again : {Link Seat K : Type 0} (keeping : Keeping K) (old mid : World Link Seat K) (start : Start) (opened : Opened K)
+pub opened_again : {Link Seat K : Type 0} (keeping : Keeping K) (old mid : World Link Seat K) (start : Start) (opened : OpenIdentity K)
     → BegunAgain keeping old mid start → WentOn keeping mid.keeper start opened
     → OnlyReads ⊥ old.file mid.file → ((told : List ℕ) → old.file.left ≡ Some told → ReadsFile told mid.file.left) → OnlyLooks ⊥ old.dir mid.dir
     → keeping.faults old.keeper ≤ keeping.faults mid.keeper → (keeping.whole mid.keeper → keeping.whole old.keeper)
@@ -334,7 +334,7 @@ stopped_again {Link = Link} {Seat = Seat} {K = K} keeping old mid start refused 
       others = ap (λ (w : World Link Seat K). record w { keeper = refused.keeper }) others;
     }
 
-pub goes_on_at : {Link Seat K : Type 0} (keeping : Keeping K) (old mid : World Link Seat K) (start : Start) (result : Result (Opened K) (NotOpened K))
+pub goes_on_at : {Link Seat K : Type 0} (keeping : Keeping K) (old mid : World Link Seat K) (start : Start) (result : Result (OpenIdentity K) (NotOpened K))
     → BegunAgain keeping old mid start → GoesOnFrom keeping mid.keeper start result
     → OnlyReads ⊥ old.file mid.file → ((told : List ℕ) → old.file.left ≡ Some told → ReadsFile told mid.file.left) → OnlyLooks ⊥ old.dir mid.dir
     → keeping.faults old.keeper ≤ keeping.faults mid.keeper → (keeping.whole mid.keeper → keeping.whole old.keeper)

@@ -21,7 +21,7 @@ use std::snapshot::Snapshot;
 
 /// An identity that was opened or restored, the keeper of its changes, and what it is served with.
 #[derive(Drop)]
-pub struct Opened<B> {
+pub struct OpenIdentity<B> {
     pub identity: Identity,
     pub keeper: B,
     /// The table of routes.
@@ -50,7 +50,7 @@ pub fn open<F: Source, D: KeyDir, P: Desk, B: Keeper>(
     dir: &mut D,
     desk: &mut P,
     keeper: B,
-) -> Result<Opened<B>, NotOpened<B>>
+) -> Result<OpenIdentity<B>, NotOpened<B>>
     requires tidy { B.whole keeper → IsTidy (B.kept keeper) }
     ensures opens { (input output : StreamState) (place : DirState) (others : List (P × D)) → OpensAt (seen_by B.kept B.whole B.faults)
         (record { input = input; file = F.stream file.old; output = output; dir = D.dir dir.old; desk = P.desk desk.old; place = place; others = others; keeper = keeper })
@@ -72,7 +72,7 @@ pub fn open<F: Source, D: KeyDir, P: Desk, B: Keeper>(
 }
 
 /// What a start is served with, before any change.
-fn begun_anew<B>(start: Start, keeper: B, routes: Routes) -> Opened<B>
+fn begun_anew<B>(start: Start, keeper: B, routes: Routes) -> OpenIdentity<B>
     ensures identity { result.identity ≡ start.identity }
     ensures keeper { result.keeper ≡ keeper }
     ensures url { result.url ≡ start.url }
@@ -84,7 +84,7 @@ fn begun_anew<B>(start: Start, keeper: B, routes: Routes) -> Opened<B>
         url,
         opening,
     } = start;
-    Opened {
+    OpenIdentity {
         identity,
         keeper,
         routes,
@@ -100,7 +100,7 @@ fn go_on<B: Keeper>(
     start: Start,
     keeper: B,
     routes: Routes,
-) -> Result<Opened<B>, NotOpened<B>>
+) -> Result<OpenIdentity<B>, NotOpened<B>>
     requires stands { IsStart start }
     requires tidy { B.whole keeper → IsTidy (B.kept keeper) }
     ensures { (B.whole keeper → HasHeader (B.kept keeper) (plain start.opening.value)) → GoesOnFrom (seen_by B.kept B.whole B.faults) keeper start result }
@@ -111,7 +111,7 @@ fn go_on<B: Keeper>(
         opening,
     } = start;
     match restored(alloc, identity, keeper) {
-        Ok((identity, keeper, past)) => Ok(Opened {
+        Ok((identity, keeper, past)) => Ok(OpenIdentity {
             identity,
             keeper,
             routes,

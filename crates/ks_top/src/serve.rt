@@ -10,7 +10,7 @@ ghost use Rattle.ks_state.specs.Standing.{StandsWithAllKept};
 ghost use Rattle.ks_top.specs.Serve.{Served, Serves, workers_fault};
 ghost use Rattle.ks_top.specs.steps.Ends.{keeper_at, state_at};
 
-use crate::opened::{NotOpened, Opened, open};
+use crate::opened::{NotOpened, OpenIdentity, open};
 use crate::outcome::{End, Outcome};
 use ks_commands::Fault;
 use ks_keep::{Booked, KeeperFailed, Since};
@@ -81,7 +81,7 @@ fn serve_desks<
     B: Keeper + Send + Drop,
 >(
     rt: &R,
-    opened: Opened<B>,
+    opened: OpenIdentity<B>,
     mut desks: Vec<(P, D)>,
     workers: u32,
     connections: u64,
@@ -104,7 +104,7 @@ where
         result.0 N.front (P.desk first.0) result.1 }
 {
     let alloc = rt.alloc();
-    let Opened {
+    let OpenIdentity {
         identity,
         keeper,
         routes,

@@ -9,7 +9,7 @@ ghost use Rattle.ks_state.specs.Standing.{StandsWithAllKept};
 ghost use Rattle.ks_top.specs.Talk.{ServedOne, Talks, ending};
 ghost use Rattle.ks_top.specs.steps.Ends.{keeper_at, state_at};
 
-use crate::opened::{NotOpened, Opened, open};
+use crate::opened::{NotOpened, OpenIdentity, open};
 use crate::outcome::{End, Outcome};
 use ks_commands::Fault;
 use ks_keep::{Booked, KeeperFailed, Since};
@@ -65,7 +65,7 @@ fn serve_one<
     B: Keeper,
 >(
     rt: &R,
-    opened: Opened<B>,
+    opened: OpenIdentity<B>,
     input: &mut S,
     output: &mut K,
     desk: &mut P,
@@ -81,7 +81,7 @@ fn serve_one<
         (record { input = S.stream input.new; file = file_after; output = K.stream output.new; dir = dir_after; desk = P.desk desk.new; place = D.dir place.new; others = others; keeper = result.1.keeper })
         result.0 N.front (P.desk desk.old) result.1 }
 {
-    let Opened {
+    let OpenIdentity {
         identity,
         keeper,
         routes,

@@ -30,7 +30,7 @@ use Rattle.ks_top.specs.declared.begun.Start.{Start}
 use Rattle.ks_commands.specs.declared.fault.Fault.{Fault}
 use Rattle.ks_commands.specs.declared.fault.Fault.TheVariants as fault
 use Rattle.ks_top.specs.declared.opened.NotOpened.{NotOpened}
-use Rattle.ks_top.specs.declared.opened.Opened.{Opened}
+use Rattle.ks_top.specs.declared.opened.OpenIdentity.{OpenIdentity}
 use Rattle.ks_top.specs.Identities.{Begins, HasNoHeader, Stopped}
 use Rattle.ks_commands.specs.Opened.{AreHeld, IsGiven, IsOpening, ReadsFile}
 use Rattle.ks_top.specs.World.{World}
@@ -129,7 +129,7 @@ IsBegun keeping old new (begun.Anew start) = BegunAnew keeping old new start
 IsBegun keeping old new (begun.Again start) = BegunAgain keeping old new start
 
 -- all changes that a keeper holds were made once more
-pub record WentOn {K : Type 0} (keeping : Keeping K) (old : K) (start : Start) (opened : Opened K) : Type 0 where
+pub record WentOn {K : Type 0} (keeping : Keeping K) (old : K) (start : Start) (opened : OpenIdentity K) : Type 0 where
   pub redone : AreRedone keeping old (opening_of start) opened.identity opened.keeper opened.past
   pub opening : opened.opening ≡ start.opening
   pub url : opened.url ≡ start.url
@@ -140,16 +140,16 @@ pub record DidNotGoOn {K : Type 0} (keeping : Keeping K) (old : K) (start : Star
   pub not_redone : AreNotRedone keeping old (opening_of start) (record { why = why; keeper = refused.keeper })
   pub is_fault : refused.fault ≡ of_unread why
 
-abbrev pub GoesOnFrom : {K : Type 0} → Keeping K → K → Start → Result (Opened K) (NotOpened K) → Type 0
+abbrev pub GoesOnFrom : {K : Type 0} → Keeping K → K → Start → Result (OpenIdentity K) (NotOpened K) → Type 0
 GoesOnFrom keeping old start (Ok opened) = WentOn keeping old start opened
 GoesOnFrom keeping old start (Err refused) = DidNotGoOn keeping old start refused
 
 -- the front for which an identity was opened: that of its opening with all changes that were kept
-abbrev pub front_of : {K : Type 0} → Opened K → Front
+abbrev pub front_of : {K : Type 0} → OpenIdentity K → Front
 front_of opened = restored_front (plain opened.opening.value) (entries_of opened.past)
 
 -- an identity was opened or restored: it stands for a front with which a server begins, and its keeper is a book of that
-pub record IsOpenedAt {Link Seat K : Type 0} (keeping : Keeping K) (old new : World Link Seat K) (opened : Opened K) : Type 0 where
+pub record IsOpenedAt {Link Seat K : Type 0} (keeping : Keeping K) (old new : World Link Seat K) (opened : OpenIdentity K) : Type 0 where
   pub begins : Begins keeping old new new.desk (front_of opened)
   pub lawful : IsLawful (front_of opened)
   pub stands : StandsWithAllKept opened.identity (front_of opened)
@@ -162,6 +162,6 @@ pub record IsOpenedAt {Link Seat K : Type 0} (keeping : Keeping K) (old new : Wo
   pub since : keeping.whole new.keeper → keeping.whole old.keeper
 
 -- it was, or none was for a fault; the keeper is the one that came back
-abbrev pub OpensAt : {Link Seat K : Type 0} → Keeping K → World Link Seat K → World Link Seat K → Result (Opened K) (NotOpened K) → Type 0
+abbrev pub OpensAt : {Link Seat K : Type 0} → Keeping K → World Link Seat K → World Link Seat K → Result (OpenIdentity K) (NotOpened K) → Type 0
 OpensAt keeping old new (Ok opened) = IsOpenedAt keeping old (record new { keeper = opened.keeper }) opened
 OpensAt keeping old new (Err refused) = Stopped keeping old (record new { keeper = refused.keeper }) refused.fault

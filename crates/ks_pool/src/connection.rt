@@ -28,7 +28,7 @@ pub enum AtHand {
 /// A connection with what came from its client and was not read yet, and with what was written and its client did not
 /// take yet.
 #[derive(Drop)]
-pub struct Kept {
+pub struct Connection {
     alloc: Global,
     pub stream: TcpStream,
     /// The address of its client.
@@ -59,7 +59,7 @@ pub struct Kept {
     ending: Ending,
 }
 
-impl Kept {
+impl Connection {
     /// A connection of which nothing came yet.
     pub fn new(
         alloc: Global,
@@ -67,8 +67,8 @@ impl Kept {
         client: IpAddr,
         registration: Registration,
         now: Instant,
-    ) -> Kept {
-        Kept {
+    ) -> Connection {
+        Connection {
             alloc,
             stream,
             client,
