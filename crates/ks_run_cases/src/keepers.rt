@@ -2,7 +2,7 @@
 
 use crate::kept::Kept;
 use crate::names::token_of;
-use crate::run::{End, WHOLE, run, run_again};
+use crate::run::{End, Outside, WHOLE, run, run_again};
 use crate::session::{Session, TALK};
 use crate::world::World;
 use anyhow::{Context, Result, ensure};
@@ -31,10 +31,7 @@ pub fn keepers<R: Files + AllocGlobal + Threads + Wait + Sync>(
     let mut tried: u64 = 0;
     for failing in 1..changes.saturating_add(FIRST) {
         for is_made in [false, true] {
-            let plan = [(failing, is_made)];
-            let nothing = Kept::nothing(rt.alloc());
-            let end = run_again(rt, TALK, &session.outside(WHOLE), nothing, &plan)?;
-            try_failed(rt, world, case, &whole, end, failing, is_made).with_context(
+            try_failing(rt, world, case, &session, &whole, failing, is_made).with_context(
                 || "a call that failed",
             )?;
             tried = tried.saturating_add(1);
@@ -80,37 +77,46 @@ fn log_in<R: AllocGlobal + Threads + Wait + Sync>(
     session.names.add(rt.alloc(), "caller", token)
 }
 
-/// Fails where a run whose call of the keeper failed ended otherwise, or a restart finds something else.
-fn try_failed<R: Files + AllocGlobal + Threads + Wait + Sync>(
+/// Fails where a run whose call of the keeper with this number fails ends otherwise, or a restart finds something else.
+fn try_failing<R: Files + AllocGlobal + Threads + Wait + Sync>(
     rt: &R,
     world: &World,
     case: &Case,
+    session: &Session,
     whole: &End,
-    end: End,
     failing: u64,
     is_made: bool,
 ) -> Result<()> {
+    let plan = [(failing, is_made)];
+    let nothing = Kept::nothing(rt.alloc());
+    let end = run_again(rt, TALK, &session.outside(WHOLE), nothing, &plan)?;
+    let before = failing.saturating_sub(FIRST);
+    let made = before.saturating_add(u64::from(is_made && failing >= FIRST));
+    try_end(whole, &end, failing, made)?;
+    if failing < FIRST {
+        return Ok(());
+    }
+    let found = listed(rt, world, case, end.kept)?;
+    ensure!(found == made, "{failing}: {found} are listed");
+    Ok(())
+}
+
+/// Fails where such a run answered something else than the whole run before the call, or did not keep so many entries.
+fn try_end(whole: &End, end: &End, failing: u64, made: u64) -> Result<()> {
     ensure!(end.status == 13, "{failing}: status {}", end.status);
-    let kept = failing.saturating_sub(FIRST);
     // The login is answered without a change.
     let answers = if failing < FIRST {
         0
     } else {
-        kept.saturating_add(1)
+        failing.saturating_sub(FIRST).saturating_add(1)
     };
     let front = front(whole.written.as_slice(), answers)?;
     ensure!(
         end.written.as_slice() == front,
         "{failing}: other responses"
     );
-    let made = kept.saturating_add(u64::from(is_made && failing >= FIRST));
     let entries = u64::try_from(end.kept.entries.len())?;
     ensure!(entries == made, "{failing}: {entries} are kept");
-    if failing < FIRST {
-        return Ok(());
-    }
-    let found = listed(rt, world, case, end.kept)?;
-    ensure!(found == made, "{failing}: {found} are listed");
     Ok(())
 }
 
@@ -140,9 +146,14 @@ fn listed<R: Files + AllocGlobal + Threads + Wait + Sync>(
     let (_, again) = session.parted(0)?;
     let end = run_again(rt, TALK, &again, kept, &[])?;
     ensure!(end.status == 0, "status {} of the restart", end.status);
-    let listed = std::str::from_utf8(end.written.as_slice())?;
+    count_listed(rt.alloc(), end.written.as_slice())
+}
+
+/// How many names that changes give are listed, from the first change on.
+fn count_listed(alloc: Global, written: &[u8]) -> Result<u64> {
+    let listed = std::str::from_utf8(written)?;
     for found in 0..u64::MAX {
-        if !listed.contains(numbered(rt.alloc(), found)?.as_str()) {
+        if !listed.contains(numbered(alloc, found)?.as_str()) {
             return Ok(found);
         }
     }
@@ -162,32 +173,69 @@ pub fn books<R: Files + AllocGlobal + Threads + Wait + Sync>(
     case: &Case,
 ) -> Result<String> {
     let session = changing(rt, world, case, case.number(4)?)?;
-    let end = run(rt, TALK, &session.outside(WHOLE))?;
-    ensure!(end.status == 0, "status {}", end.status);
-    let mut kept = end.kept;
-    let mut again = session.outside(WHOLE);
-    again.input = &[];
-    let mut file = Vec::from_slice(rt.alloc(), again.file)?;
-    match case.str(5)?.split_once(' ') {
-        None => {}
-        Some(("file", edit)) => file = edited(rt.alloc(), file.as_slice(), edit)?,
-        Some(("header", edit)) => {
-            let header = kept.header.context("no header")?;
-            kept.header = Some(edited_bytes(rt.alloc(), &header, edit)?);
-        }
-        Some((number, edit)) => {
-            let number = number.parse::<u64>()?;
-            let entry = kept.entries.remove(&number).context("no such entry")?;
-            let _before = kept
-                .entries
-                .insert(number, edited_bytes(rt.alloc(), &entry, edit)?)?;
-        }
+    let outside = session.outside(WHOLE);
+    let mut restart = Restart {
+        kept: kept_by(rt, &outside)?,
+        file: Vec::from_slice(rt.alloc(), outside.file)?,
+    };
+    if let Some((what, edit)) = case.str(5)?.split_once(' ') {
+        restart.change(rt.alloc(), what, edit)?;
     }
-    again.file = file.as_slice();
+    told_again(rt, &outside, restart)
+}
+
+/// What a whole run keeps.
+fn kept_by<R: AllocGlobal + Threads + Wait + Sync>(rt: &R, outside: &Outside<'_>) -> Result<Kept> {
+    let end = run(rt, TALK, outside)?;
+    ensure!(end.status == 0, "status {}", end.status);
+    Ok(end.kept)
+}
+
+/// The status of a restart without requests, and what it stands for.
+fn told_again<R: AllocGlobal + Threads + Wait + Sync>(
+    rt: &R,
+    outside: &Outside<'_>,
+    restart: Restart,
+) -> Result<String> {
+    let Restart { kept, file } = restart;
+    let again = Outside {
+        input: &[],
+        file: file.as_slice(),
+        ..*outside
+    };
     let End { status, fault, .. } = run_again(rt, TALK, &again, kept, &[])?;
     match fault {
         None => Ok(format!(in rt.alloc(); "{status} whole")?),
         Some(fault) => Ok(format!(in rt.alloc(); "{status} {fault}")?),
+    }
+}
+
+/// What a restart is over.
+#[derive(Drop)]
+struct Restart {
+    kept: Kept,
+    file: Vec<u8>,
+}
+
+impl Restart {
+    /// Changes the opening file (`file`), what is kept as header (`header`) or the entry with this number.
+    fn change(&mut self, alloc: Global, what: &str, edit: &str) -> Result<()> {
+        match what {
+            "file" => self.file = edited(alloc, self.file.as_slice(), edit)?,
+            "header" => {
+                let header = self.kept.header.as_ref().context("no header")?;
+                self.kept.header = Some(edited_bytes(alloc, header, edit)?);
+            }
+            number => {
+                let number = number.parse::<u64>()?;
+                let entry = self.kept.entries.remove(&number).context("no such entry")?;
+                let _before = self
+                    .kept
+                    .entries
+                    .insert(number, edited_bytes(alloc, &entry, edit)?)?;
+            }
+        }
+        Ok(())
     }
 }
 

@@ -43,26 +43,25 @@ pub fn talk_desks<R: AllocGlobal + Threads + Wait + Sync>(
     };
     let mut dir = folder(alloc, "", 0)?;
     let desks = desks(alloc, outside, case)?;
-    let End {
-        status,
-        written,
-        desks,
-        kept,
-        fault: _fault,
-    } = run_over(
-        rt,
-        TALK,
-        &outside,
-        &mut dir,
-        desks,
-        Kept::nothing(alloc),
-        &[],
-    )?;
-    let told = names(alloc, known, written.as_slice())?;
-    let command = "serve o1.json keys 127.0.0.1:0";
-    let end = run_over(rt, command, &outside, &mut dir, desks, kept, &[])?;
-    let served = said(alloc, known, end.status, end.desks.as_slice())?;
+    let kept = Kept::nothing(alloc);
+    let end = run_over(rt, TALK, &outside, &mut dir, desks, kept, &[])?;
+    let told = names(alloc, known, end.written.as_slice())?;
+    let status = end.status;
+    let served = served_behind(rt, &outside, &mut dir, known, end)?;
     Ok(format!(in alloc; "{status}: {told}, then {served}")?)
+}
+
+/// What a `serve` with the desks that a run left, and over what it kept, answers on their links.
+fn served_behind<R: AllocGlobal + Threads + Wait + Sync>(
+    rt: &R,
+    outside: &Outside<'_>,
+    dir: &mut MemoryDir,
+    known: &[Row],
+    end: End,
+) -> Result<String> {
+    let command = "serve o1.json keys 127.0.0.1:0";
+    let end = run_over(rt, command, outside, dir, end.desks, end.kept, &[])?;
+    said(rt.alloc(), known, end.status, end.desks.as_slice())
 }
 
 /// The two desks of a case.
