@@ -12,7 +12,7 @@ pub struct ByTarget {
 
 /// The grants at a target.
 #[derive(Clone, Copy)]
-pub struct AtTarget {
+pub(crate) struct AtTarget {
     pub target: Target,
 }
 

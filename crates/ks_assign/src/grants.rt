@@ -16,7 +16,7 @@ use std::alloc::{AllocError, Global};
 use std::marker::Model;
 
 /// Grants, each once: by actor (users first), target (the system first, then domains), whether they are inherited (those that
-/// are not first) and role.
+/// are not first) and role. Beside this order they stand by target, so that those at one are found without the others.
 #[derive(Drop)]
 pub struct Grants {
     alloc: Global,

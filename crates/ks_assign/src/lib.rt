@@ -5,5 +5,5 @@ mod by_target;
 mod grants;
 mod named;
 
-pub use by_target::{AtTarget, ByTarget};
+pub use by_target::ByTarget;
 pub use grants::Grants;

@@ -17,7 +17,6 @@ use Rattle.ks_machine.specs.declared.cause.ScopeWhy.TheVariants as scope_why
 use Rattle.ks_machine.specs.AppCredCommands.{create_app_cred, own_project, role_held, roles_given}
 use Rattle.ks_machine.specs.Attempts.{Attempt, Go, Stop, Lacks, ◌>>=◌, Known, each, found}
 use Rattle.ks_machine.specs.Effective.{in_order}
-use Rattle.ks_machine.specs.Outcomes.{Outcome}
 use Rattle.ks_machine.specs.States.{State}
 use Rattle.ks_machine.specs.Tables.{standing_user}
 use Rattle.ks_machine.specs.TrustCommands.{needs, unrestricted}

@@ -61,11 +61,3 @@ impl OpeningFile {
         is_folder(&self.written.keys)
     }
 }
-
-/// Whether an opening file takes its keys from the folder, or why its form is refused.
-pub fn wants_folder(alloc: Global, text: &[u8]) -> Result<bool, OpeningFault>
-    ensures { AnswersFolder text.now result }
-{
-    let file = OpeningFile::read(alloc, text)?;
-    Ok(file.wants_folder())
-}

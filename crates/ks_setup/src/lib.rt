@@ -10,7 +10,7 @@ mod opening;
 mod policy;
 
 pub use derive::derive_password;
-pub use form::{OpeningFile, wants_folder};
+pub use form::OpeningFile;
 pub use header::{first_opening, opening_of};
 pub use laws::openings_are_in_range;
 pub use opening::{OpeningFault, read_opening};
