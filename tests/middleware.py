@@ -9,22 +9,19 @@ python3-keystonemiddleware`), nothing is tried. The program is bin/ks of this re
 another. The exit status is 1 where something is otherwise.
 """
 
-import http.client
 import json
-import logging
 import os
 import sys
 import time
 
 sys.dont_write_bytecode = True
-from cloud import cloud, require_module
+from cloud import DEMO, SERVICE, call, log_in, require_module, try_application
 from second_reading.ciphers import key_of, seal, spelling
-from served import HOST, Failure, program_of, require
+from served import HOST, require
 
 require_module("keystonemiddleware", "python3-keystonemiddleware")
 from keystonemiddleware import auth_token
 
-SERVICE, DEMO = (f"a{number:031}" for number in (2, 3))
 LIFE, WINDOW = 3600, 172800
 
 
@@ -53,25 +50,6 @@ def asked(app, token, service=None):
     statuses = []
     body = b"".join(app(environ, lambda status, _headers, _failure=None: statuses.append(int(status.split()[0]))))
     return statuses[0], json.loads(body) if statuses[0] == 200 else None
-
-
-def call(server, method, headers, body=None):
-    """A call of `/v3/auth/tokens`: its status, its fields and its body."""
-    connection = http.client.HTTPConnection(HOST, server.port)
-    connection.request(method, "/v3/auth/tokens", json.dumps(body) if body else None, headers)
-    response = connection.getresponse()
-    data = response.read()
-    connection.close()
-    return response.status, response.headers, json.loads(data) if data else None
-
-
-def log_in(server, name, password, project):
-    """The token of a user on a project, and the user's id."""
-    user = {"name": name, "domain": {"id": "default"}, "password": password}
-    body = {"auth": {"identity": {"methods": ["password"], "password": {"user": user}}, "scope": {"project": {"id": project}}}}
-    status, headers, told = call(server, "POST", {}, body)
-    require(status == 201, f"the login of {name} was answered {status}")
-    return headers["X-Subject-Token"], told["token"]["user"]["id"]
 
 
 def expired(server, user, project, seconds):
@@ -121,18 +99,5 @@ def try_expired(server, app):
     require(asked(app, expired(server, user, DEMO, WINDOW + 60), service)[0] == 401, "a token behind the window was taken")
 
 
-def main():
-    logging.disable(logging.CRITICAL)
-    tries = (try_valid, try_refused, try_expired)
-    with cloud(program_of(sys.argv[1:])) as server:
-        app = guarded(server.url)
-        for each in tries:
-            each(server, app)
-    print(f"middleware: {len(tries)} tries of keystonemiddleware")
-
-
 if __name__ == "__main__":
-    try:
-        main()
-    except Failure as failure:
-        sys.exit(f"middleware: {failure}")
+    try_application("middleware", "keystonemiddleware", guarded, (try_valid, try_refused, try_expired))
