@@ -106,10 +106,7 @@ impl Id {
     pub fn as_str(&self) -> &str
         ensures { result.now ≡ self.now }
     {
-        match std::str::from_utf8(self.as_slice()) {
-            Ok(text) => text,
-            Err(_) => unreachable!(),
-        }
+        unsafe { std::str::from_utf8_unchecked(self.as_slice()) }
     }
 }
 
@@ -119,7 +116,7 @@ impl PartialEq for Id {
     ghost laws = { Prim.search (comparing, rules) };
 
     fn eq(&self, other: &Id) -> bool {
-        self.as_slice() == other.as_slice()
+        self.as_str() == other.as_str()
     }
 }
 
@@ -147,7 +144,7 @@ impl Ord for Id {
     ghost matches_eq = { Prim.search (comparing, rules) };
 
     fn cmp(&self, other: &Id) -> Ordering {
-        self.as_slice().cmp(other.as_slice())
+        self.as_str().cmp(other.as_str())
     }
 }
 
