@@ -128,10 +128,10 @@ asked_own action.Imply ids request = own_over (implication_in ids) (λ row. comm
 asked_own action.Implication ids request = own_over (implication_in ids) (λ row. command.Implication row)
 asked_own action.IsImplied ids request = own_over (implication_in ids) (λ row. command.IsImplied row)
 asked_own action.Unimply ids request = own_over (implication_in ids) (λ row. command.Unimply row)
-asked_own (action.GrantsOf place) ids request = own_over (grants_in place ids) (λ pair. command.GrantsOf pair.0 pair.1 place.inherited)
-asked_own (action.Grant place) ids request = own_over (grant_in place ids) (λ row. command.Grant row)
-asked_own (action.IsGranted place) ids request = own_over (grant_in place ids) (λ row. command.IsGranted row)
-asked_own (action.Ungrant place) ids request = own_over (grant_in place ids) (λ row. command.Ungrant row)
+asked_own (action.GrantsOf route) ids request = own_over (grants_in route ids) (λ pair. command.GrantsOf pair.0 pair.1 route.inherited)
+asked_own (action.Grant route) ids request = own_over (grant_in route ids) (λ row. command.Grant row)
+asked_own (action.IsGranted route) ids request = own_over (grant_in route ids) (λ row. command.IsGranted row)
+asked_own (action.Ungrant route) ids request = own_over (grant_in route ids) (λ row. command.Ungrant row)
 asked_own action.Assignments ids request =
     own_lacking (user_lacking (filter_in assignment_filters request.query).fields) (command.Assignments (filter_in assignment_filters request.query))
 asked_own action.CreateTrust ids request = own_read trust_by (body_of form.Trust request.body) own_trust

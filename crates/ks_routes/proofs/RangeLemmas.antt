@@ -25,7 +25,7 @@ use Rattle.ks_shape.proofs.CatalogLemmas.{catalog_bodies_in_range}
 use Rattle.ks_shape.proofs.RangeLemmas.{bodies_in_range}
 use Rattle.ks_routes.specs.declared.action.Action.{Action}
 use Rattle.ks_routes.specs.declared.action.Action.TheVariants as action
-use Rattle.ks_routes.specs.declared.action.Place.{Place}
+use Rattle.ks_routes.specs.declared.action.GrantRoute.{GrantRoute}
 use Rattle.ks_routes.specs.declared.action.TargetKind.{TargetKind}
 use Rattle.ks_routes.specs.declared.action.TargetKind.TheVariants as target_kind
 use Rattle.ks_routes.specs.declared.routed.Routed.{Routed}
@@ -137,26 +137,26 @@ target_in target_kind.System inherited ids is = not-true inherited is
 target_in target_kind.Project inherited ids is = each_mapped (λ at. IsPlace at inherited) (λ a. target.Project a) (id_at ids 0) (λ a. tt)
 target_in target_kind.Domain inherited ids is = each_mapped (λ at. IsPlace at inherited) (λ a. target.Domain a) (id_at ids 0) (λ a. tt)
 
-abbrev is_placed : Place → Bool
-is_placed place = is_place place.target place.inherited
+abbrev is_placed : GrantRoute → Bool
+is_placed route = is_place route.target route.inherited
 
-grants_are_in : (place : Place) (ids : List Id) → is_placed place ≡ true → IfSome (grants_in place ids) (λ pair. IsPlace pair.1 place.inherited)
-grants_are_in place ids is =
-    second_of_both (λ at. IsPlace at place.inherited) (option_map (actor_of place.actor) (id_at ids (target_ids place.target))) (target_of place.target ids)
-    (target_in place.target place.inherited ids is)
+grants_are_in : (route : GrantRoute) (ids : List Id) → is_placed route ≡ true → IfSome (grants_in route ids) (λ pair. IsPlace pair.1 route.inherited)
+grants_are_in route ids is =
+    second_of_both (λ at. IsPlace at route.inherited) (option_map (actor_of route.actor) (id_at ids (target_ids route.target))) (target_of route.target ids)
+    (target_in route.target route.inherited ids is)
 
-grant_is_in : (place : Place) (ids : List Id) → is_placed place ≡ true → IfSome (grant_in place ids) IsGrant
-grant_is_in place ids is =
-    mapped IsGrant _ (both (grants_in place ids) (id_at ids (target_ids place.target + 1)))
-    (first_of_both (λ pair. IsPlace pair.1 place.inherited) (grants_in place ids) (id_at ids (target_ids place.target + 1)) (grants_are_in place ids is))
+grant_is_in : (route : GrantRoute) (ids : List Id) → is_placed route ≡ true → IfSome (grant_in route ids) IsGrant
+grant_is_in route ids is =
+    mapped IsGrant _ (both (grants_in route ids) (id_at ids (target_ids route.target + 1)))
+    (first_of_both (λ pair. IsPlace pair.1 route.inherited) (grants_in route ids) (id_at ids (target_ids route.target + 1)) (grants_are_in route ids is))
 
 -- actions
 
 abbrev is_in_place : Action → Bool
-is_in_place (action.GrantsOf place) = is_placed place
-is_in_place (action.Grant place) = is_placed place
-is_in_place (action.IsGranted place) = is_placed place
-is_in_place (action.Ungrant place) = is_placed place
+is_in_place (action.GrantsOf route) = is_placed route
+is_in_place (action.Grant route) = is_placed route
+is_in_place (action.IsGranted route) = is_placed route
+is_in_place (action.Ungrant route) = is_placed route
 is_in_place _ = true
 
 asked_in : (asks : Action) (ids : List Id) (request : Request) → is_in_place asks ≡ true → IsInRange (asked asks ids request)
@@ -188,11 +188,11 @@ asked_in action.Imply ids request is = plain_holds AreFields (implication_in ids
 asked_in action.Implication ids request is = plain_holds AreFields (implication_in ids) (λ row. command.Implication row) (λ row. tt)
 asked_in action.IsImplied ids request is = plain_holds AreFields (implication_in ids) (λ row. command.IsImplied row) (λ row. tt)
 asked_in action.Unimply ids request is = plain_holds AreFields (implication_in ids) (λ row. command.Unimply row) (λ row. tt)
-asked_in (action.GrantsOf place) ids request is =
-    over_holds AreFields (grants_in place ids) (λ pair. command.GrantsOf pair.0 pair.1 place.inherited) (grants_are_in place ids is)
-asked_in (action.Grant place) ids request is = over_holds AreFields (grant_in place ids) (λ row. command.Grant row) (grant_is_in place ids is)
-asked_in (action.IsGranted place) ids request is = over_holds AreFields (grant_in place ids) (λ row. command.IsGranted row) (grant_is_in place ids is)
-asked_in (action.Ungrant place) ids request is = over_holds AreFields (grant_in place ids) (λ row. command.Ungrant row) (grant_is_in place ids is)
+asked_in (action.GrantsOf route) ids request is =
+    over_holds AreFields (grants_in route ids) (λ pair. command.GrantsOf pair.0 pair.1 route.inherited) (grants_are_in route ids is)
+asked_in (action.Grant route) ids request is = over_holds AreFields (grant_in route ids) (λ row. command.Grant row) (grant_is_in route ids is)
+asked_in (action.IsGranted route) ids request is = over_holds AreFields (grant_in route ids) (λ row. command.IsGranted row) (grant_is_in route ids is)
+asked_in (action.Ungrant route) ids request is = over_holds AreFields (grant_in route ids) (λ row. command.Ungrant row) (grant_is_in route ids is)
 asked_in action.Assignments ids request is =
     lacking_holds AreFields (user_lacking (filter_in assignment_filters request.query).fields) (command.Assignments (filter_in assignment_filters request.query)) tt
 asked_in action.CreateTrust ids request is = read_in trust_by form.Trust request.body (body_of form.Trust request.body) refl trust_in

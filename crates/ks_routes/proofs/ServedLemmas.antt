@@ -1,7 +1,7 @@
 -- A path that fits a row of the table is served by it: its ids are as many as the actions need.
 use Rattle.std.proofs.Common.{◌≡◌, ℕ, suc, ◌+◌, ◌≤◌, Bool, true, false, List, [], ◌∷◌, length, Option, Some, None, Result, Ok, Err, refl, sym, ap, subst, ◌∙◌, arith}
 use Rattle.std.proofs.lemmas.Bool.{and_parts}
-use Rattle.std.specs.Prelude.{◌≢◌, nat_le}
+use Rattle.std.specs.Prelude.{◌≢◌, is_some, nat_le}
 use Rattle.serde_json.specs.Data.{Data}
 use Rattle.ks_base.specs.declared.catalog.CatalogIn.{CatalogIn}
 use Rattle.ks_base.specs.declared.shapes.ShapeFault.{ShapeFault}
@@ -31,15 +31,16 @@ use Rattle.ks_shape.specs.Trusts.{trust_of}
 use Rattle.ks_shape.specs.Types.{password_text}
 use Rattle.ks_shape.specs.declared.form.BodyIn.TheVariants as body
 use Rattle.ks_shape.specs.declared.form.Form.TheVariants as form
+use Rattle.std.specs.Option.{option_map}
 use Rattle.std.specs.Prelude.{codes}
 use Rattle.ks_routes.specs.declared.action.Action.{Action}
 use Rattle.ks_routes.specs.declared.action.Action.TheVariants as action
-use Rattle.ks_routes.specs.declared.action.Place.{Place}
+use Rattle.ks_routes.specs.declared.action.GrantRoute.{GrantRoute}
 use Rattle.ks_routes.specs.declared.action.TargetKind.{TargetKind}
 use Rattle.ks_routes.specs.declared.action.TargetKind.TheVariants as target_kind
 use Rattle.ks_routes.specs.declared.routed.Routed.{Routed}
 use Rattle.ks_routes.specs.declared.routed.Routed.TheVariants as routed
-use Rattle.ks_routes.specs.Asked.{app_cred_by, asked, catalog_by, ids_in, login_by, made_by, password_by, read_by, secret_by, target_ids, token_lacking, trust_by, unless_lacking}
+use Rattle.ks_routes.specs.Asked.{app_cred_by, asked, catalog_by, grant_in, grants_in, id_at, ids_in, implication_in, login_by, made_by, member_in, over, pair_in, password_by, read_by, secret_by, target_ids, token_lacking, trust_by, unless_lacking}
 use Rattle.ks_routes.specs.Patterns.{Part, literal, id, fits, takes}
 use Rattle.ks_routes.specs.Queries.{allows_expired, assignment_filters, filter_in}
 use Rattle.ks_routes.specs.Tables.{Row}
@@ -82,10 +83,10 @@ needed action.Imply = 2
 needed action.Implication = 2
 needed action.IsImplied = 2
 needed action.Unimply = 2
-needed (action.GrantsOf place) = target_ids place.target + 1
-needed (action.Grant place) = target_ids place.target + 2
-needed (action.IsGranted place) = target_ids place.target + 2
-needed (action.Ungrant place) = target_ids place.target + 2
+needed (action.GrantsOf route) = target_ids route.target + 1
+needed (action.Grant route) = target_ids route.target + 2
+needed (action.IsGranted route) = target_ids route.target + 2
+needed (action.Ungrant route) = target_ids route.target + 2
 needed action.Assignments = 0
 needed action.CreateTrust = 0
 needed action.Trusts = 0
@@ -177,64 +178,46 @@ served_catalog : (asks : CatalogIn → Command) (r : Result CatalogIn ShapeFault
 served_catalog asks (Ok row) = refl
 served_catalog asks (Err fault) = refl
 
--- ids of a path
+-- what a path names, where it has as many ids
+over_served : {A : Type 0} (named : Option A) (asks : A → Command) → is_some named ≡ true → is_served (over named asks) ≡ true
+over_served (Some a) asks is = refl
+over_served None asks is = cc
 
-served_grants : (at : TargetKind) (place : Place) (ids : List Id) (request : Request) → place.target ≡ at → target_ids place.target + 1 ≤ length ids
-    → is_served (asked (action.GrantsOf place) ids request) ≡ true
-unfolding asked
-served_grants target_kind.System place [] request is le = let few : 1 ≤ 0 = subst (λ (t : TargetKind). target_ids t + 1 ≤ 0) is le in absurd (omega (arith, few))
-served_grants target_kind.System place (a ∷ ids) request is le = rw is refl
-served_grants target_kind.Project place [] request is le = let few : 2 ≤ 0 = subst (λ (t : TargetKind). target_ids t + 1 ≤ 0) is le in absurd (omega (arith, few))
-served_grants target_kind.Project place (a ∷ []) request is le = let few : 2 ≤ 1 = subst (λ (t : TargetKind). target_ids t + 1 ≤ 1) is le in absurd (omega (arith, few))
-served_grants target_kind.Project place (a ∷ b ∷ ids) request is le = rw is refl
-served_grants target_kind.Domain place [] request is le = let few : 2 ≤ 0 = subst (λ (t : TargetKind). target_ids t + 1 ≤ 0) is le in absurd (omega (arith, few))
-served_grants target_kind.Domain place (a ∷ []) request is le = let few : 2 ≤ 1 = subst (λ (t : TargetKind). target_ids t + 1 ≤ 1) is le in absurd (omega (arith, few))
-served_grants target_kind.Domain place (a ∷ b ∷ ids) request is le = rw is refl
+id_named : (ids : List Id) → 1 ≤ length ids → is_some (id_at ids 0) ≡ true
+id_named [] le = absurd (omega (arith, le))
+id_named (a ∷ ids) le = refl
 
-served_grant : (at : TargetKind) (place : Place) (ids : List Id) (request : Request) → place.target ≡ at → target_ids place.target + 2 ≤ length ids
-    → is_served (asked (action.Grant place) ids request) ≡ true
-unfolding asked
-served_grant target_kind.System place [] request is le = let few : 2 ≤ 0 = subst (λ (t : TargetKind). target_ids t + 2 ≤ 0) is le in absurd (omega (arith, few))
-served_grant target_kind.System place (a ∷ []) request is le = let few : 2 ≤ 1 = subst (λ (t : TargetKind). target_ids t + 2 ≤ 1) is le in absurd (omega (arith, few))
-served_grant target_kind.System place (a ∷ b ∷ ids) request is le = rw is refl
-served_grant target_kind.Project place [] request is le = let few : 3 ≤ 0 = subst (λ (t : TargetKind). target_ids t + 2 ≤ 0) is le in absurd (omega (arith, few))
-served_grant target_kind.Project place (a ∷ []) request is le = let few : 3 ≤ 1 = subst (λ (t : TargetKind). target_ids t + 2 ≤ 1) is le in absurd (omega (arith, few))
-served_grant target_kind.Project place (a ∷ b ∷ []) request is le = let few : 3 ≤ 2 = subst (λ (t : TargetKind). target_ids t + 2 ≤ 2) is le in absurd (omega (arith, few))
-served_grant target_kind.Project place (a ∷ b ∷ c ∷ ids) request is le = rw is refl
-served_grant target_kind.Domain place [] request is le = let few : 3 ≤ 0 = subst (λ (t : TargetKind). target_ids t + 2 ≤ 0) is le in absurd (omega (arith, few))
-served_grant target_kind.Domain place (a ∷ []) request is le = let few : 3 ≤ 1 = subst (λ (t : TargetKind). target_ids t + 2 ≤ 1) is le in absurd (omega (arith, few))
-served_grant target_kind.Domain place (a ∷ b ∷ []) request is le = let few : 3 ≤ 2 = subst (λ (t : TargetKind). target_ids t + 2 ≤ 2) is le in absurd (omega (arith, few))
-served_grant target_kind.Domain place (a ∷ b ∷ c ∷ ids) request is le = rw is refl
+pair_named : (ids : List Id) → 2 ≤ length ids → is_some (pair_in ids) ≡ true
+pair_named [] le = absurd (omega (arith, le))
+pair_named (a ∷ []) le = absurd (omega (arith, le))
+pair_named (a ∷ b ∷ ids) le = refl
 
-served_is_granted : (at : TargetKind) (place : Place) (ids : List Id) (request : Request) → place.target ≡ at → target_ids place.target + 2 ≤ length ids
-    → is_served (asked (action.IsGranted place) ids request) ≡ true
-unfolding asked
-served_is_granted target_kind.System place [] request is le = let few : 2 ≤ 0 = subst (λ (t : TargetKind). target_ids t + 2 ≤ 0) is le in absurd (omega (arith, few))
-served_is_granted target_kind.System place (a ∷ []) request is le = let few : 2 ≤ 1 = subst (λ (t : TargetKind). target_ids t + 2 ≤ 1) is le in absurd (omega (arith, few))
-served_is_granted target_kind.System place (a ∷ b ∷ ids) request is le = rw is refl
-served_is_granted target_kind.Project place [] request is le = let few : 3 ≤ 0 = subst (λ (t : TargetKind). target_ids t + 2 ≤ 0) is le in absurd (omega (arith, few))
-served_is_granted target_kind.Project place (a ∷ []) request is le = let few : 3 ≤ 1 = subst (λ (t : TargetKind). target_ids t + 2 ≤ 1) is le in absurd (omega (arith, few))
-served_is_granted target_kind.Project place (a ∷ b ∷ []) request is le = let few : 3 ≤ 2 = subst (λ (t : TargetKind). target_ids t + 2 ≤ 2) is le in absurd (omega (arith, few))
-served_is_granted target_kind.Project place (a ∷ b ∷ c ∷ ids) request is le = rw is refl
-served_is_granted target_kind.Domain place [] request is le = let few : 3 ≤ 0 = subst (λ (t : TargetKind). target_ids t + 2 ≤ 0) is le in absurd (omega (arith, few))
-served_is_granted target_kind.Domain place (a ∷ []) request is le = let few : 3 ≤ 1 = subst (λ (t : TargetKind). target_ids t + 2 ≤ 1) is le in absurd (omega (arith, few))
-served_is_granted target_kind.Domain place (a ∷ b ∷ []) request is le = let few : 3 ≤ 2 = subst (λ (t : TargetKind). target_ids t + 2 ≤ 2) is le in absurd (omega (arith, few))
-served_is_granted target_kind.Domain place (a ∷ b ∷ c ∷ ids) request is le = rw is refl
+mapped_named : {A B : Type 0} (f : A → B) (named : Option A) → is_some named ≡ true → is_some (option_map f named) ≡ true
+mapped_named f (Some a) is = refl
+mapped_named f None is = cc
 
-served_ungrant : (at : TargetKind) (place : Place) (ids : List Id) (request : Request) → place.target ≡ at → target_ids place.target + 2 ≤ length ids
-    → is_served (asked (action.Ungrant place) ids request) ≡ true
-unfolding asked
-served_ungrant target_kind.System place [] request is le = let few : 2 ≤ 0 = subst (λ (t : TargetKind). target_ids t + 2 ≤ 0) is le in absurd (omega (arith, few))
-served_ungrant target_kind.System place (a ∷ []) request is le = let few : 2 ≤ 1 = subst (λ (t : TargetKind). target_ids t + 2 ≤ 1) is le in absurd (omega (arith, few))
-served_ungrant target_kind.System place (a ∷ b ∷ ids) request is le = rw is refl
-served_ungrant target_kind.Project place [] request is le = let few : 3 ≤ 0 = subst (λ (t : TargetKind). target_ids t + 2 ≤ 0) is le in absurd (omega (arith, few))
-served_ungrant target_kind.Project place (a ∷ []) request is le = let few : 3 ≤ 1 = subst (λ (t : TargetKind). target_ids t + 2 ≤ 1) is le in absurd (omega (arith, few))
-served_ungrant target_kind.Project place (a ∷ b ∷ []) request is le = let few : 3 ≤ 2 = subst (λ (t : TargetKind). target_ids t + 2 ≤ 2) is le in absurd (omega (arith, few))
-served_ungrant target_kind.Project place (a ∷ b ∷ c ∷ ids) request is le = rw is refl
-served_ungrant target_kind.Domain place [] request is le = let few : 3 ≤ 0 = subst (λ (t : TargetKind). target_ids t + 2 ≤ 0) is le in absurd (omega (arith, few))
-served_ungrant target_kind.Domain place (a ∷ []) request is le = let few : 3 ≤ 1 = subst (λ (t : TargetKind). target_ids t + 2 ≤ 1) is le in absurd (omega (arith, few))
-served_ungrant target_kind.Domain place (a ∷ b ∷ []) request is le = let few : 3 ≤ 2 = subst (λ (t : TargetKind). target_ids t + 2 ≤ 2) is le in absurd (omega (arith, few))
-served_ungrant target_kind.Domain place (a ∷ b ∷ c ∷ ids) request is le = rw is refl
+grants_named : (at : TargetKind) (route : GrantRoute) (ids : List Id) → route.target ≡ at → target_ids route.target + 1 ≤ length ids → is_some (grants_in route ids) ≡ true
+grants_named target_kind.System route [] is le = let few : 1 ≤ 0 = subst (λ (t : TargetKind). target_ids t + 1 ≤ 0) is le in absurd (omega (arith, few))
+grants_named target_kind.System route (a ∷ ids) is le = rw is refl
+grants_named target_kind.Project route [] is le = let few : 2 ≤ 0 = subst (λ (t : TargetKind). target_ids t + 1 ≤ 0) is le in absurd (omega (arith, few))
+grants_named target_kind.Project route (a ∷ []) is le = let few : 2 ≤ 1 = subst (λ (t : TargetKind). target_ids t + 1 ≤ 1) is le in absurd (omega (arith, few))
+grants_named target_kind.Project route (a ∷ b ∷ ids) is le = rw is refl
+grants_named target_kind.Domain route [] is le = let few : 2 ≤ 0 = subst (λ (t : TargetKind). target_ids t + 1 ≤ 0) is le in absurd (omega (arith, few))
+grants_named target_kind.Domain route (a ∷ []) is le = let few : 2 ≤ 1 = subst (λ (t : TargetKind). target_ids t + 1 ≤ 1) is le in absurd (omega (arith, few))
+grants_named target_kind.Domain route (a ∷ b ∷ ids) is le = rw is refl
+
+grant_named : (at : TargetKind) (route : GrantRoute) (ids : List Id) → route.target ≡ at → target_ids route.target + 2 ≤ length ids → is_some (grant_in route ids) ≡ true
+grant_named target_kind.System route [] is le = let few : 2 ≤ 0 = subst (λ (t : TargetKind). target_ids t + 2 ≤ 0) is le in absurd (omega (arith, few))
+grant_named target_kind.System route (a ∷ []) is le = let few : 2 ≤ 1 = subst (λ (t : TargetKind). target_ids t + 2 ≤ 1) is le in absurd (omega (arith, few))
+grant_named target_kind.System route (a ∷ b ∷ ids) is le = rw is refl
+grant_named target_kind.Project route [] is le = let few : 3 ≤ 0 = subst (λ (t : TargetKind). target_ids t + 2 ≤ 0) is le in absurd (omega (arith, few))
+grant_named target_kind.Project route (a ∷ []) is le = let few : 3 ≤ 1 = subst (λ (t : TargetKind). target_ids t + 2 ≤ 1) is le in absurd (omega (arith, few))
+grant_named target_kind.Project route (a ∷ b ∷ []) is le = let few : 3 ≤ 2 = subst (λ (t : TargetKind). target_ids t + 2 ≤ 2) is le in absurd (omega (arith, few))
+grant_named target_kind.Project route (a ∷ b ∷ c ∷ ids) is le = rw is refl
+grant_named target_kind.Domain route [] is le = let few : 3 ≤ 0 = subst (λ (t : TargetKind). target_ids t + 2 ≤ 0) is le in absurd (omega (arith, few))
+grant_named target_kind.Domain route (a ∷ []) is le = let few : 3 ≤ 1 = subst (λ (t : TargetKind). target_ids t + 2 ≤ 1) is le in absurd (omega (arith, few))
+grant_named target_kind.Domain route (a ∷ b ∷ []) is le = let few : 3 ≤ 2 = subst (λ (t : TargetKind). target_ids t + 2 ≤ 2) is le in absurd (omega (arith, few))
+grant_named target_kind.Domain route (a ∷ b ∷ c ∷ ids) is le = rw is refl
 
 pub asked_served : (asks : Action) (ids : List Id) (request : Request) → needed asks ≤ length ids → is_served (asked asks ids request) ≡ true
 unfolding asked body_of
@@ -245,83 +228,52 @@ asked_served action.Check ids request le = served_lacking (token_lacking request
 asked_served action.RevokeToken ids request le = served_lacking (token_lacking request.subject) command.RevokeToken
 asked_served (action.Create kind) ids request le = served_made (λ made. command.Create made) kind true (document request.body)
 asked_served (action.List kind) ids request le = refl
-asked_served (action.Get kind) [] request le = absurd (omega (arith, le))
-asked_served (action.Get kind) (a ∷ ids) request le = refl
+asked_served (action.Get kind) ids request le = over_served (id_at ids 0) (λ a. command.Get kind a) (id_named ids le)
 asked_served (action.Update kind) [] request le = absurd (omega (arith, le))
 asked_served (action.Update kind) (a ∷ ids) request le = served_made (λ made. command.Update a made) kind false (document request.body)
-asked_served (action.Delete kind) [] request le = absurd (omega (arith, le))
-asked_served (action.Delete kind) (a ∷ ids) request le = refl
+asked_served (action.Delete kind) ids request le = over_served (id_at ids 0) (λ a. command.Delete kind a) (id_named ids le)
 asked_served action.ChangePassword [] request le = absurd (omega (arith, le))
 asked_served action.ChangePassword (a ∷ ids) request le = served_password a (document request.body)
-asked_served action.GroupsOf [] request le = absurd (omega (arith, le))
-asked_served action.GroupsOf (a ∷ ids) request le = refl
-asked_served action.MembersOf [] request le = absurd (omega (arith, le))
-asked_served action.MembersOf (a ∷ ids) request le = refl
-asked_served action.Join [] request le = absurd (omega (arith, le))
-asked_served action.Join (a ∷ []) request le = absurd (omega (arith, le))
-asked_served action.Join (a ∷ b ∷ ids) request le = refl
-asked_served action.IsIn [] request le = absurd (omega (arith, le))
-asked_served action.IsIn (a ∷ []) request le = absurd (omega (arith, le))
-asked_served action.IsIn (a ∷ b ∷ ids) request le = refl
-asked_served action.Leave [] request le = absurd (omega (arith, le))
-asked_served action.Leave (a ∷ []) request le = absurd (omega (arith, le))
-asked_served action.Leave (a ∷ b ∷ ids) request le = refl
-asked_served action.Implied [] request le = absurd (omega (arith, le))
-asked_served action.Implied (a ∷ ids) request le = refl
-asked_served action.Imply [] request le = absurd (omega (arith, le))
-asked_served action.Imply (a ∷ []) request le = absurd (omega (arith, le))
-asked_served action.Imply (a ∷ b ∷ ids) request le = refl
-asked_served action.Implication [] request le = absurd (omega (arith, le))
-asked_served action.Implication (a ∷ []) request le = absurd (omega (arith, le))
-asked_served action.Implication (a ∷ b ∷ ids) request le = refl
-asked_served action.IsImplied [] request le = absurd (omega (arith, le))
-asked_served action.IsImplied (a ∷ []) request le = absurd (omega (arith, le))
-asked_served action.IsImplied (a ∷ b ∷ ids) request le = refl
-asked_served action.Unimply [] request le = absurd (omega (arith, le))
-asked_served action.Unimply (a ∷ []) request le = absurd (omega (arith, le))
-asked_served action.Unimply (a ∷ b ∷ ids) request le = refl
-asked_served (action.GrantsOf place) ids request le = served_grants place.target place ids request refl le
-asked_served (action.Grant place) ids request le = served_grant place.target place ids request refl le
-asked_served (action.IsGranted place) ids request le = served_is_granted place.target place ids request refl le
-asked_served (action.Ungrant place) ids request le = served_ungrant place.target place ids request refl le
+asked_served action.GroupsOf ids request le = over_served (id_at ids 0) (λ user. command.GroupsOf user) (id_named ids le)
+asked_served action.MembersOf ids request le = over_served (id_at ids 0) (λ group. command.MembersOf group) (id_named ids le)
+asked_served action.Join ids request le = over_served (member_in ids) (λ row. command.Join row) (mapped_named _ (pair_in ids) (pair_named ids le))
+asked_served action.IsIn ids request le = over_served (member_in ids) (λ row. command.IsIn row) (mapped_named _ (pair_in ids) (pair_named ids le))
+asked_served action.Leave ids request le = over_served (member_in ids) (λ row. command.Leave row) (mapped_named _ (pair_in ids) (pair_named ids le))
+asked_served action.Implied ids request le = over_served (id_at ids 0) (λ prior. command.Implied prior) (id_named ids le)
+asked_served action.Imply ids request le = over_served (implication_in ids) (λ row. command.Imply row) (mapped_named _ (pair_in ids) (pair_named ids le))
+asked_served action.Implication ids request le = over_served (implication_in ids) (λ row. command.Implication row) (mapped_named _ (pair_in ids) (pair_named ids le))
+asked_served action.IsImplied ids request le = over_served (implication_in ids) (λ row. command.IsImplied row) (mapped_named _ (pair_in ids) (pair_named ids le))
+asked_served action.Unimply ids request le = over_served (implication_in ids) (λ row. command.Unimply row) (mapped_named _ (pair_in ids) (pair_named ids le))
+asked_served (action.GrantsOf route) ids request le = over_served (grants_in route ids) (λ pair. command.GrantsOf pair.0 pair.1 route.inherited) (grants_named route.target route ids refl le)
+asked_served (action.Grant route) ids request le = over_served (grant_in route ids) (λ row. command.Grant row) (grant_named route.target route ids refl le)
+asked_served (action.IsGranted route) ids request le = over_served (grant_in route ids) (λ row. command.IsGranted row) (grant_named route.target route ids refl le)
+asked_served (action.Ungrant route) ids request le = over_served (grant_in route ids) (λ row. command.Ungrant row) (grant_named route.target route ids refl le)
 asked_served action.Assignments ids request le =
     served_lacking (user_lacking (filter_in assignment_filters request.query).fields) (command.Assignments (filter_in assignment_filters request.query))
 asked_served action.CreateTrust ids request le = served_trust (document request.body)
 asked_served action.Trusts ids request le = refl
-asked_served action.Trust [] request le = absurd (omega (arith, le))
-asked_served action.Trust (a ∷ ids) request le = refl
-asked_served action.DeleteTrust [] request le = absurd (omega (arith, le))
-asked_served action.DeleteTrust (a ∷ ids) request le = refl
-asked_served action.TrustRoles [] request le = absurd (omega (arith, le))
-asked_served action.TrustRoles (a ∷ ids) request le = refl
+asked_served action.Trust ids request le = over_served (id_at ids 0) (λ trust. command.Trust trust) (id_named ids le)
+asked_served action.DeleteTrust ids request le = over_served (id_at ids 0) (λ trust. command.DeleteTrust trust) (id_named ids le)
+asked_served action.TrustRoles ids request le = over_served (id_at ids 0) (λ trust. command.TrustRoles trust) (id_named ids le)
 asked_served action.Events ids request le = refl
 asked_served action.RotateKeys ids request le = refl
 asked_served action.LoadKeys ids request le = refl
 asked_served (action.CreateCatalog kind) ids request le = served_catalog (λ row. command.CreateCatalog row) (catalog_body_of kind true request.body)
 asked_served (action.ListCatalog kind) ids request le = refl
-asked_served (action.GetCatalog kind) [] request le = absurd (omega (arith, le))
-asked_served (action.GetCatalog kind) (a ∷ ids) request le = refl
+asked_served (action.GetCatalog kind) ids request le = over_served (id_at ids 0) (λ a. command.GetCatalog kind a) (id_named ids le)
 asked_served (action.UpdateCatalog kind) [] request le = absurd (omega (arith, le))
 asked_served (action.UpdateCatalog kind) (a ∷ ids) request le = served_catalog (λ row. command.UpdateCatalog a row) (catalog_body_of kind false request.body)
-asked_served (action.DeleteCatalog kind) [] request le = absurd (omega (arith, le))
-asked_served (action.DeleteCatalog kind) (a ∷ ids) request le = refl
+asked_served (action.DeleteCatalog kind) ids request le = over_served (id_at ids 0) (λ a. command.DeleteCatalog kind a) (id_named ids le)
 asked_served action.ShowCatalog ids request le = refl
 asked_served action.CreateAppCred [] request le = absurd (omega (arith, le))
 asked_served action.CreateAppCred (a ∷ ids) request le = served_app_cred a (document request.body)
-asked_served action.ListAppCreds [] request le = absurd (omega (arith, le))
-asked_served action.ListAppCreds (a ∷ ids) request le = refl
-asked_served action.GetAppCred [] request le = absurd (omega (arith, le))
-asked_served action.GetAppCred (a ∷ []) request le = absurd (omega (arith, le))
-asked_served action.GetAppCred (a ∷ b ∷ ids) request le = refl
-asked_served action.DeleteAppCred [] request le = absurd (omega (arith, le))
-asked_served action.DeleteAppCred (a ∷ []) request le = absurd (omega (arith, le))
-asked_served action.DeleteAppCred (a ∷ b ∷ ids) request le = refl
+asked_served action.ListAppCreds ids request le = over_served (id_at ids 0) (λ user. command.ListAppCreds user) (id_named ids le)
+asked_served action.GetAppCred ids request le = over_served (pair_in ids) (λ pair. command.GetAppCred pair.0 pair.1) (pair_named ids le)
+asked_served action.DeleteAppCred ids request le = over_served (pair_in ids) (λ pair. command.DeleteAppCred pair.0 pair.1) (pair_named ids le)
 asked_served action.CreateSecret ids request le = served_secret (document request.body)
 asked_served action.ListSecrets ids request le = refl
-asked_served action.GetSecret [] request le = absurd (omega (arith, le))
-asked_served action.GetSecret (a ∷ ids) request le = refl
-asked_served action.DeleteSecret [] request le = absurd (omega (arith, le))
-asked_served action.DeleteSecret (a ∷ ids) request le = refl
+asked_served action.GetSecret ids request le = over_served (id_at ids 0) (λ a. command.GetSecret a) (id_named ids le)
+asked_served action.DeleteSecret ids request le = over_served (id_at ids 0) (λ a. command.DeleteSecret a) (id_named ids le)
 
 -- how many ids a pattern has
 

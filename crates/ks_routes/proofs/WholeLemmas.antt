@@ -130,11 +130,11 @@ asked_whole action.Imply ids request = plain_holds (IsWhole request.subject) (im
 asked_whole action.Implication ids request = plain_holds (IsWhole request.subject) (implication_in ids) (λ row. command.Implication row) (λ row. refl)
 asked_whole action.IsImplied ids request = plain_holds (IsWhole request.subject) (implication_in ids) (λ row. command.IsImplied row) (λ row. refl)
 asked_whole action.Unimply ids request = plain_holds (IsWhole request.subject) (implication_in ids) (λ row. command.Unimply row) (λ row. refl)
-asked_whole (action.GrantsOf place) ids request =
-    plain_holds (IsWhole request.subject) (grants_in place ids) (λ pair. command.GrantsOf pair.0 pair.1 place.inherited) (λ pair. refl)
-asked_whole (action.Grant place) ids request = plain_holds (IsWhole request.subject) (grant_in place ids) (λ row. command.Grant row) (λ row. refl)
-asked_whole (action.IsGranted place) ids request = plain_holds (IsWhole request.subject) (grant_in place ids) (λ row. command.IsGranted row) (λ row. refl)
-asked_whole (action.Ungrant place) ids request = plain_holds (IsWhole request.subject) (grant_in place ids) (λ row. command.Ungrant row) (λ row. refl)
+asked_whole (action.GrantsOf route) ids request =
+    plain_holds (IsWhole request.subject) (grants_in route ids) (λ pair. command.GrantsOf pair.0 pair.1 route.inherited) (λ pair. refl)
+asked_whole (action.Grant route) ids request = plain_holds (IsWhole request.subject) (grant_in route ids) (λ row. command.Grant row) (λ row. refl)
+asked_whole (action.IsGranted route) ids request = plain_holds (IsWhole request.subject) (grant_in route ids) (λ row. command.IsGranted row) (λ row. refl)
+asked_whole (action.Ungrant route) ids request = plain_holds (IsWhole request.subject) (grant_in route ids) (λ row. command.Ungrant row) (λ row. refl)
 asked_whole action.Assignments ids request = listing_whole request.subject (filter_in assignment_filters request.query) _ refl
 asked_whole action.CreateTrust ids request = read_holds (IsWhole request.subject) trust_by (body_of form.Trust request.body) (trust_whole request.subject)
 asked_whole action.Trusts ids request = refl

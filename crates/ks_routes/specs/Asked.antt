@@ -28,7 +28,7 @@ use Rattle.ks_routes.specs.declared.action.Action.{Action}
 use Rattle.ks_routes.specs.declared.action.Action.TheVariants as action
 use Rattle.ks_routes.specs.declared.action.ActorKind.{ActorKind}
 use Rattle.ks_routes.specs.declared.action.ActorKind.TheVariants as actor_kind
-use Rattle.ks_routes.specs.declared.action.Place.{Place}
+use Rattle.ks_routes.specs.declared.action.GrantRoute.{GrantRoute}
 use Rattle.ks_routes.specs.declared.action.TargetKind.{TargetKind}
 use Rattle.ks_routes.specs.declared.action.TargetKind.TheVariants as target_kind
 use Rattle.ks_routes.specs.declared.routed.Routed.{Routed}
@@ -90,13 +90,13 @@ target_ids target_kind.Project = 1
 target_ids target_kind.Domain = 1
 
 -- | whose grants, and where
-abbrev pub grants_in : Place → List Id → Option (Actor × Target)
-grants_in place ids = both (option_map (actor_of place.actor) (id_at ids (target_ids place.target))) (target_of place.target ids)
+abbrev pub grants_in : GrantRoute → List Id → Option (Actor × Target)
+grants_in route ids = both (option_map (actor_of route.actor) (id_at ids (target_ids route.target))) (target_of route.target ids)
 
-abbrev pub grant_in : Place → List Id → Option GrantRow
-grant_in place ids =
-    option_map (λ pair. record { actor = pair.0.0; target = pair.0.1; inherited = place.inherited; role = pair.1 })
-    (both (grants_in place ids) (id_at ids (target_ids place.target + 1)))
+abbrev pub grant_in : GrantRoute → List Id → Option GrantRow
+grant_in route ids =
+    option_map (λ pair. record { actor = pair.0.0; target = pair.0.1; inherited = route.inherited; role = pair.1 })
+    (both (grants_in route ids) (id_at ids (target_ids route.target + 1)))
 
 -- a command over what a path names; a path that does not name it has none
 abbrev pub routed_over : Option Command → Routed
@@ -212,10 +212,10 @@ asked action.Imply ids request = over (implication_in ids) (λ row. command.Impl
 asked action.Implication ids request = over (implication_in ids) (λ row. command.Implication row)
 asked action.IsImplied ids request = over (implication_in ids) (λ row. command.IsImplied row)
 asked action.Unimply ids request = over (implication_in ids) (λ row. command.Unimply row)
-asked (action.GrantsOf place) ids request = over (grants_in place ids) (λ pair. command.GrantsOf pair.0 pair.1 place.inherited)
-asked (action.Grant place) ids request = over (grant_in place ids) (λ row. command.Grant row)
-asked (action.IsGranted place) ids request = over (grant_in place ids) (λ row. command.IsGranted row)
-asked (action.Ungrant place) ids request = over (grant_in place ids) (λ row. command.Ungrant row)
+asked (action.GrantsOf route) ids request = over (grants_in route ids) (λ pair. command.GrantsOf pair.0 pair.1 route.inherited)
+asked (action.Grant route) ids request = over (grant_in route ids) (λ row. command.Grant row)
+asked (action.IsGranted route) ids request = over (grant_in route ids) (λ row. command.IsGranted row)
+asked (action.Ungrant route) ids request = over (grant_in route ids) (λ row. command.Ungrant row)
 asked action.Assignments ids request = assignments_by (filter_in assignment_filters request.query)
 asked action.CreateTrust ids request = read_by trust_by (body_of form.Trust request.body)
 asked action.Trusts ids request = routed.Command (command.Trusts (filter_in trust_filters request.query))

@@ -14,7 +14,7 @@ use Rattle.ks_routes.specs.declared.action.Action.{Action}
 use Rattle.ks_routes.specs.declared.action.Action.TheVariants as action
 use Rattle.ks_routes.specs.declared.action.ActorKind.{ActorKind}
 use Rattle.ks_routes.specs.declared.action.ActorKind.TheVariants as actor_kind
-use Rattle.ks_routes.specs.declared.action.Place.{Place}
+use Rattle.ks_routes.specs.declared.action.GrantRoute.{GrantRoute}
 use Rattle.ks_routes.specs.declared.action.TargetKind.{TargetKind}
 use Rattle.ks_routes.specs.declared.action.TargetKind.TheVariants as target_kind
 use Rattle.ks_routes.specs.declared.methods.Methods.{Methods}
@@ -56,19 +56,19 @@ one_of_catalog kind = row (path_of_one (catalog_kind kind)) (record none {
 })
 
 -- grants that hold at a target, and those that its projects inherit
-abbrev pub direct : TargetKind → ActorKind → Place
+abbrev pub direct : TargetKind → ActorKind → GrantRoute
 direct target actor = record { target = target; actor = actor; inherited = false }
 
-abbrev pub inherited : TargetKind → ActorKind → Place
+abbrev pub inherited : TargetKind → ActorKind → GrantRoute
 inherited target actor = record { target = target; actor = actor; inherited = true }
 
 -- all grants of an actor at a target, and one of them
-abbrev pub grants_at : Place → Methods Action
-grants_at place = record none { get = Some (action.GrantsOf place) }
+abbrev pub grants_at : GrantRoute → Methods Action
+grants_at route = record none { get = Some (action.GrantsOf route) }
 
-abbrev pub grant_at : Place → Methods Action
-grant_at place =
-    record none { head = Some (action.IsGranted place); put = Some (action.Grant place); delete = Some (action.Ungrant place) }
+abbrev pub grant_at : GrantRoute → Methods Action
+grant_at route =
+    record none { head = Some (action.IsGranted route); put = Some (action.Grant route); delete = Some (action.Ungrant route) }
 
 -- the table of routes
 abbrev pub table : List (Row Action)

@@ -19,7 +19,7 @@ pub enum TargetKind {
 
 /// The grants that a route is about; `inherited`: those that the target's projects inherit.
 #[derive(Clone, Copy)]
-pub struct Place {
+pub struct GrantRoute {
     pub target: TargetKind,
     pub actor: ActorKind,
     pub inherited: bool,
@@ -49,10 +49,10 @@ pub enum Action {
     Implication,
     IsImplied,
     Unimply,
-    GrantsOf(Place),
-    Grant(Place),
-    IsGranted(Place),
-    Ungrant(Place),
+    GrantsOf(GrantRoute),
+    Grant(GrantRoute),
+    IsGranted(GrantRoute),
+    Ungrant(GrantRoute),
     Assignments,
     CreateTrust,
     Trusts,

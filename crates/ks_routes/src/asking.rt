@@ -10,7 +10,7 @@ ghost use Rattle.ks_routes.specs.Queries.{allows_expired, assignment_filters as 
 ghost use Rattle.ks_routes.specs.steps.Reading.{IsAsked, unread_of};
 ghost use Rattle.ks_routes.specs.Routes.{Answers};
 
-use crate::action::{Action, ActorKind, Place, TargetKind};
+use crate::action::{Action, ActorKind, GrantRoute, TargetKind};
 use crate::captured::Captured;
 use crate::filters::{assignment_filters, trust_filters};
 use crate::query::{allows_expired, filter_in};
@@ -86,25 +86,25 @@ fn implication(ids: &Captured) -> Option<ImplyRow>
 }
 
 /// Whose grants the path is about, and where.
-fn grants(place: Place, ids: &Captured) -> Option<(Actor, Target)>
-    ensures { result ≡ grants_in place ids.now }
+fn grants(route: GrantRoute, ids: &Captured) -> Option<(Actor, Target)>
+    ensures { result ≡ grants_in route ids.now }
 {
     let who = ids
-        .at(target_ids(place.target))
-        .map(|id| actor(place.actor, id));
-    both(who, target(place.target, ids))
+        .at(target_ids(route.target))
+        .map(|id| actor(route.actor, id));
+    both(who, target(route.target, ids))
 }
 
 /// The grant that the path names.
-fn grant(place: Place, ids: &Captured) -> Option<GrantRow>
-    ensures { result ≡ grant_in place ids.now }
+fn grant(route: GrantRoute, ids: &Captured) -> Option<GrantRow>
+    ensures { result ≡ grant_in route ids.now }
 {
-    let role = ids.at(target_ids(place.target) + 1);
-    let ((actor, target), role) = both(grants(place, ids), role)?;
+    let role = ids.at(target_ids(route.target) + 1);
+    let ((actor, target), role) = both(grants(route, ids), role)?;
     Some(GrantRow {
         actor,
         target,
-        inherited: place.inherited,
+        inherited: route.inherited,
         role,
     })
 }
@@ -349,14 +349,14 @@ impl Action {
             Action::Implication => over(implication(ids).map(|row| Command::Implication(row))),
             Action::IsImplied => over(implication(ids).map(|row| Command::IsImplied(row))),
             Action::Unimply => over(implication(ids).map(|row| Command::Unimply(row))),
-            Action::GrantsOf(place) => over(grants(place, ids).map(|(who, at)| Command::GrantsOf(
+            Action::GrantsOf(route) => over(grants(route, ids).map(|(who, at)| Command::GrantsOf(
                 who,
                 at,
-                place.inherited,
+                route.inherited,
             ))),
-            Action::Grant(place) => over(grant(place, ids).map(|row| Command::Grant(row))),
-            Action::IsGranted(place) => over(grant(place, ids).map(|row| Command::IsGranted(row))),
-            Action::Ungrant(place) => over(grant(place, ids).map(|row| Command::Ungrant(row))),
+            Action::Grant(route) => over(grant(route, ids).map(|row| Command::Grant(row))),
+            Action::IsGranted(route) => over(grant(route, ids).map(|row| Command::IsGranted(row))),
+            Action::Ungrant(route) => over(grant(route, ids).map(|row| Command::Ungrant(row))),
             Action::Assignments => assignments(alloc, request),
             Action::CreateTrust => create_trust(alloc, request),
             Action::Trusts => asked_of(trusts(alloc, request)),

@@ -17,7 +17,7 @@ mod segments;
 mod table;
 mod tree;
 
-pub use action::{Action, ActorKind, Place, TargetKind};
+pub use action::{Action, ActorKind, GrantRoute, TargetKind};
 pub use laws::{
     commands_are_in_range, commands_are_whole, ids_are_ids, listed_methods_are_taken,
     other_methods_have_no_command, paths_have_one_route, routes_are_reached, routing_is_total,

@@ -3,7 +3,7 @@ ghost use Rattle.std.specs.Prelude.{◌≡◌, map};
 ghost use Rattle.ks_routes.specs.Tables.{row_of};
 ghost use Rattle.ks_routes.specs.Routes.{table};
 
-use crate::action::{Action, ActorKind, Place, TargetKind};
+use crate::action::{Action, ActorKind, GrantRoute, TargetKind};
 use crate::methods::Methods;
 use crate::route::Route;
 use ks_base::CatalogKind;
@@ -18,61 +18,61 @@ const NONE: Methods<Action> = Methods {
     delete: None,
 };
 
-const PROJECT_USER: Place = Place {
+const PROJECT_USER: GrantRoute = GrantRoute {
     target: TargetKind::Project,
     actor: ActorKind::User,
     inherited: false,
 };
 
-const PROJECT_GROUP: Place = Place {
+const PROJECT_GROUP: GrantRoute = GrantRoute {
     target: TargetKind::Project,
     actor: ActorKind::Group,
     inherited: false,
 };
 
-const DOMAIN_USER: Place = Place {
+const DOMAIN_USER: GrantRoute = GrantRoute {
     target: TargetKind::Domain,
     actor: ActorKind::User,
     inherited: false,
 };
 
-const DOMAIN_GROUP: Place = Place {
+const DOMAIN_GROUP: GrantRoute = GrantRoute {
     target: TargetKind::Domain,
     actor: ActorKind::Group,
     inherited: false,
 };
 
-const SYSTEM_USER: Place = Place {
+const SYSTEM_USER: GrantRoute = GrantRoute {
     target: TargetKind::System,
     actor: ActorKind::User,
     inherited: false,
 };
 
-const SYSTEM_GROUP: Place = Place {
+const SYSTEM_GROUP: GrantRoute = GrantRoute {
     target: TargetKind::System,
     actor: ActorKind::Group,
     inherited: false,
 };
 
-const INHERITED_PROJECT_USER: Place = Place {
+const INHERITED_PROJECT_USER: GrantRoute = GrantRoute {
     target: TargetKind::Project,
     actor: ActorKind::User,
     inherited: true,
 };
 
-const INHERITED_PROJECT_GROUP: Place = Place {
+const INHERITED_PROJECT_GROUP: GrantRoute = GrantRoute {
     target: TargetKind::Project,
     actor: ActorKind::Group,
     inherited: true,
 };
 
-const INHERITED_DOMAIN_USER: Place = Place {
+const INHERITED_DOMAIN_USER: GrantRoute = GrantRoute {
     target: TargetKind::Domain,
     actor: ActorKind::User,
     inherited: true,
 };
 
-const INHERITED_DOMAIN_GROUP: Place = Place {
+const INHERITED_DOMAIN_GROUP: GrantRoute = GrantRoute {
     target: TargetKind::Domain,
     actor: ActorKind::Group,
     inherited: true,
