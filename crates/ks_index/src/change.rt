@@ -1,7 +1,6 @@
 //! Changes of a table's rows and of both its indexes. The rows stand where they came, but for the last one, which takes the place of
 //! one that goes.
 ghost use Rattle.std.specs.Prelude.{◌≡◌, ◌<◌, ◌≤◌, filter, length, map, set, get_or, OnOk, OnErr};
-ghost use Rattle.std.specs.VecDeque.{deque_len, deque_capacity};
 ghost use Rattle.std.specs.List.{insert, remove};
 ghost use Rattle.ks_base.specs.Tables.{id_cmp};
 ghost use Rattle.ks_base.specs.Places.{IsGapAt};
@@ -9,12 +8,12 @@ ghost use Rattle.ks_index.specs.Indexes.{AreNamesBut, AreNamesOf, AreUnlike, IsI
 
 use crate::index::{next_place, place_of, slot_of};
 use ks_base::{Boxed, Memory, Named, Test};
-use std::collections::VecDeque;
+use ks_chunks::Sequence;
 
 /// Puts a place into the index by name, which lacks it.
-fn put_in<R: Named>(rows: &[Boxed<R>], names: &mut VecDeque<u32>, at: u32)
+fn put_in<R: Named>(rows: &[Boxed<R>], names: &mut Sequence<u32>, at: u32)
     requires at { at < length rows.now }
-    requires room { deque_len names.old < deque_capacity names.old }
+    requires room { 0 < names.old.room }
     requires unlike { AreUnlike R.key rows.now }
     requires but { AreNamesBut R.within R.naming R.key rows.now names.old.items at }
     ensures { AreNamesOf R.within R.naming R.key rows.now names.new.items }
@@ -22,26 +21,22 @@ fn put_in<R: Named>(rows: &[Boxed<R>], names: &mut VecDeque<u32>, at: u32)
     let row = rows[at as usize].get();
     match slot_of(rows, names, row) {
         Ok(_) => unreachable!(),
-        Err(slot) => match names.insert(slot, at) {
-            Ok(()) => {}
-            Err(_) => unreachable!(),
-        },
+        Err(slot) => names.insert(slot, at),
     }
 }
 
 /// Takes a place out of the index by name, which leaves room for one.
-fn take_out<R: Named>(rows: &[Boxed<R>], names: &mut VecDeque<u32>, at: u32)
+fn take_out<R: Named>(rows: &[Boxed<R>], names: &mut Sequence<u32>, at: u32)
     requires at { at < length rows.now }
     requires names { AreNamesOf R.within R.naming R.key rows.now names.old.items }
     ensures but { AreNamesBut R.within R.naming R.key rows.now names.new.items at }
-    ensures room { deque_len names.new < deque_capacity names.new }
+    ensures room { 0 < names.new.room }
 {
     let row = rows[at as usize].get();
     match slot_of(rows, names, row) {
-        Ok(slot) => match names.remove(slot) {
-            Some(_) => {}
-            None => unreachable!(),
-        },
+        Ok(slot) => {
+            let _place = names.remove(slot);
+        }
         Err(_) => unreachable!(),
     }
 }
@@ -49,8 +44,8 @@ fn take_out<R: Named>(rows: &[Boxed<R>], names: &mut VecDeque<u32>, at: u32)
 /// Puts a new row behind all others, and its place into both indexes. A row that found no memory is dropped.
 pub(crate) fn insert<R: Named>(
     rows: &mut Vec<Boxed<R>>,
-    ids: &mut VecDeque<u32>,
-    names: &mut VecDeque<u32>,
+    ids: &mut Sequence<u32>,
+    names: &mut Sequence<u32>,
     at: usize,
     row: R,
 ) -> Result<(), Memory>
@@ -64,14 +59,11 @@ pub(crate) fn insert<R: Named>(
     ensures err { OnErr result ((rows.new.items ≡ rows.old.items) × (ids.new.items ≡ ids.old.items) × (names.new.items ≡ names.old.items)) }
 {
     let place = next_place(rows.as_slice())?;
-    ids.reserve(1)?;
-    names.reserve(1)?;
+    ids.reserve()?;
+    names.reserve()?;
     let behind = rows.len();
     Boxed::insert(rows, behind, row)?;
-    match ids.insert(at, place) {
-        Ok(()) => {}
-        Err(_) => unreachable!(),
-    }
+    ids.insert(at, place);
     put_in(rows.as_slice(), names, place);
     Ok(())
 }
@@ -79,7 +71,7 @@ pub(crate) fn insert<R: Named>(
 /// Puts a row over the one with its id. It takes no memory.
 pub(crate) fn replace<R: Named>(
     rows: &mut Vec<Boxed<R>>,
-    names: &mut VecDeque<u32>,
+    names: &mut Sequence<u32>,
     at: u32,
     row: R,
 )
@@ -98,8 +90,8 @@ pub(crate) fn replace<R: Named>(
 /// Tells both indexes that the row at this place was behind all others before.
 fn renumber<R: Named>(
     rows: &[Boxed<R>],
-    ids: &mut VecDeque<u32>,
-    names: &mut VecDeque<u32>,
+    ids: &mut Sequence<u32>,
+    names: &mut Sequence<u32>,
     at: u32,
 )
     requires at { at < length rows.now }
@@ -111,11 +103,11 @@ fn renumber<R: Named>(
 {
     let row = rows[at as usize].get();
     match place_of(rows, ids, row, row.id()) {
-        Ok(place) => ids[place] = at,
+        Ok(place) => ids.set(place, at),
         Err(_) => unreachable!(),
     }
     match slot_of(rows, names, row) {
-        Ok(slot) => names[slot] = at,
+        Ok(slot) => names.set(slot, at),
         Err(_) => unreachable!(),
     }
 }
@@ -123,8 +115,8 @@ fn renumber<R: Named>(
 /// Takes the row out that stands at this place among the ids. It takes no memory.
 pub(crate) fn remove<R: Named>(
     rows: &mut Vec<Boxed<R>>,
-    ids: &mut VecDeque<u32>,
-    names: &mut VecDeque<u32>,
+    ids: &mut Sequence<u32>,
+    names: &mut Sequence<u32>,
     at: usize,
 )
     requires at { at < length ids.old.items }
@@ -134,9 +126,7 @@ pub(crate) fn remove<R: Named>(
     ensures ids { IsIndex id_cmp R.key rows.new.items ids.new.items }
     ensures names { AreNamesOf R.within R.naming R.key rows.new.items names.new.items }
 {
-    let Some(place) = ids.remove(at) else {
-        unreachable!()
-    };
+    let place = ids.remove(at);
     take_out(rows.as_slice(), names, place);
     let _row = rows.swap_remove(place as usize);
     if (place as usize) < rows.len() {
@@ -147,8 +137,8 @@ pub(crate) fn remove<R: Named>(
 /// Takes the rows out that fail a test, the last one first. It takes no memory.
 pub(crate) fn keep<R: Named, T: Test<R>>(
     rows: &mut Vec<Boxed<R>>,
-    ids: &mut VecDeque<u32>,
-    names: &mut VecDeque<u32>,
+    ids: &mut Sequence<u32>,
+    names: &mut Sequence<u32>,
     test: &T,
 )
     requires ids { IsIndex id_cmp R.key rows.old.items ids.old.items }

@@ -5,8 +5,8 @@ ghost use Rattle.ks_index.specs.Indexes.{is_named, is_other_named};
 
 use crate::{Rows, change, index, made, runs};
 use ks_base::{Boxed, Id, IdList, Memory, Named, Test, Text};
+use ks_chunks::Sequence;
 use std::alloc::Global;
-use std::collections::VecDeque;
 use std::marker::Model;
 
 /// Rows in the order of their ids, one for each id, which are found by their ids and by their names. A row stays where it
@@ -15,9 +15,9 @@ use std::marker::Model;
 pub struct Table<R: Named> {
     rows: Vec<Boxed<R>>,
     /// The places of the rows, in the order of their ids.
-    ids: VecDeque<u32>,
+    ids: Sequence<u32>,
     /// The places of the rows, in the order of their names, homes and ids.
-    names: VecDeque<u32>,
+    names: Sequence<u32>,
 }
 
 impl<R: Named> Model for Table<R> {
@@ -39,8 +39,8 @@ impl<R: Named> Table<R> {
     {
         Table {
             rows: Vec::new(alloc),
-            ids: VecDeque::new(alloc),
-            names: VecDeque::new(alloc),
+            ids: Sequence::new(alloc),
+            names: Sequence::new(alloc),
         }
     }
 
@@ -112,7 +112,7 @@ impl<R: Named> Table<R> {
     pub fn named(&self, home: &[u8], name: &Text) -> Option<&R>
         ensures { option_copied result ≡ find (is_named R.within R.naming home.now name.now) self.now }
     {
-        index::named(self.rows.as_slice(), &self.names, home, name.as_slice())
+        index::named(self.rows.as_slice(), &self.names, home, name.as_str())
     }
 
     /// The first other row with the home and the name of this one, in the order of ids.
@@ -164,7 +164,7 @@ impl<R: Named> Table<R> {
             *self.rows.allocator(),
             self.rows.as_slice(),
             &self.names,
-            name.as_slice(),
+            name.as_str(),
         )
     }
 

@@ -25,7 +25,7 @@ put_in-requires-clause-but g c =
     let place : c.in_ok-place.place ≡ length rows = c.in_ok-place.ensures ∙ ap length c.as_slice.ensures.value in
     let but = AreNamesBut g.R.Named.within g.R.Named.naming g.R.Row.key in
     subst (λ l. but l c.reserve-2.new.self.items c.in_ok-place.place) (sym are)
-    (subst (λ l. but (insert rows (length rows) c.args.row) l c.in_ok-place.place) (sym c.in_ok-reserve-2.ensures.items)
+    (subst (λ l. but (insert rows (length rows) c.args.row) l c.in_ok-place.place) (sym c.reserve-2.ensures.items)
     (subst (λ p. but (insert rows (length rows) c.args.row) names p) (sym place)
     (pushed_index full_cmp (full_name g.R.Named.within g.R.Named.naming g.R.Row.key) rows names c.args.row c.requires.names)))
 
@@ -36,7 +36,7 @@ returns-clause-ok g c =
     let behind : c.len-behind.result ≡ length rows = search rules in
     let are = c.in_ok-insert.ensures.ok ∙ ap (λ k. insert rows k c.args.row) behind in
     let place : c.in_ok-place.place ≡ length rows = c.in_ok-place.ensures ∙ ap length c.as_slice.ensures.value in
-    let there = c.in-Ok.ensures.items ∙ ap (λ (l : List ℕ). insert l c.args.at c.in_ok-place.place) c.in_ok-reserve.ensures.items ∙ ap (insert ids c.args.at) place in
+    let there = c.insert-2.ensures ∙ ap (λ (l : List ℕ). insert l c.args.at c.in_ok-place.place) c.reserve.ensures.items ∙ ap (insert ids c.args.at) place in
     let index = index_insert id_cmp g.R.Row.key nat_list_cmp_total rows ids c.args.at c.args.row c.requires.ids c.requires.gap in
     ap (λ l. picked l c.insert-2.new.self.items) are ∙ ap (picked (insert rows (length rows) c.args.row)) there
     ∙ picked_insert rows ids c.args.at c.args.row c.requires.ids.within index.within
@@ -48,7 +48,7 @@ returns-clause-ids g c =
     let behind : c.len-behind.result ≡ length rows = search rules in
     let are = c.in_ok-insert.ensures.ok ∙ ap (λ k. insert rows k c.args.row) behind in
     let place : c.in_ok-place.place ≡ length rows = c.in_ok-place.ensures ∙ ap length c.as_slice.ensures.value in
-    let there = c.in-Ok.ensures.items ∙ ap (λ (l : List ℕ). insert l c.args.at c.in_ok-place.place) c.in_ok-reserve.ensures.items ∙ ap (insert ids c.args.at) place in
+    let there = c.insert-2.ensures ∙ ap (λ (l : List ℕ). insert l c.args.at c.in_ok-place.place) c.reserve.ensures.items ∙ ap (insert ids c.args.at) place in
     let index = index_insert id_cmp g.R.Row.key nat_list_cmp_total rows ids c.args.at c.args.row c.requires.ids c.requires.gap in
     subst (λ l. IsIndex id_cmp g.R.Row.key l c.insert-2.new.self.items) (sym are)
     (subst (λ l. IsIndex id_cmp g.R.Row.key (insert rows (length rows) c.args.row) l) (sym there) index)

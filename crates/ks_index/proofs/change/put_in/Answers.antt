@@ -23,5 +23,5 @@ returns g c =
     let row = c.get-row.result.now in
     let is = subst (λ (r : _). r ≡ get_or c.args.rows.now c.args.at r) (sym c.get-row.ensures) c.index-rows-at.is in
     let key_at = λ (p : ℕ). full_name g.R.Named.within g.R.Named.naming g.R.Row.key (get_or c.args.rows.now p row) in
-    subst (λ l. AreNamesOf g.R.Named.within g.R.Named.naming g.R.Row.key c.args.rows.now l) (sym c.in-Ok-insert.ensures.items)
+    subst (λ l. AreNamesOf g.R.Named.within g.R.Named.naming g.R.Row.key c.args.rows.now l) (sym c.insert.ensures)
     (put_into_names g.R.Named.within g.R.Named.naming g.R.Row.key c.args.rows.now c.args.names.now.items c.args.at c.in-Err.slot row c.requires.at is c.requires.but c.in-Err.ensures.place)

@@ -16,8 +16,8 @@ renumber-requires-clause-ids g c =
     let ids = c.args.ids.now.items in
     let row = c.swap_remove-row.result in
     let new = c.swap_remove-row.new.self.items in
-    let place = c.in-Some.place in
-    let is : get_or ids c.args.at 0 ≡ place = sym (c.in-Some.ensures.value ∙ get_any ids c.args.at place 0 c.requires.at) in
+    let place = c.remove-place.result in
+    let is : get_or ids c.args.at 0 ≡ place = sym (c.remove-place.ensures.value ∙ get_any ids c.args.at place 0 c.requires.at) in
     let short : length new + 1 ≡ length rows = search rules in
     let swapped : IsSwapped rows new place = record {
       shorter = short;
@@ -27,15 +27,15 @@ renumber-requires-clause-ids g c =
     let less : place < length new = search rules in
     let but = subst (λ p. IsIndexBut id_cmp g.R.Row.key rows (remove ids c.args.at) p) is
     (index_without id_cmp g.R.Row.key nat_list_cmp_total id_exact rows ids c.args.at row c.requires.at c.requires.ids) in
-    subst (λ l. WasMoved id_cmp g.R.Row.key l c.remove.new.self.items place) (sym c.as_slice-then-place-len.ensures.value)
-    (subst (λ l. WasMoved id_cmp g.R.Row.key new l place) (sym c.in-Some.ensures.items)
+    subst (λ l. WasMoved id_cmp g.R.Row.key l c.remove-place.new.self.items place) (sym c.as_slice-then-place-len.ensures.value)
+    (subst (λ l. WasMoved id_cmp g.R.Row.key new l place) (sym c.remove-place.ensures.items)
     (moved_index id_cmp g.R.Row.key rows new (remove ids c.args.at) place swapped less but))
 
 pub renumber-requires-clause-names : goal.renumber-requires-clause-names
 renumber-requires-clause-names g c =
     let rows = c.args.rows.now.items in
     let new = c.swap_remove-row.new.self.items in
-    let place = c.in-Some.place in
+    let place = c.remove-place.result in
     let short : length new + 1 ≡ length rows = search rules in
     let swapped : IsSwapped rows new place = record {
       shorter = short;
@@ -54,8 +54,8 @@ returns-then-place-len-clause-rows g c =
     let ids = c.args.ids.now.items in
     let gone = c.swap_remove-row.result in
     let new = c.swap_remove-row.new.self.items in
-    let place = c.in-Some.place in
-    let is : get_or ids c.args.at 0 ≡ place = sym (c.in-Some.ensures.value ∙ get_any ids c.args.at place 0 c.requires.at) in
+    let place = c.remove-place.result in
+    let is : get_or ids c.args.at 0 ≡ place = sym (c.remove-place.ensures.value ∙ get_any ids c.args.at place 0 c.requires.at) in
     let short : length new + 1 ≡ length rows = search rules in
     let swapped : IsSwapped rows new place = record {
       shorter = short;
@@ -70,8 +70,8 @@ returns-then-place-len-clause-rows g c =
     let slice = c.as_slice-then-place-len.ensures.value in
     let told = c.renumber.ensures.rows row (here ∙ ap (λ l. get_or l place row) (sym slice)) in
     ap (λ l. picked l c.renumber.new.ids.items) (sym slice) ∙ told
-    ∙ ap (λ l. map (λ (p : ℕ). get_or l p row) c.remove.new.self.items) slice
-    ∙ ap (map (λ (p : ℕ). get_or new p row)) c.in-Some.ensures.items
+    ∙ ap (λ l. map (λ (p : ℕ). get_or l p row) c.remove-place.new.self.items) slice
+    ∙ ap (map (λ (p : ℕ). get_or new p row)) c.remove-place.ensures.items
     ∙ swapped_picked rows new (remove ids c.args.at) place row swapped less here but.within but.others
     ∙ picked_remove rows ids c.args.at gone c.requires.ids.within but.within
 
@@ -81,8 +81,8 @@ returns-clause-rows g c =
     let ids = c.args.ids.now.items in
     let gone = c.swap_remove-row.result in
     let new = c.swap_remove-row.new.self.items in
-    let place = c.in-Some.place in
-    let is : get_or ids c.args.at 0 ≡ place = sym (c.in-Some.ensures.value ∙ get_any ids c.args.at place 0 c.requires.at) in
+    let place = c.remove-place.result in
+    let is : get_or ids c.args.at 0 ≡ place = sym (c.remove-place.ensures.value ∙ get_any ids c.args.at place 0 c.requires.at) in
     let short : length new + 1 ≡ length rows = search rules in
     let swapped : IsSwapped rows new place = record {
       shorter = short;
@@ -94,7 +94,7 @@ returns-clause-rows g c =
     let but = subst (λ p. IsIndexBut id_cmp g.R.Row.key rows (remove ids c.args.at) p) is
     (index_without id_cmp g.R.Row.key nat_list_cmp_total id_exact rows ids c.args.at gone c.requires.at c.requires.ids) in
     let index = kept_index id_cmp g.R.Row.key rows new (remove ids c.args.at) place swapped most inside but in
-    ap (picked new) c.in-Some.ensures.items
+    ap (picked new) c.remove-place.ensures.items
     ∙ kept_picked rows new (remove ids c.args.at) place swapped but.within index.within but.others
     ∙ picked_remove rows ids c.args.at gone c.requires.ids.within but.within
 
@@ -104,8 +104,8 @@ returns-clause-ids g c =
     let ids = c.args.ids.now.items in
     let gone = c.swap_remove-row.result in
     let new = c.swap_remove-row.new.self.items in
-    let place = c.in-Some.place in
-    let is : get_or ids c.args.at 0 ≡ place = sym (c.in-Some.ensures.value ∙ get_any ids c.args.at place 0 c.requires.at) in
+    let place = c.remove-place.result in
+    let is : get_or ids c.args.at 0 ≡ place = sym (c.remove-place.ensures.value ∙ get_any ids c.args.at place 0 c.requires.at) in
     let short : length new + 1 ≡ length rows = search rules in
     let swapped : IsSwapped rows new place = record {
       shorter = short;
@@ -116,7 +116,7 @@ returns-clause-ids g c =
     let inside = subst (λ p. p < length rows) is (all_among (λ p. p < length rows) ids (get_or ids c.args.at 0) c.requires.ids.within (get_among ids c.args.at 0 c.requires.at)) in
     let but = subst (λ p. IsIndexBut id_cmp g.R.Row.key rows (remove ids c.args.at) p) is
     (index_without id_cmp g.R.Row.key nat_list_cmp_total id_exact rows ids c.args.at gone c.requires.at c.requires.ids) in
-    subst (λ l. IsIndex id_cmp g.R.Row.key new l) (sym c.in-Some.ensures.items)
+    subst (λ l. IsIndex id_cmp g.R.Row.key new l) (sym c.remove-place.ensures.items)
     (kept_index id_cmp g.R.Row.key rows new (remove ids c.args.at) place swapped most inside but)
 
 pub returns-clause-names : goal.returns-clause-names
@@ -124,8 +124,8 @@ returns-clause-names g c =
     let rows = c.args.rows.now.items in
     let ids = c.args.ids.now.items in
     let new = c.swap_remove-row.new.self.items in
-    let place = c.in-Some.place in
-    let is : get_or ids c.args.at 0 ≡ place = sym (c.in-Some.ensures.value ∙ get_any ids c.args.at place 0 c.requires.at) in
+    let place = c.remove-place.result in
+    let is : get_or ids c.args.at 0 ≡ place = sym (c.remove-place.ensures.value ∙ get_any ids c.args.at place 0 c.requires.at) in
     let short : length new + 1 ≡ length rows = search rules in
     let swapped : IsSwapped rows new place = record {
       shorter = short;

@@ -10,8 +10,8 @@ slot_of-requires g c =
     let key_at = λ (p : ℕ). full_name g.R.Named.within g.R.Named.naming g.R.Row.key (get_or c.args.rows.now p row) in
     c.requires.names.up row
 
-pub unreachable-requires-in-Err : goal.unreachable-requires-in-Err
-unreachable-requires-in-Err g c =
+pub unreachable-requires : goal.unreachable-requires
+unreachable-requires g c =
     let row = c.get-row.result.now in
     let is = subst (λ (r : _). r ≡ get_or c.args.rows.now c.args.at r) (sym c.get-row.ensures) c.index-rows-at.is in
     let key_at = λ (p : ℕ). full_name g.R.Named.within g.R.Named.naming g.R.Row.key (get_or c.args.rows.now p row) in
@@ -22,5 +22,5 @@ returns-clause-but g c =
     let row = c.get-row.result.now in
     let is = subst (λ (r : _). r ≡ get_or c.args.rows.now c.args.at r) (sym c.get-row.ensures) c.index-rows-at.is in
     let key_at = λ (p : ℕ). full_name g.R.Named.within g.R.Named.naming g.R.Row.key (get_or c.args.rows.now p row) in
-    subst (λ l. AreNamesBut g.R.Named.within g.R.Named.naming g.R.Row.key c.args.rows.now l c.args.at) (sym c.in-Some.ensures.items)
+    subst (λ l. AreNamesBut g.R.Named.within g.R.Named.naming g.R.Row.key c.args.rows.now l c.args.at) (sym c.remove-place.ensures.items)
     (out_of_names g.R.Named.within g.R.Named.naming g.R.Row.key c.args.rows.now c.args.names.now.items c.args.at c.in-Ok.slot row c.requires.at is c.requires.names c.in-Ok.ensures.place)

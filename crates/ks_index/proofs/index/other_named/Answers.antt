@@ -1,4 +1,4 @@
-use Rattle.std.proofs.Common.{◌≡◌, ◌+◌, Some, None, sym, ap, ◌∙◌, option_copied}
+use Rattle.std.proofs.Common.{◌≡◌, ◌+◌, Some, None, sym, ap, ◌∙◌, option_copied, arith}
 use Rattle.std.specs.Str.{bytes_eq}
 use Rattle.ks_index.proofs.NameLemmas.{first_like, is_unlike, is_like, looked, looked_like, next_looked, other_looked, other_none}
 use Rattle.ks_index.proofs.index.other_named.Goals as goal
@@ -9,9 +9,9 @@ returns-in_err-holder g c = λ listed list.
     let places = c.args.places.now.items in
     let row = c.args.row.now in
     let h = c.home-home.result.now in
-    let n = c.as_slice-name.result.now in
+    let n = c.as_str-name.result.now in
     let slot = c.first_slot-slot.result in
-    let naming = c.as_slice-name.ensures.bytes ∙ c.name.ensures in
+    let naming = c.as_str-name.ensures ∙ c.name.ensures in
     let first = first_like g.R.Named.within g.R.Named.naming g.R.Row.key h n row rows places slot c.home-home.ensures naming
     (record { before = λ j d. c.first_slot-slot.ensures.before j d; behind = λ d. c.first_slot-slot.ensures.behind d }) in
     let look = looked_like g.R.Named.within g.R.Named.naming h n row rows places slot c.home-home.ensures naming None c.in_err-holder.ensures.none in
@@ -23,9 +23,9 @@ returns-then-ne g c = λ listed list.
     let places = c.args.places.now.items in
     let row = c.args.row.now in
     let h = c.home-home.result.now in
-    let n = c.as_slice-name.result.now in
+    let n = c.as_str-name.result.now in
     let slot = c.first_slot-slot.result in
-    let naming = c.as_slice-name.ensures.bytes ∙ c.name.ensures in
+    let naming = c.as_str-name.ensures ∙ c.name.ensures in
     let first = first_like g.R.Named.within g.R.Named.naming g.R.Row.key h n row rows places slot c.home-home.ensures naming
     (record { before = λ j d. c.first_slot-slot.ensures.before j d; behind = λ d. c.first_slot-slot.ensures.behind d }) in
     let look = looked_like g.R.Named.within g.R.Named.naming h n row rows places slot c.home-home.ensures naming (Some c.in_ok-holder.holder) c.in_ok-holder.ensures.some in
@@ -38,9 +38,9 @@ returns g c = λ listed list.
     let places = c.args.places.now.items in
     let row = c.args.row.now in
     let h = c.home-home.result.now in
-    let n = c.as_slice-name.result.now in
+    let n = c.as_str-name.result.now in
     let slot = c.first_slot-slot.result in
-    let naming = c.as_slice-name.ensures.bytes ∙ c.name.ensures in
+    let naming = c.as_str-name.ensures ∙ c.name.ensures in
     let first = first_like g.R.Named.within g.R.Named.naming g.R.Row.key h n row rows places slot c.home-home.ensures naming
     (record { before = λ j d. c.first_slot-slot.ensures.before j d; behind = λ d. c.first_slot-slot.ensures.behind d }) in
     let look = looked_like g.R.Named.within g.R.Named.naming h n row rows places slot c.home-home.ensures naming (Some c.in_ok-holder.holder) c.in_ok-holder.ensures.some in
@@ -48,3 +48,9 @@ returns g c = λ listed list.
     let told = looked g.R.Named.within g.R.Named.naming h n rows places (slot + 1) c.named_at-2.result c.named_at-2.ensures.some c.named_at-2.ensures.none in
     let next = looked_like g.R.Named.within g.R.Named.naming h n row rows places (slot + 1) c.home-home.ensures naming c.named_at-2.result told in
     next_looked g.R.Named.within g.R.Named.naming g.R.Row.key row rows listed places slot c.in_ok-holder.holder c.named_at-2.result c.requires list first look (sym ids ∙ is_like _ c.if-ne.ensures) next
+
+pub overflow_add-slot : goal.overflow_add-slot
+overflow_add-slot g c =
+    let there = c.in_ok-holder.ensures.some.0 in
+    let fits = c.len-fits.ensures in
+    omega (arith, there, fits)

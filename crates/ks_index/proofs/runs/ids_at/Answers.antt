@@ -11,5 +11,5 @@ returns-in_default g c =
 pub returns : goal.returns
 returns g c =
     let other = c.get.result.now in
-    c.from_vec.ensures ∙ c.in_ok-ids.ensures ∙ ap (map (λ (p : ℕ). g.R.Row.key (get_or c.args.rows.now p other))) c.iter.ensures.rest ∙ sym (map_twice g.R.Row.key (λ (p : ℕ). get_or c.args.rows.now p other) c.args.places.now.items)
+    c.from_vec.ensures ∙ c.in_ok-ids.ensures ∙ ap (map (λ (p : ℕ). g.R.Row.key (get_or c.args.rows.now p other))) c.iter.ensures ∙ sym (map_twice g.R.Row.key (λ (p : ℕ). get_or c.args.rows.now p other) c.args.places.now.items)
     ∙ ap (map g.R.Row.key) (sym (picked_is c.args.rows.now c.args.places.now.items other c.requires))

@@ -9,4 +9,4 @@ returns g c =
     let ids = c.self.inside.ids.items in
     let list = subst (λ r. AreListed g.R.Row.key r (picked rows ids)) (sym c.as_slice.ensures.value) (picked_listed g.R.Row.key rows ids c.self.invariant.0) in
     c.named.ensures c.args.self.now (subst (λ l. AreListed g.R.Row.key c.as_slice.result.now l) c.self.view_is list)
-    ∙ ap (λ n. find (is_named g.R.Named.within g.R.Named.naming c.args.home.now n) c.args.self.now) c.as_slice-2.ensures.bytes
+    ∙ ap (λ n. find (is_named g.R.Named.within g.R.Named.naming c.args.home.now n) c.args.self.now) c.as_str.ensures

@@ -1,0 +1,3 @@
+mod ChunkLemmas
+mod SearchLemmas
+mod PlaceLemmas

@@ -1,0 +1,31 @@
+use Rattle.std.proofs.Common.{◌≡◌, ◌-◌, ◌<◌, ◌≤◌, length, get_or, sym, ap, arith, rules}
+use Rattle.std.specs.declared.collections.VecDeque.{VecDeque}
+use Rattle.ks_chunks.specs.declared.chunk.TheConstants.{FULL}
+use Rattle.ks_chunks.proofs.ChunkLemmas.{room_is, room_none}
+use Rattle.ks_chunks.proofs.sequence.has_room.Goals as goal
+
+pub returns-in-Some-clause-yes : goal.returns-in-Some-clause-yes
+returns-in-Some-clause-yes g c = λ yes.
+    let chunks = c.args.chunks.now in
+    let last = c.in-Some.last.now in
+    let some : 0 < length chunks = search rules in
+    let is : last ≡ get_or chunks (length chunks - 1) last = search rules in
+    let lt : length last.items < FULL = search rules in
+    let all = room_is FULL chunks (length chunks - 1) last c.requires (omega (arith, some)) in
+    let there = ap (λ (c : VecDeque _ _). FULL - length c.items) (sym is) in
+    omega (arith, all, there, lt)
+
+pub returns-in-Some-clause-no : goal.returns-in-Some-clause-no
+returns-in-Some-clause-no g c = λ no.
+    let chunks = c.args.chunks.now in
+    let last = c.in-Some.last.now in
+    let some : 0 < length chunks = search rules in
+    let is : last ≡ get_or chunks (length chunks - 1) last = search rules in
+    let le : FULL ≤ length last.items = search rules in
+    let all = room_is FULL chunks (length chunks - 1) last c.requires (omega (arith, some)) in
+    let there = ap (λ (c : VecDeque _ _). FULL - length c.items) (sym is) in
+    omega (arith, all, there, le)
+
+pub returns-in-None-clause-no : goal.returns-in-None-clause-no
+returns-in-None-clause-no g c = λ no.
+    room_none FULL c.args.chunks.now (search rules)
