@@ -14,3 +14,4 @@ pub mod TableLemmas
 pub mod TrustLemmas
 pub mod TruthLemmas
 pub mod WalkLemmas
+mod HeadLemmas

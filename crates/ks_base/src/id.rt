@@ -7,6 +7,7 @@ ghost use Rattle.std.specs.Cmp.{partial_order_from_own_ties};
 ghost use Rattle.std.specs.Cmp.Rules.{comparing};
 ghost use Rattle.std.proofs.Common.{rules};
 ghost use Rattle.ks_base.specs.Ids.{IsId, IsFirstBadByte, is_id_byte};
+ghost use Rattle.ks_base.specs.IdFields.{head_number};
 
 use crate::limits::ID_BYTES;
 use crate::{Memory, TryCopy};
@@ -93,6 +94,23 @@ impl Id {
         }
     }
 
+    /// The first eight bytes as a number. Of two ids the one with the smaller number comes first.
+    fn head(&self) -> u64
+        ensures number { result ≡ head_number 8 self.now }
+        ensures id { IsId self.now }
+    {
+        u64::from_be_bytes([
+            self.bytes[0],
+            self.bytes[1],
+            self.bytes[2],
+            self.bytes[3],
+            self.bytes[4],
+            self.bytes[5],
+            self.bytes[6],
+            self.bytes[7],
+        ])
+    }
+
     /// The id's bytes.
     pub fn as_slice(&self) -> &[u8]
         ensures bytes { result.now ≡ self.now }
@@ -144,6 +162,13 @@ impl Ord for Id {
     ghost matches_eq = { Prim.search (comparing, rules) };
 
     fn cmp(&self, other: &Id) -> Ordering {
+        let (head, other_head) = (self.head(), other.head());
+        if head < other_head {
+            return Ordering::Less;
+        }
+        if other_head < head {
+            return Ordering::Greater;
+        }
         self.as_str().cmp(other.as_str())
     }
 }
