@@ -4,11 +4,11 @@ use Rattle.std.specs.List.{filter}
 use Rattle.std.specs.declared.cmp.Ordering.{Ordering}
 use Rattle.std.specs.Ordering.{is_eq}
 use Rattle.std.proofs.lemmas.Cmp.{nat_list_cmp_total}
-use Rattle.ks_index.proofs.RunLemmas.{ascending_themselves, first_part}
+use Rattle.ks_index.proofs.RunLemmas.{ascending_themselves}
 use Rattle.ks_appcred.proofs.MappedLemmas.{ascending_unmapped, filter_mapped}
 use Rattle.ks_appcred.specs.Orders.{name_of}
 use Rattle.ks_index.specs.Indexes.{name_cmp}
-use Rattle.ks_base.specs.OrderLaws.{keyed_run}
+use Rattle.ks_base.specs.OrderLaws.{first_part, keyed_run}
 use Rattle.ks_base.specs.Rows.{same}
 use Rattle.ks_base.specs.Runs.{IsRun}
 use Rattle.ks_base.specs.Tables.{IsAscending, id_cmp}

@@ -1,13 +1,13 @@
 -- The order of grants as their targets see them is total, what it holds equal is the same, and the grants at a target stand side by side in it.
-use Rattle.std.proofs.Common.{◌≡◌, ◌⊎◌, inl, inr, refl, sym, ap, ◌∙◌}
+use Rattle.std.proofs.Common.{◌≡◌, ◌⊎◌, sym, ap, ◌∙◌}
 use Rattle.std.specs.declared.cmp.Ordering.{Ordering}
-use Rattle.std.specs.declared.cmp.Ordering.TheVariants.{Less, Equal, Greater}
+use Rattle.std.specs.declared.cmp.Ordering.TheVariants.{Less, Equal}
 use Rattle.std.specs.Ordering.{ordering_then}
 use Rattle.std.specs.Cmp.{IsTotalOrder}
 use Rattle.std.proofs.lemmas.Cmp.{then_total, on_total, tied_back}
 use Rattle.ks_base.specs.declared.grants.Target.{Target}
 use Rattle.ks_base.specs.Orders.{grant_cmp, target_cmp}
-use Rattle.ks_base.specs.OrderLaws.{grant_exact, grant_total, keyed_run, target_total, then_equal}
+use Rattle.ks_base.specs.OrderLaws.{first_part, grant_exact, grant_total, keyed_alone, keyed_run, keyed_whole, target_total, then_equal}
 use Rattle.ks_base.specs.Runs.{IsRun}
 use Rattle.ks_assign.specs.declared.by_target.ByTarget.{ByTarget}
 use Rattle.ks_assign.specs.Sides.{by_target_cmp}
@@ -21,15 +21,21 @@ by_target_exact a b e =
 pub by_target_total : IsTotalOrder by_target_cmp
 by_target_total = then_total (on_total (λ side. side.row.target) target_total) (on_total (λ side. side.row) grant_total)
 
-target_first : (o p : Ordering) → ordering_then o p ≡ Less → (o ≡ Less) ⊎ (o ≡ Equal)
-target_first Less p e = inl refl
-target_first Equal p e = inr refl
-target_first Greater p e = cc
+pub of_targets_total : IsTotalOrder (λ (a b : ByTarget). target_cmp a.row.target b.row.target)
+of_targets_total = on_total (λ side. side.row.target) target_total
+
+pub target_first : (a b : ByTarget) → by_target_cmp a b ≡ Less → (target_cmp a.row.target b.row.target ≡ Less) ⊎ (target_cmp a.row.target b.row.target ≡ Equal)
+target_first a b less = first_part (target_cmp a.row.target b.row.target) (grant_cmp a.row b.row) less
 
 pub target_run : (target : Target) → IsRun by_target_cmp (λ side. target_cmp side.row.target target)
-target_run =
-    keyed_run target_cmp (λ (side : ByTarget). side.row.target) by_target_cmp target_total
-    (λ a b less. target_first (target_cmp a.row.target b.row.target) (grant_cmp a.row b.row) less)
+target_run = keyed_run target_cmp (λ (side : ByTarget). side.row.target) by_target_cmp target_total target_first
+
+pub target_whole : (target : Target) (a b : ByTarget) → target_cmp a.row.target b.row.target ≡ Equal → target_cmp a.row.target target ≡ target_cmp b.row.target target
+target_whole = keyed_whole target_cmp (λ side. side.row.target) target_total
+
+pub target_alone : (target : Target) (a b : ByTarget) → target_cmp a.row.target target ≡ Equal → target_cmp b.row.target target ≡ Equal →
+    target_cmp a.row.target b.row.target ≡ Equal
+target_alone = keyed_alone target_cmp (λ side. side.row.target) target_total
 
 -- and in the order of all grants there
 pub target_within : (target : Target) (a b : ByTarget) → target_cmp a.row.target target ≡ Equal → target_cmp b.row.target target ≡ Equal → by_target_cmp a b ≡ Less →

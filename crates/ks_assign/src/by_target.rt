@@ -1,7 +1,7 @@
 //! Grants as they are seen from their targets.
 ghost use Rattle.std.specs.declared.cmp.Ordering.{Ordering};
 
-use ks_base::{Far, GrantRow, Near, Ordered, Side, Target};
+use ks_base::{Far, GrantRow, InRuns, Near, OfRun, Ordered, Side, Target};
 use std::cmp::Ordering;
 
 /// A grant as it is seen from its target.
@@ -54,6 +54,21 @@ impl Side<GrantRow> for ByTarget {
     }
 }
 
+impl InRuns for ByTarget {
+    ghost use Rattle.ks_base.specs.Orders.{target_cmp};
+    ghost use Rattle.ks_assign.specs.SideLaws.{of_targets_total, target_first};
+
+    ghost runs = { λ a b. target_cmp a.row.target b.row.target };
+
+    ghost runs_total = { of_targets_total };
+
+    ghost runs_first = { target_first };
+
+    fn compare_runs(&self, other: &ByTarget) -> Ordering {
+        self.row.target.compare(&other.row.target)
+    }
+}
+
 impl Near<ByTarget> for AtTarget {
     ghost use Rattle.ks_base.specs.Orders.{target_cmp};
     ghost use Rattle.ks_assign.specs.SideLaws.{target_run};
@@ -65,6 +80,14 @@ impl Near<ByTarget> for AtTarget {
     fn side(&self, side: &ByTarget) -> Ordering {
         side.row.target.compare(&self.target)
     }
+}
+
+impl OfRun<ByTarget> for AtTarget {
+    ghost use Rattle.ks_assign.specs.SideLaws.{target_whole, target_alone};
+
+    ghost whole = { λ wanted. target_whole wanted.target };
+
+    ghost alone = { λ wanted. target_alone wanted.target };
 }
 
 impl Far<GrantRow, ByTarget> for AtTarget {

@@ -121,7 +121,7 @@ pub imply_total : IsTotalOrder imply_cmp
 imply_total = then_total (on_total (λ row. row.prior) nat_list_cmp_total) (on_total (λ row. row.implied) nat_list_cmp_total)
 
 -- an order goes first by its first part
-first_part : (o p : Ordering) → ordering_then o p ≡ Less → (o ≡ Less) ⊎ (o ≡ Equal)
+pub first_part : (o p : Ordering) → ordering_then o p ≡ Less → (o ≡ Less) ⊎ (o ≡ Equal)
 first_part Less p e = inl refl
 first_part Equal p e = inr refl
 first_part Greater p e = cc
@@ -132,7 +132,7 @@ part_of Less p (inr equal) = inl refl
 part_of Equal p (inr equal) = inr refl
 part_of Greater p (inr equal) = cc
 
-first_of_three : (o p q : Ordering) → ordering_then (ordering_then o p) q ≡ Less → (o ≡ Less) ⊎ (o ≡ Equal)
+pub first_of_three : (o p q : Ordering) → ordering_then (ordering_then o p) q ≡ Less → (o ≡ Less) ⊎ (o ≡ Equal)
 first_of_three o p q e = part_of o p (first_part (ordering_then o p) q e)
 
 first_of_four : (o p q r : Ordering) → ordering_then (ordering_then (ordering_then o p) q) r ≡ Less → (o ≡ Less) ⊎ (o ≡ Equal)
@@ -154,7 +154,16 @@ keyed_run {K} first key cmp o leads k = record {
     behind x y (inl less) above = o.antisymm y k ∙ ap ordering_reverse (o.trans k x y (o.antisymm k x ∙ ap ordering_reverse above) less)
     behind x y (inr same) above = sym (o.congr x y k same) ∙ above
 
-actor_first : (a b : GrantRow) → grant_cmp a b ≡ Less → (actor_cmp a.actor b.actor ≡ Less) ⊎ (actor_cmp a.actor b.actor ≡ Equal)
+-- a row lies to a key as the others of its run do, and what lies at one key is of one run
+pub keyed_whole : {K X : Type 0} (first : K → K → Ordering) (key : X → K) → IsTotalOrder first → (k : K) (a b : X) → first (key a) (key b) ≡ Equal →
+    first (key a) k ≡ first (key b) k
+keyed_whole first key o k a b same = o.congr (key a) (key b) k same
+
+pub keyed_alone : {K X : Type 0} (first : K → K → Ordering) (key : X → K) → IsTotalOrder first → (k : K) (a b : X) → first (key a) k ≡ Equal → first (key b) k ≡ Equal →
+    first (key a) (key b) ≡ Equal
+keyed_alone first key o k a b one other = o.congr (key a) k (key b) one ∙ (o.antisymm k (key b) ∙ ap ordering_reverse other)
+
+pub actor_first : (a b : GrantRow) → grant_cmp a b ≡ Less → (actor_cmp a.actor b.actor ≡ Less) ⊎ (actor_cmp a.actor b.actor ≡ Equal)
 actor_first a b less = first_of_four (actor_cmp a.actor b.actor) (target_cmp a.target b.target) (bool_cmp a.inherited b.inherited) (id_cmp a.role b.role) less
 
 site_first : (a b : GrantRow) → grant_cmp a b ≡ Less → (site_cmp (site_of a) (site_of b) ≡ Less) ⊎ (site_cmp (site_of a) (site_of b) ≡ Equal)
@@ -168,18 +177,49 @@ site_total =
 pub actor_run : (actor : Actor) → IsRun grant_cmp (λ row. actor_cmp row.actor actor)
 actor_run = keyed_run actor_cmp (λ (row : GrantRow). row.actor) grant_cmp actor_total actor_first
 
+-- so the grants of each actor are a run
+pub of_actors_total : IsTotalOrder (λ (a b : GrantRow). actor_cmp a.actor b.actor)
+of_actors_total = on_total (λ row. row.actor) actor_total
+
+pub actor_whole : (actor : Actor) (a b : GrantRow) → actor_cmp a.actor b.actor ≡ Equal → actor_cmp a.actor actor ≡ actor_cmp b.actor actor
+actor_whole = keyed_whole actor_cmp (λ row. row.actor) actor_total
+
+pub actor_alone : (actor : Actor) (a b : GrantRow) → actor_cmp a.actor actor ≡ Equal → actor_cmp b.actor actor ≡ Equal → actor_cmp a.actor b.actor ≡ Equal
+actor_alone = keyed_alone actor_cmp (λ row. row.actor) actor_total
+
 pub site_run : (site : GrantSite) → IsRun grant_cmp (λ row. site_cmp (site_of row) site)
 site_run = keyed_run site_cmp site_of grant_cmp site_total site_first
 
 -- and the memberships in a group, and those of a user
+pub of_groups_total : IsTotalOrder (λ (a b : MemberRow). id_cmp a.group b.group)
+of_groups_total = on_total (λ row. row.group) nat_list_cmp_total
+
+pub group_first : (a b : MemberRow) → member_cmp a b ≡ Less → (id_cmp a.group b.group ≡ Less) ⊎ (id_cmp a.group b.group ≡ Equal)
+group_first a b less = first_part (id_cmp a.group b.group) (id_cmp a.user b.user) less
+
 pub group_run : (group : List ℕ) → IsRun member_cmp (λ row. id_cmp row.group group)
-group_run =
-    keyed_run id_cmp (λ (row : MemberRow). row.group) member_cmp nat_list_cmp_total (λ a b less. first_part (id_cmp a.group b.group) (id_cmp a.user b.user) less)
+group_run = keyed_run id_cmp (λ (row : MemberRow). row.group) member_cmp nat_list_cmp_total group_first
+
+pub group_whole : (group : List ℕ) (a b : MemberRow) → id_cmp a.group b.group ≡ Equal → id_cmp a.group group ≡ id_cmp b.group group
+group_whole = keyed_whole id_cmp (λ row. row.group) nat_list_cmp_total
+
+pub group_alone : (group : List ℕ) (a b : MemberRow) → id_cmp a.group group ≡ Equal → id_cmp b.group group ≡ Equal → id_cmp a.group b.group ≡ Equal
+group_alone = keyed_alone id_cmp (λ row. row.group) nat_list_cmp_total
+
+pub of_users_total : IsTotalOrder (λ (a b : ByUser). id_cmp a.row.user b.row.user)
+of_users_total = on_total (λ side. side.row.user) nat_list_cmp_total
+
+pub user_first : (a b : ByUser) → by_user_cmp a b ≡ Less → (id_cmp a.row.user b.row.user ≡ Less) ⊎ (id_cmp a.row.user b.row.user ≡ Equal)
+user_first a b less = first_part (id_cmp a.row.user b.row.user) (id_cmp a.row.group b.row.group) less
 
 pub user_run : (user : List ℕ) → IsRun by_user_cmp (λ side. id_cmp side.row.user user)
-user_run =
-    keyed_run id_cmp (λ (side : ByUser). side.row.user) by_user_cmp nat_list_cmp_total
-    (λ a b less. first_part (id_cmp a.row.user b.row.user) (id_cmp a.row.group b.row.group) less)
+user_run = keyed_run id_cmp (λ (side : ByUser). side.row.user) by_user_cmp nat_list_cmp_total user_first
+
+pub user_whole : (user : List ℕ) (a b : ByUser) → id_cmp a.row.user b.row.user ≡ Equal → id_cmp a.row.user user ≡ id_cmp b.row.user user
+user_whole = keyed_whole id_cmp (λ side. side.row.user) nat_list_cmp_total
+
+pub user_alone : (user : List ℕ) (a b : ByUser) → id_cmp a.row.user user ≡ Equal → id_cmp b.row.user user ≡ Equal → id_cmp a.row.user b.row.user ≡ Equal
+user_alone = keyed_alone id_cmp (λ side. side.row.user) nat_list_cmp_total
 
 -- which stand in the order of their groups
 pub user_within : (user : List ℕ) (a b : ByUser) → id_cmp a.row.user user ≡ Equal → id_cmp b.row.user user ≡ Equal → by_user_cmp a b ≡ Less →

@@ -3,7 +3,7 @@ ghost use Rattle.std.specs.Option.{option_copied};
 ghost use Rattle.ks_base.specs.Grants.{is_at_target, is_of_actor};
 ghost use Rattle.ks_base.specs.Orders.{actor_rank, actor_id, actor_cmp, target_rank, target_id, target_cmp};
 
-use crate::{Id, Memory, Near, Ordered, TryCopy};
+use crate::{Id, InRuns, Memory, Near, OfRun, Ordered, TryCopy};
 use std::cmp::Ordering;
 
 /// Whom a role is granted to.
@@ -154,6 +154,21 @@ impl Ordered for GrantRow {
     }
 }
 
+impl InRuns for GrantRow {
+    ghost use Rattle.ks_base.specs.Orders.{actor_cmp};
+    ghost use Rattle.ks_base.specs.OrderLaws.{of_actors_total, actor_first};
+
+    ghost runs = { λ a b. actor_cmp a.actor b.actor };
+
+    ghost runs_total = { of_actors_total };
+
+    ghost runs_first = { actor_first };
+
+    fn compare_runs(&self, other: &GrantRow) -> Ordering {
+        self.actor.compare(&other.actor)
+    }
+}
+
 impl Near<GrantRow> for Actor {
     ghost use Rattle.ks_base.specs.Orders.{actor_cmp};
     ghost use Rattle.ks_base.specs.OrderLaws.{actor_run};
@@ -165,6 +180,14 @@ impl Near<GrantRow> for Actor {
     fn side(&self, row: &GrantRow) -> Ordering {
         row.actor.compare(self)
     }
+}
+
+impl OfRun<GrantRow> for Actor {
+    ghost use Rattle.ks_base.specs.OrderLaws.{actor_whole, actor_alone};
+
+    ghost whole = { actor_whole };
+
+    ghost alone = { actor_alone };
 }
 
 impl Near<GrantRow> for GrantSite {

@@ -64,7 +64,7 @@ pub use lists::{
 pub use memory::Memory;
 pub use method::Method;
 pub use named::{Homed, InDomain, Named, Outside};
-pub use near::{Near, run_of};
+pub use near::{InRuns, Near, OfRun, run_of};
 pub use receipt::{Drawn, Receipt};
 pub use refusal::refuse_if;
 pub use row::{Row, Test};

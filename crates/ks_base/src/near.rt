@@ -1,6 +1,8 @@
-ghost use Rattle.std.specs.Prelude.{◌≡◌, ◌≤◌, filter, length, not, slice_range};
+ghost use Rattle.std.specs.Prelude.{◌≡◌, ◌≤◌, ◌⊎◌, filter, length, not, slice_range};
 ghost use Rattle.std.specs.List.{remove_range};
 ghost use Rattle.std.specs.declared.cmp.Ordering.{Ordering};
+ghost use Rattle.std.specs.declared.cmp.Ordering.TheVariants.{Less, Equal};
+ghost use Rattle.std.specs.Cmp.{IsTotalOrder};
 ghost use Rattle.std.specs.Ordering.{is_eq};
 ghost use Rattle.ks_base.specs.Runs.{IsRun};
 ghost use Rattle.ks_base.specs.Tables.{IsAscending};
@@ -17,6 +19,26 @@ pub trait Near<R: Ordered> {
         ensures { result ≡ side self.now row.now };
 
     ghost run: { (near : Self) → IsRun R.Ordered.cmp (side near) };
+}
+
+/// Rows that stand in runs: those of one run side by side, as the grants of one actor do.
+pub trait InRuns: Ordered {
+    ghost runs: { Self → Self → Ordering };
+
+    /// Which of two rows is of the run that comes first; those of one run are `Equal`.
+    fn compare_runs(&self, other: &Self) -> Ordering
+        ensures { result ≡ runs self.now other.now };
+
+    ghost runs_total: { IsTotalOrder runs };
+
+    ghost runs_first: { (a b : Self) → Self.Ordered.cmp a b ≡ Less → (runs a b ≡ Less) ⊎ (runs a b ≡ Equal) };
+}
+
+/// What all the rows of one run have in common, and no others.
+pub trait OfRun<R: InRuns>: Near<R> {
+    ghost whole: { (near : Self) (a b : R) → R.InRuns.runs a b ≡ Equal → Self.side near a ≡ Self.side near b };
+
+    ghost alone: { (near : Self) (a b : R) → Self.side near a ≡ Equal → Self.side near b ≡ Equal → R.InRuns.runs a b ≡ Equal };
 }
 
 /// Where those of the rows that have this in common begin, and where they end. Some twice as many rows are looked at

@@ -1,6 +1,8 @@
 ghost use Rattle.std.specs.Prelude.{◌≡◌, IfOk};
 
-use crate::{Far, Homed, Id, Memory, Named, Near, Ordered, Row, Side, Text, TryCopy};
+use crate::{
+    Far, Homed, Id, InRuns, Memory, Named, Near, OfRun, Ordered, Row, Side, Text, TryCopy,
+};
 use std::cmp::Ordering;
 
 /// What is kept of a password: PBKDF2-HMAC-SHA-256 of it (RFC 8018, section 5.2).
@@ -161,6 +163,21 @@ impl Side<MemberRow> for ByUser {
     }
 }
 
+impl InRuns for MemberRow {
+    ghost use Rattle.ks_base.specs.Tables.{id_cmp};
+    ghost use Rattle.ks_base.specs.OrderLaws.{of_groups_total, group_first};
+
+    ghost runs = { λ a b. id_cmp a.group b.group };
+
+    ghost runs_total = { of_groups_total };
+
+    ghost runs_first = { group_first };
+
+    fn compare_runs(&self, other: &MemberRow) -> Ordering {
+        self.group.cmp(&other.group)
+    }
+}
+
 impl Near<MemberRow> for InGroup {
     ghost use Rattle.ks_base.specs.Tables.{id_cmp};
     ghost use Rattle.ks_base.specs.OrderLaws.{group_run};
@@ -171,6 +188,29 @@ impl Near<MemberRow> for InGroup {
 
     fn side(&self, row: &MemberRow) -> Ordering {
         row.group.cmp(&self.group)
+    }
+}
+
+impl OfRun<MemberRow> for InGroup {
+    ghost use Rattle.ks_base.specs.OrderLaws.{group_whole, group_alone};
+
+    ghost whole = { λ near. group_whole near.group };
+
+    ghost alone = { λ near. group_alone near.group };
+}
+
+impl InRuns for ByUser {
+    ghost use Rattle.ks_base.specs.Tables.{id_cmp};
+    ghost use Rattle.ks_base.specs.OrderLaws.{of_users_total, user_first};
+
+    ghost runs = { λ a b. id_cmp a.row.user b.row.user };
+
+    ghost runs_total = { of_users_total };
+
+    ghost runs_first = { user_first };
+
+    fn compare_runs(&self, other: &ByUser) -> Ordering {
+        self.row.user.cmp(&other.row.user)
     }
 }
 
@@ -185,6 +225,14 @@ impl Near<ByUser> for OfUser {
     fn side(&self, side: &ByUser) -> Ordering {
         side.row.user.cmp(&self.user)
     }
+}
+
+impl OfRun<ByUser> for OfUser {
+    ghost use Rattle.ks_base.specs.OrderLaws.{user_whole, user_alone};
+
+    ghost whole = { λ near. user_whole near.user };
+
+    ghost alone = { λ near. user_alone near.user };
 }
 
 impl Far<MemberRow, ByUser> for OfUser {

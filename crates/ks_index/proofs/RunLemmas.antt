@@ -6,7 +6,7 @@ use Rattle.std.specs.declared.cmp.Ordering.{Ordering}
 use Rattle.std.specs.declared.cmp.Ordering.TheVariants.{Less, Equal, Greater}
 use Rattle.std.specs.Ordering.{is_eq, ordering_then}
 use Rattle.std.proofs.lemmas.Cmp.{nat_list_cmp_total}
-use Rattle.ks_base.specs.OrderLaws.{keyed_run}
+use Rattle.ks_base.specs.OrderLaws.{first_of_three, keyed_run}
 use Rattle.ks_base.specs.Rows.{Id, same}
 use Rattle.ks_base.specs.Runs.{IsRun}
 use Rattle.ks_base.specs.Tables.{AreAbove, Among, IsAscending, id_cmp}
@@ -17,16 +17,6 @@ use Rattle.ks_base.proofs.RowLemmas.{among_filter, filter_among, id_same}
 use Rattle.ks_base.proofs.TableLemmas.{some_ids_ascend}
 use Rattle.ks_index.specs.Indexes.{AreListed, IsIndex, full_cmp, full_name}
 use Rattle.ks_index.proofs.NameLemmas.{among_get}
-
-pub first_part : (o p : Ordering) → ordering_then o p ≡ Less → (o ≡ Less) ⊎ (o ≡ Equal)
-first_part Less p e = inl refl
-first_part Equal p e = inr refl
-first_part Greater p e = cc
-
-first_of_three : (o p q : Ordering) → ordering_then (ordering_then o p) q ≡ Less → (o ≡ Less) ⊎ (o ≡ Equal)
-first_of_three Less p q e = inl refl
-first_of_three Equal p q e = inr refl
-first_of_three Greater p q e = cc
 
 -- items by the order of their keys, as their own keys
 above_themselves : {X K : Type 0} (cmp : K → K → Ordering) (key : X → K) (low : X) (xs : List X) → AreAbove cmp key (key low) xs →

@@ -2,11 +2,10 @@
 use Rattle.std.proofs.Common.{ℕ, List}
 use Rattle.std.proofs.lemmas.Cmp.{nat_list_cmp_total}
 use Rattle.ks_base.specs.declared.grants.ImplyRow.{ImplyRow}
-use Rattle.ks_base.specs.OrderLaws.{keyed_run}
+use Rattle.ks_base.specs.OrderLaws.{first_part, keyed_run}
 use Rattle.ks_base.specs.Orders.{imply_cmp}
 use Rattle.ks_base.specs.Runs.{IsRun}
 use Rattle.ks_base.specs.Tables.{id_cmp}
-use Rattle.ks_index.proofs.RunLemmas.{first_part}
 
 pub prior_run : (prior : List ℕ) → IsRun imply_cmp (λ row. id_cmp row.prior prior)
 prior_run =

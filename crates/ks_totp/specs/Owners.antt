@@ -1,12 +1,12 @@
 -- Whose secrets stand, by user and then by secret.
-use Rattle.std.proofs.Common.{◌≡◌, ◌⊎◌, inl, inr, List, refl}
+use Rattle.std.proofs.Common.{◌≡◌, List}
 use Rattle.std.specs.declared.cmp.Ordering.{Ordering}
-use Rattle.std.specs.declared.cmp.Ordering.TheVariants.{Less, Equal, Greater}
+use Rattle.std.specs.declared.cmp.Ordering.TheVariants.{Equal}
 use Rattle.std.specs.Cmp.{IsTotalOrder}
-use Rattle.std.specs.Ordering.{ordering_then, then_cmp, on}
+use Rattle.std.specs.Ordering.{then_cmp, on}
 use Rattle.std.proofs.lemmas.Cmp.{nat_list_cmp_total, then_total, on_total}
 use Rattle.ks_base.specs.declared.factors.SecretRow.{SecretRow}
-use Rattle.ks_base.specs.OrderLaws.{id_exact, keyed_run, then_equal}
+use Rattle.ks_base.specs.OrderLaws.{first_part, id_exact, keyed_run, then_equal}
 use Rattle.ks_base.specs.Rows.{Id}
 use Rattle.ks_base.specs.Runs.{IsRun}
 use Rattle.ks_base.specs.Tables.{id_cmp, Among}
@@ -24,12 +24,6 @@ owner_exact a b e =
     let user = id_exact a.user b.user both.0 in
     let secret = id_exact a.secret b.secret both.1 in
     λ i. record { user = user i; secret = secret i }
-
--- the order goes first by user
-first_part : (o p : Ordering) → ordering_then o p ≡ Less → (o ≡ Less) ⊎ (o ≡ Equal)
-first_part Less p e = inl refl
-first_part Equal p e = inr refl
-first_part Greater p e = cc
 
 -- the secrets of a user stand side by side
 pub owner_run : (user : Id) → IsRun owner_cmp (λ row. id_cmp row.user user)

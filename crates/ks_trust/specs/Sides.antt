@@ -7,11 +7,10 @@ use Rattle.std.specs.Option.{option_map_or}
 use Rattle.std.specs.Ordering.{nat_cmp, then_cmp, on}
 use Rattle.std.proofs.lemmas.Cmp.{nat_cmp_total, nat_list_cmp_total, then_total, on_total}
 use Rattle.ks_base.specs.declared.trusts.TrustRow.{TrustRow}
-use Rattle.ks_base.specs.OrderLaws.{id_exact, keyed_run, then_equal}
+use Rattle.ks_base.specs.OrderLaws.{first_part, id_exact, keyed_run, then_equal}
 use Rattle.ks_base.specs.Rows.{Id, same}
 use Rattle.ks_base.specs.Runs.{IsRun}
 use Rattle.ks_base.specs.Tables.{id_cmp, Among}
-use Rattle.ks_index.proofs.RunLemmas.{first_part}
 use Rattle.ks_trust.specs.declared.sides.Reference.{Reference}
 use Rattle.ks_trust.specs.declared.sides.Reference.TheVariants as references
 use Rattle.ks_trust.specs.declared.sides.TrustSide.{TrustSide}
