@@ -31,8 +31,6 @@ KNOWN = {
     ("ks_commands/src/opening.rt", "ks_commands/src/password.rt"): 6,
     # A table with names is one by ids and more.
     ("ks_base/src/id_table.rt", "ks_index/src/table.rt"): 31,
-    # The digits of an id: of a payload, which packs them, and of bytes that were drawn.
-    ("ks_checks/src/draws.rt", "ks_payload/src/hex_id.rt"): 7,
     # A row that is told with its name, of a domain and of a role.
     ("ks_checks/src/names.rt", "ks_checks/src/names.rt"): 6,
     # What a caller asks and has who tries to take the turn, once and for a while.

@@ -1,10 +1,10 @@
 //! What is made of the 64 random bytes of a request: 16 are for an id, 16 for a salt or an iv, and 32 for a key.
 ghost use Rattle.std.specs.Prelude.{◌≡◌, ◌+◌, ◌≤◌, take, drop};
-ghost use Rattle.hex.specs.Hex.{encode_lower};
 ghost use Rattle.ks_base.specs.declared.receipt.Drawn.{Drawn};
 ghost use Rattle.ks_machine.specs.Outcomes.{id_bytes, key, made_id, salt, uuid};
 
 use ks_base::{Id, Key};
+use ks_payload::unpacked;
 use uuid::{Builder, Uuid};
 
 /// The id of a new row: the lower hex digits of a UUID of version 4 (RFC 9562, section 5.4).
@@ -12,7 +12,7 @@ use uuid::{Builder, Uuid};
 pub fn made_id(drawn: &[u8; 64]) -> Id
     ensures { result ≡ made_id (Drawn.Bytes drawn.now) }
 {
-    digits(version_4(sixteen(drawn, 0)).as_bytes())
+    unpacked(version_4(sixteen(drawn, 0)).as_bytes())
 }
 
 /// The bytes for an id, which are also an audit id.
@@ -55,18 +55,4 @@ fn version_4(random: [u8; 16]) -> Uuid
     ensures { result ≡ uuid random }
 {
     Builder::from_random_bytes(random).into_uuid()
-}
-
-/// The lower hex digits of these bytes.
-fn digits(bytes: &[u8; 16]) -> Id
-    ensures { result ≡ encode_lower bytes.now }
-{
-    let mut digits = [0u8; 32];
-    let Ok(()) = hex::encode_to_slice(bytes.as_slice(), &mut digits) else {
-        unreachable!();
-    };
-    let Ok(id) = Id::read(&digits) else {
-        unreachable!();
-    };
-    id
 }

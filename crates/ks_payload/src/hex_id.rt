@@ -41,7 +41,7 @@ pub fn packed(id: &[u8]) -> [u8; 16]
     bytes
 }
 
-/// The id of these bytes' digits.
+/// The id of 32 lower hex digits that spell these bytes, as an id field reads it.
 pub fn unpacked(bytes: &[u8; 16]) -> Id
     ensures { result ≡ encode_lower bytes.now }
 {

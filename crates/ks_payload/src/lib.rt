@@ -21,5 +21,6 @@ mod payload;
 mod reading;
 mod writing;
 
+pub use hex_id::unpacked;
 pub use laws::{id_fields, one_reading, one_spelling, prefix_free, readings, versions};
 pub use payload::Payload;
