@@ -1,1 +1,2 @@
+-- Sequences in chunks.
 pub mod Chunks
