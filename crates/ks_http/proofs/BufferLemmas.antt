@@ -16,8 +16,8 @@ use Rattle.ks_http.specs.declared.ending.Ending.{Ending}
 use Rattle.ks_http.specs.declared.ending.Ending.TheVariants.{End, Bad, ReadFault, Memory}
 use Rattle.ks_http.specs.declared.look.Look.{Look}
 use Rattle.ks_http.specs.declared.look.Look.TheVariants.{Whole, Refused, More}
-use Rattle.ks_http.specs.declared.opening.Opening.{Opening}
-use Rattle.ks_http.specs.Heads.{opening_of}
+use Rattle.ks_http.specs.declared.parts.RequestParts.{RequestParts}
+use Rattle.ks_http.specs.Heads.{parts_of}
 use Rattle.ks_http.specs.steps.Says.{Refuses}
 use Rattle.ks_http.specs.Next.{BeginsWith, IsRefused, headless, by_head, in_body, Ends, IsUnfinished, ReadsNeeded}
 use Rattle.ks_http.specs.steps.Buffers.{Fills, Filled, Finds, Looks, Glances, IsHeadAt, IsUndecided, FindsHead, Stands, FillsTo, OpensAt, Taken, TakesBody, ReadsPiece, IsShorter}
@@ -74,7 +74,7 @@ took wants whole held before left after s piece_of wanting =
     })
 
 -- what a head and its body took
-pub took_both : (whole held before : List ℕ) (left after : Option (List ℕ)) (o : Opening) (f : OpensAt whole held left (Ok o)) → ReadsNeeded IsUnfinished whole before left
+pub took_both : (whole held before : List ℕ) (left after : Option (List ℕ)) (o : RequestParts) (f : OpensAt whole held left (Ok o)) → ReadsNeeded IsUnfinished whole before left
     → ReadsNeeded (IsShorter o.length) (held ++ f.0) f.0 after → ReadsNeeded IsUnfinished whole before after
 took_both whole held before left after o f head (inl none) = subst (λ l. ReadsNeeded IsUnfinished whole before l) (f.1 ∙ sym none) head
 took_both whole held before left after o f head (inr body) =
@@ -149,8 +149,8 @@ opens_after whole held rest headers spans h same fits =
       few = h.begins.few;
     }
 
-pub opens_at : (whole held new : List ℕ) (left : Option (List ℕ)) (headers : List HeaderSpan) (spans : RequestSpans) (o : Opening) (f : FindsHead whole held left headers (Ok spans))
-    → spans.len ≤ length held → new ≡ drop spans.len held → opening_of f.3.head ≡ Ok o → OpensAt whole new left (Ok o)
+pub opens_at : (whole held new : List ℕ) (left : Option (List ℕ)) (headers : List HeaderSpan) (spans : RequestSpans) (o : RequestParts) (f : FindsHead whole held left headers (Ok spans))
+    → spans.len ≤ length held → new ≡ drop spans.len held → parts_of f.3.head ≡ Ok o → OpensAt whole new left (Ok o)
 opens_at whole held new left headers spans o f fits n says = (
   f.0,
   f.1,
@@ -162,14 +162,14 @@ opens_at whole held new left headers spans o f fits n says = (
 )
 
 pub refuses_head : (whole held : List ℕ) (left : Option (List ℕ)) (headers : List HeaderSpan) (spans : RequestSpans) (e : Ending) (f : FindsHead whole held left headers (Ok spans))
-    → spans.len ≤ length held → Refuses (opening_of f.3.head) e → Ends whole left e
+    → spans.len ≤ length held → Refuses (parts_of f.3.head) e → Ends whole left e
 refuses_head whole held left headers spans (Bad cause) f fits says =
     inl (by_head (drop spans.len held ++ f.0) (record { head = f.3.head; begins = opens_after whole held f.0 headers spans f.3 f.2 fits; says = says }))
 refuses_head whole held left headers spans Memory f fits says = tt
 refuses_head whole held left headers spans End f fits says = absurd says
 refuses_head whole held left headers spans ReadFault f fits says = absurd says
 
-pub body_ends : (whole held new : List ℕ) (left after : Option (List ℕ)) (o : Opening) (e : Ending) (f : OpensAt whole held left (Ok o))
+pub body_ends : (whole held new : List ℕ) (left after : Option (List ℕ)) (o : RequestParts) (e : Ending) (f : OpensAt whole held left (Ok o))
     → TakesBody (held ++ f.0) o.length new after (Err e) → Ends whole after e
 body_ends whole held new left after o End f t = absurd t
 body_ends whole held new left after o (Bad cause) f t = inr (in_body o (held ++ f.0) f.2 t.1, t.0, t.2)

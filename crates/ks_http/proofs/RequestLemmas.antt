@@ -7,11 +7,11 @@ use Rattle.ks_base.proofs.ListLemmas.{take_front, drop_front}
 use Rattle.httparse.proofs.GrammarLemmas.{request_unique}
 use Rattle.httparse.specs.Grammar.{print_request}
 use Rattle.ks_http.specs.declared.cause.HttpCause.{HttpCause}
-use Rattle.ks_http.specs.declared.opening.Opening.{Opening}
+use Rattle.ks_http.specs.declared.parts.RequestParts.{RequestParts}
 use Rattle.ks_http.specs.declared.request.Request.{Request}
 use Rattle.ks_http.specs.Next.{IsFirst, IsUnfinished, ReadsNeeded, ReadsWhile, request_of, Requests, Close, goes_on, in_head, in_body}
 use Rattle.ks_http.specs.Requests.{AreFirst, AreFollowed}
-use Rattle.ks_http.specs.Heads.{opening_of}
+use Rattle.ks_http.specs.Heads.{parts_of}
 use Rattle.ks_http.proofs.WaitLemmas.{undecided_at_first}
 
 -- one more request behind those that came first
@@ -36,7 +36,7 @@ first_then count bytes (r ∷ requests) mid others close first then =
 first_short : (bytes : List ℕ) (request : Request) (tail rest : List ℕ) → IsFirst bytes request (tail ++ rest) →
     (front : List ℕ) × (bytes ≡ front ++ rest) × IsFirst front request tail
 first_short bytes request tail rest first =
-    let size = first.opening.length in
+    let size = first.parts.length in
     let body = take size first.after in
     let after_is : first.after ≡ (body ++ tail) ++ rest
     = sym (take-append-drop size first.after) ∙ ap (λ l. body ++ l) (sym first.rest_is) ∙ sym (append_assoc body tail rest) in
@@ -47,7 +47,7 @@ first_short bytes request tail rest first =
       front,
       first.opens.begins.reads.1 ∙ ap (λ l. printed ++ l) after_is ∙ sym (append_assoc printed (body ++ tail) rest),
       record {
-        opening = first.opening;
+        parts = first.parts;
         after = body ++ tail;
         opens = record {
           head = head;
@@ -55,7 +55,7 @@ first_short bytes request tail rest first =
           says = first.opens.says;
         };
         enough = let l = length-append body tail in omega (arith, l, size_is);
-        request_is = first.request_is ∙ ap (λ l. request_of first.opening l) (sym (take_front size body tail size_is));
+        request_is = first.request_is ∙ ap (λ l. request_of first.parts l) (sym (take_front size body tail size_is));
         rest_is = sym (drop_front size body tail size_is);
       },
     )
@@ -75,7 +75,7 @@ followed_then count bytes [] mid others rest first then = subst (λ b. AreFollow
 followed_then count bytes (r ∷ requests) mid others rest first then =
     (first.0, first.1, followed_then (count + 1) first.0 requests mid others rest first.4 then)
 
-one_length : (a b : Opening) (said : Result Opening HttpCause) → said ≡ Ok a → said ≡ Ok b → a.length ≡ b.length
+one_length : (a b : RequestParts) (said : Result RequestParts HttpCause) → said ≡ Ok a → said ≡ Ok b → a.length ≡ b.length
 one_length a b said first second = cc
 
 -- the beginning of a request is none
@@ -84,9 +84,9 @@ begins_none bytes request rest (inl nothing) first =
     let none = subst (λ b. IsFirst b request rest) nothing first in
     undecided_at_first.headless none.opens.head none.after none.opens.begins
 begins_none bytes request rest (inr (in_head headless unsettled some)) first = headless first.opens.head first.after first.opens.begins
-begins_none bytes request rest (inr (in_body opening after opens few)) first =
+begins_none bytes request rest (inr (in_body parts after opens few)) first =
     let same = request_unique bytes opens.head first.opens.head after first.after opens.begins.reads first.opens.begins.reads in
-    let one = one_length opening first.opening (opening_of opens.head) opens.says (ap (λ head. opening_of head) same.0 ∙ first.opens.says) in
+    let one = one_length parts first.parts (parts_of opens.head) opens.says (ap (λ head. parts_of head) same.0 ∙ first.opens.says) in
     let sizes = ap (λ l. length l) same.1 in
     let enough = first.enough in
     absurd (omega (arith, one, sizes, enough, few))
@@ -95,9 +95,9 @@ begins_none bytes request rest (inr (in_body opening after opens few)) first =
 parted : (bytes : List ℕ) (request : Request) (rest : List ℕ) → IsFirst bytes request rest → (taken : List ℕ) × (bytes ≡ taken ++ rest)
 parted bytes request rest first =
     let printed = print_request first.opens.head in
-    let body = take first.opening.length first.after in (
+    let body = take first.parts.length first.after in (
       printed ++ body,
-      first.opens.begins.reads.1 ∙ ap (λ l. printed ++ l) (sym (take-append-drop first.opening.length first.after) ∙ ap (λ l. body ++ l) (sym first.rest_is)) ∙ sym (append_assoc printed body rest),
+      first.opens.begins.reads.1 ∙ ap (λ l. printed ++ l) (sym (take-append-drop first.parts.length first.after) ∙ ap (λ l. body ++ l) (sym first.rest_is)) ∙ sym (append_assoc printed body rest),
     )
 
 -- of two cuts of the same bytes the one with the shorter end ends in it

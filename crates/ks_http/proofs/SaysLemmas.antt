@@ -6,7 +6,7 @@ use Rattle.ks_http.specs.declared.cause.HttpCause.{HttpCause}
 use Rattle.ks_http.specs.declared.cause.HttpCause.TheVariants.{Malformed}
 use Rattle.ks_http.specs.declared.ending.Ending.{Ending}
 use Rattle.ks_http.specs.declared.ending.Ending.TheVariants.{End, Bad, ReadFault, Memory}
-use Rattle.ks_http.specs.declared.opening.Opening.{Opening}
+use Rattle.ks_http.specs.declared.parts.RequestParts.{RequestParts}
 use Rattle.ks_http.specs.Fields.{Named, values_of}
 use Rattle.ks_http.specs.Heads.{behind, text_of, path_text, token_of, body_length, said_of, with_path, with_auth, with_subject, with_length}
 use Rattle.ks_http.specs.steps.Says.{Refuses, Says}
@@ -64,7 +64,7 @@ pub text_bad : (bytes : List ℕ) → (IsUtf8 bytes → ⊥) → text_of bytes �
 unfolding text_of
 text_bad bytes none = let t = is_utf8_false bytes none in rw t refl
 
-pub says_same : {m m' t t' : List ℕ} {n n' : ℕ} {f f' : List Named} (r : Result Opening Ending) → m ≡ m' → t ≡ t' → n ≡ n' → f ≡ f'
+pub says_same : {m m' t t' : List ℕ} {n n' : ℕ} {f f' : List Named} (r : Result RequestParts Ending) → m ≡ m' → t ≡ t' → n ≡ n' → f ≡ f'
     → Says (said_of m t n f) r → Says (said_of m' t' n' f') r
 says_same {m = m} {m' = m'} {t = t} {t' = t'} {n = n} {n' = n'} {f = f} {f' = f'} r a b d e h =
     subst (λ x. Says (said_of m' t' n' x) r) e (subst (λ x. Says (said_of m' t' x f) r) d (subst (λ x. Says (said_of m' x n f) r) b (subst (λ x. Says (said_of x t n f) r) a h)))

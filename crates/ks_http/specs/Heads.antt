@@ -9,7 +9,7 @@ use Rattle.ks_base.specs.declared.method.Method.{Method}
 use Rattle.ks_base.specs.declared.method.Method.TheVariants.{Get, Head, Post, Patch, Put, Delete, Other}
 use Rattle.ks_http.specs.declared.cause.HttpCause.{HttpCause}
 use Rattle.ks_http.specs.declared.cause.HttpCause.TheVariants.{Malformed, Chunked, TooLarge}
-use Rattle.ks_http.specs.declared.opening.Opening.{Opening}
+use Rattle.ks_http.specs.declared.parts.RequestParts.{RequestParts}
 use Rattle.ks_http.specs.Lines.{cut_at}
 use Rattle.ks_http.specs.Fields.{Named, values_of, is_number, number_of, is_chunked, closes}
 
@@ -73,7 +73,7 @@ unfoldable pub body_length : List Named → Result ℕ HttpCause
 body_length fields = behind (allowed (is_chunked fields)) (announced (values_of (codes "Content-Length") fields))
 
 -- what the parts of a head say of the request
-abbrev pub with_length : List ℕ → List ℕ → ℕ → List Named → List ℕ → Option (List ℕ) → Option (List ℕ) → ℕ → Result Opening HttpCause
+abbrev pub with_length : List ℕ → List ℕ → ℕ → List Named → List ℕ → Option (List ℕ) → Option (List ℕ) → ℕ → Result RequestParts HttpCause
 with_length method target minor fields path auth subject length = Ok (record {
   method = method_of method;
   path = path;
@@ -84,21 +84,21 @@ with_length method target minor fields path auth subject length = Ok (record {
   close = closes minor fields;
 })
 
-abbrev pub with_subject : List ℕ → List ℕ → ℕ → List Named → List ℕ → Option (List ℕ) → Option (List ℕ) → Result Opening HttpCause
+abbrev pub with_subject : List ℕ → List ℕ → ℕ → List Named → List ℕ → Option (List ℕ) → Option (List ℕ) → Result RequestParts HttpCause
 with_subject method target minor fields path auth subject =
     behind (with_length method target minor fields path auth subject) (body_length fields)
 
-abbrev pub with_auth : List ℕ → List ℕ → ℕ → List Named → List ℕ → Option (List ℕ) → Result Opening HttpCause
+abbrev pub with_auth : List ℕ → List ℕ → ℕ → List Named → List ℕ → Option (List ℕ) → Result RequestParts HttpCause
 with_auth method target minor fields path auth =
     behind (with_subject method target minor fields path auth) (token_of (values_of (codes "X-Subject-Token") fields))
 
-abbrev pub with_path : List ℕ → List ℕ → ℕ → List Named → List ℕ → Result Opening HttpCause
+abbrev pub with_path : List ℕ → List ℕ → ℕ → List Named → List ℕ → Result RequestParts HttpCause
 with_path method target minor fields path =
     behind (with_auth method target minor fields path) (token_of (values_of (codes "X-Auth-Token") fields))
 
 -- what the parts of a head say of its request, or why it is refused: the path, the tokens and the length of the body come in this order
-abbrev pub said_of : List ℕ → List ℕ → ℕ → List Named → Result Opening HttpCause
+abbrev pub said_of : List ℕ → List ℕ → ℕ → List Named → Result RequestParts HttpCause
 said_of method target minor fields = behind (with_path method target minor fields) (path_text target)
 
-abbrev pub opening_of : RequestHead → Result Opening HttpCause
-opening_of head = said_of head.method head.target head.minor (map name_and_value head.fields)
+abbrev pub parts_of : RequestHead → Result RequestParts HttpCause
+parts_of head = said_of head.method head.target head.minor (map name_and_value head.fields)

@@ -10,9 +10,9 @@ use Rattle.ks_http.specs.declared.ending.Ending.{Ending}
 use Rattle.ks_http.specs.declared.ending.Ending.TheVariants as ending
 use Rattle.ks_http.specs.declared.next.Next.{Next}
 use Rattle.ks_http.specs.declared.next.Next.TheVariants as next
-use Rattle.ks_http.specs.declared.opening.Opening.{Opening}
+use Rattle.ks_http.specs.declared.parts.RequestParts.{RequestParts}
 use Rattle.ks_http.specs.declared.request.Request.{Request}
-use Rattle.ks_http.specs.Heads.{opening_of}
+use Rattle.ks_http.specs.Heads.{parts_of}
 use Rattle.ks_http.specs.Lines.{settled_cause}
 
 -- | the bytes are a head of at most 16,384 bytes and 64 fields, and then `after`
@@ -25,13 +25,13 @@ abbrev pub HasNoHead : List ℕ → Type 0
 HasNoHead bytes = (head : RequestHead) (after : List ℕ) → BeginsWith bytes head after → ⊥
 
 -- the bytes begin with a head that says this, and go on with `after`
-pub record Opens (bytes : List ℕ) (opening : Result Opening HttpCause) (after : List ℕ) : Type 0 where
+pub record Opens (bytes : List ℕ) (parts : Result RequestParts HttpCause) (after : List ℕ) : Type 0 where
   pub head : RequestHead
   pub begins : BeginsWith bytes head after
-  pub says : opening_of head ≡ opening
+  pub says : parts_of head ≡ parts
 
--- the request of an opening and a body
-abbrev pub request_of : Opening → List ℕ → Request
+-- the request of the parts of a head and a body
+abbrev pub request_of : RequestParts → List ℕ → Request
 request_of o body = record {
   method = o.method;
   path = o.path;
@@ -44,12 +44,12 @@ request_of o body = record {
 
 -- | the bytes are a request, and then `rest`
 pub record IsFirst (bytes : List ℕ) (request : Request) (rest : List ℕ) : Type 0 where
-  pub opening : Opening
+  pub parts : RequestParts
   pub after : List ℕ
-  pub opens : Opens bytes (Ok opening) after
-  pub enough : opening.length ≤ length after
-  pub request_is : request ≡ request_of opening (take opening.length after)
-  pub rest_is : rest ≡ drop opening.length after
+  pub opens : Opens bytes (Ok parts) after
+  pub enough : parts.length ≤ length after
+  pub request_is : request ≡ request_of parts (take parts.length after)
+  pub rest_is : rest ≡ drop parts.length after
 
 -- | the bytes are refused, whatever follows them
 pub data IsRefused (bytes : List ℕ) (cause : HttpCause) : Type 0 where
@@ -59,7 +59,7 @@ pub data IsRefused (bytes : List ℕ) (cause : HttpCause) : Type 0 where
 -- | the bytes are the beginning of a request, at which the input ended
 pub data IsCut (bytes : List ℕ) : Type 0 where
   in_head : HasNoHead bytes → settled_cause bytes ≡ None → bytes ≢ [] → IsCut bytes
-  in_body : (opening : Opening) (after : List ℕ) → Opens bytes (Ok opening) after → length after < opening.length → IsCut bytes
+  in_body : (parts : RequestParts) (after : List ℕ) → Opens bytes (Ok parts) after → length after < parts.length → IsCut bytes
 
 -- nothing, or the beginning of a request: only from more bytes can an answer come
 abbrev pub IsUnfinished : List ℕ → Type 0

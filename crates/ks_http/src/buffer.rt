@@ -5,7 +5,7 @@ use crate::cause::HttpCause;
 use crate::ending::Ending;
 use crate::fields::Fields;
 use crate::look::{Look, look_for_head};
-use crate::opening::Opening;
+use crate::parts::RequestParts;
 use crate::request::Request;
 use httparse::spans::{EMPTY_HEADER_SPAN, HeaderSpan, RequestSpans};
 use ks_base::limits::{HEAD_BYTES, HEAD_FIELDS};
@@ -38,7 +38,7 @@ impl Buffer {
     ghost use Rattle.ks_base.specs.declared.limits.TheConstants.{HEAD_BYTES};
     ghost use Rattle.ks_outside.specs.Streams.{OnlyReads};
     ghost use Rattle.ks_http.specs.steps.Buffers.{Fills, FillsTo, IsShorter, IsUndecided, Looks, Glances, FindsWithin, FindsHead, OpensAt, ReadsPiece, TakesBody};
-    ghost use Rattle.ks_http.specs.Heads.{opening_of};
+    ghost use Rattle.ks_http.specs.Heads.{parts_of};
     ghost use Rattle.ks_http.specs.steps.Says.{Says};
     ghost use Rattle.ks_http.specs.Next.{Ends, Comes, IsUnfinished, ReadsNeeded};
 
@@ -183,7 +183,7 @@ impl Buffer {
         Ok(())
     }
 
-    /// ReadsNeeded the body of so many bytes.
+    /// Reads the body of so many bytes.
     fn body<S: Source>(
         &mut self,
         alloc: Global,
@@ -206,9 +206,9 @@ impl Buffer {
         alloc: Global,
         head: RequestSpans,
         headers: &[HeaderSpan; HEAD_FIELDS],
-    ) -> Result<Opening, Ending>
+    ) -> Result<RequestParts, Ending>
         requires { IsRequestWithin (take HEAD_BYTES self.now) headers.now head }
-        ensures says { (h : RequestHead) → IsRequestAt (take HEAD_BYTES self.now) headers.now head h → Says (opening_of h) result }
+        ensures says { (h : RequestHead) → IsRequestAt (take HEAD_BYTES self.now) headers.now head h → Says (parts_of h) result }
         ensures fault { ¬ (IsErrOf result Ending.ReadFault) }
     {
         let bytes = self.window();
@@ -218,30 +218,30 @@ impl Buffer {
         };
         let method = head.method.of(bytes);
         let target = head.path.of(bytes);
-        Opening::read(alloc, method, target, head.version, &fields)
+        RequestParts::read(alloc, method, target, head.version, &fields)
     }
 
-    /// ReadsNeeded the head of the first request.
-    fn opening<S: Source>(&mut self, alloc: Global, source: &mut S) -> Result<Opening, Ending>
+    /// Reads the head of the first request.
+    fn parts<S: Source>(&mut self, alloc: Global, source: &mut S) -> Result<RequestParts, Ending>
         ensures told { (left : List ℕ) → (S.stream source.old).left ≡ Some left → OpensAt (self.old ++ left) self.new (S.stream source.new).left result }
         ensures needed { (left : List ℕ) → (S.stream source.old).left ≡ Some left → ReadsNeeded IsUnfinished (self.old ++ left) left (S.stream source.new).left }
         ensures reads { OnlyReads (IsErrOf result Ending.ReadFault) (S.stream source.old) (S.stream source.new) }
     {
         let mut headers = [EMPTY_HEADER_SPAN; HEAD_FIELDS];
         let head = self.head(source, &mut headers)?;
-        let opening = self.said(alloc, head, &headers)?;
+        let parts = self.said(alloc, head, &headers)?;
         self.bytes.advance(head.len);
-        Ok(opening)
+        Ok(parts)
     }
 
-    /// ReadsNeeded the first request of the bytes in hand and of those that the source has left.
+    /// Reads the first request of the bytes in hand and of those that the source has left.
     pub fn request<S: Source>(&mut self, alloc: Global, source: &mut S) -> Result<Request, Ending>
         ensures told { (left : List ℕ) → (S.stream source.old).left ≡ Some left → Comes (self.old ++ left) self.new (S.stream source.new).left result }
         ensures needed { (left : List ℕ) → (S.stream source.old).left ≡ Some left → ReadsNeeded IsUnfinished (self.old ++ left) left (S.stream source.new).left }
         ensures reads { OnlyReads (IsErrOf result Ending.ReadFault) (S.stream source.old) (S.stream source.new) }
     {
-        let opening = self.opening(alloc, source)?;
-        let body = self.body(alloc, source, opening.length)?;
-        Ok(opening.with_body(body))
+        let parts = self.parts(alloc, source)?;
+        let body = self.body(alloc, source, parts.length)?;
+        Ok(parts.with_body(body))
     }
 }

@@ -3,9 +3,9 @@ use Rattle.std.proofs.Common.{◌≡◌, ℕ, ◌+◌, List, [], ◌∷◌, ◌+
 use Rattle.std.proofs.lemmas.List.{drop-append-le, map-append, take-append-le}
 use Rattle.httparse.proofs.GrammarLemmas.{ReadsRequest-append, request_unique}
 use Rattle.ks_http.specs.declared.cause.HttpCause.{HttpCause}
-use Rattle.ks_http.specs.declared.opening.Opening.{Opening}
+use Rattle.ks_http.specs.declared.parts.RequestParts.{RequestParts}
 use Rattle.ks_http.specs.declared.request.Request.{Request}
-use Rattle.ks_http.specs.Heads.{opening_of}
+use Rattle.ks_http.specs.Heads.{parts_of}
 use Rattle.ks_http.specs.Next.{IsFirst, request_of}
 use Rattle.ks_http.specs.Requests.{AreFirst, AreFollowed}
 use Rattle.ks_http.proofs.RequestLemmas.{followed_then}
@@ -19,10 +19,10 @@ use Rattle.ks_server.specs.Sessions.{EndsSession, IsNextOf, IsNextWord, answered
 
 first_behind : (bytes more : List ℕ) (request : Request) (rest : List ℕ) → IsFirst bytes request rest → IsFirst (bytes ++ more) request (rest ++ more)
 first_behind bytes more request rest first =
-    let size = first.opening.length in
+    let size = first.parts.length in
     let enough = first.enough in
     record {
-      opening = first.opening;
+      parts = first.parts;
       after = first.after ++ more;
       opens = record {
         head = first.opens.head;
@@ -34,7 +34,7 @@ first_behind bytes more request rest first =
         says = first.opens.says;
       };
       enough = let l = length-append first.after more in omega (arith, l, enough);
-      request_is = first.request_is ∙ ap (λ body. request_of first.opening body) (sym (take-append-le size first.after more enough));
+      request_is = first.request_is ∙ ap (λ body. request_of first.parts body) (sym (take-append-le size first.after more enough));
       rest_is = ap (λ l. l ++ more) first.rest_is ∙ sym (drop-append-le size first.after more enough);
     }
 
@@ -45,15 +45,15 @@ followed_behind count bytes more (r ∷ requests) rest first =
 
 -- bytes have one first request
 
-one_opening : (a b : Opening) (said : Result Opening HttpCause) → said ≡ Ok a → said ≡ Ok b → a ≡ b
-one_opening a b said first second = cc
+one_parts : (a b : RequestParts) (said : Result RequestParts HttpCause) → said ≡ Ok a → said ≡ Ok b → a ≡ b
+one_parts a b said first second = cc
 
 first_once : (bytes : List ℕ) (r q : Request) (rest tail : List ℕ) → IsFirst bytes r rest → IsFirst bytes q tail → (r ≡ q) × (rest ≡ tail)
 first_once bytes r q rest tail a b =
     let same = request_unique bytes a.opens.head b.opens.head a.after b.after a.opens.begins.reads b.opens.begins.reads in
-    let openings : a.opening ≡ b.opening = one_opening a.opening b.opening (opening_of a.opens.head) a.opens.says (ap (λ head. opening_of head) same.0 ∙ b.opens.says) in (
-      a.request_is ∙ ((λ i. request_of (openings i) (take (openings i).length (same.1 i))) ∙ sym b.request_is),
-      a.rest_is ∙ ((λ i. drop (openings i).length (same.1 i)) ∙ sym b.rest_is),
+    let same_parts : a.parts ≡ b.parts = one_parts a.parts b.parts (parts_of a.opens.head) a.opens.says (ap (λ head. parts_of head) same.0 ∙ b.opens.says) in (
+      a.request_is ∙ ((λ i. request_of (same_parts i) (take (same_parts i).length (same.1 i))) ∙ sym b.request_is),
+      a.rest_is ∙ ((λ i. drop (same_parts i).length (same.1 i)) ∙ sym b.rest_is),
     )
 
 pub followed_once : (bytes : List ℕ) (rs qs : List Request) (rest tail : List ℕ) → length rs ≡ length qs → AreFollowed bytes rs rest → AreFollowed bytes qs tail → rs ≡ qs

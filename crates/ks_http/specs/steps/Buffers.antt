@@ -11,7 +11,7 @@ use Rattle.ks_http.specs.declared.ending.Ending.{Ending}
 use Rattle.ks_http.specs.declared.ending.Ending.TheVariants.{End, Bad, ReadFault, Memory}
 use Rattle.ks_http.specs.declared.look.Look.{Look}
 use Rattle.ks_http.specs.declared.look.Look.TheVariants.{Whole, Refused, More}
-use Rattle.ks_http.specs.declared.opening.Opening.{Opening}
+use Rattle.ks_http.specs.declared.parts.RequestParts.{RequestParts}
 use Rattle.ks_http.specs.Lines.{settled_cause}
 use Rattle.ks_http.specs.Next.{BeginsWith, HasNoHead, Opens, Ends, IsRefused}
 
@@ -89,8 +89,8 @@ FindsHead bytes held left headers (Ok spans) =
     (rest : List ℕ) × (left ≡ Some rest) × (held ++ rest ≡ bytes) × IsHeadAt (take HEAD_BYTES held) headers spans
 FindsHead bytes held left headers (Err ending) = Ends bytes left ending
 
-abbrev pub OpensAt : List ℕ → List ℕ → Option (List ℕ) → Result Opening Ending → Type 0
-OpensAt bytes held left (Ok opening) = (rest : List ℕ) × (left ≡ Some rest) × Opens bytes (Ok opening) (held ++ rest)
+abbrev pub OpensAt : List ℕ → List ℕ → Option (List ℕ) → Result RequestParts Ending → Type 0
+OpensAt bytes held left (Ok parts) = (rest : List ℕ) × (left ≡ Some rest) × Opens bytes (Ok parts) (held ++ rest)
 OpensAt bytes held left (Err ending) = Ends bytes left ending
 
 -- the bytes in hand and those that are left are the whole

@@ -12,7 +12,7 @@ use ks_base::{Bytes, Method, Text};
 use std::alloc::Global;
 
 /// What a head says of its request.
-pub struct Opening {
+pub struct RequestParts {
     pub method: Method,
     pub path: Text,
     pub query: Bytes,
@@ -23,9 +23,9 @@ pub struct Opening {
     pub close: bool,
 }
 
-impl Drop for Opening {
+impl Drop for RequestParts {
     fn drop(self) {
-        let Opening {
+        let RequestParts {
             method: _,
             path: _,
             query: _,
@@ -114,7 +114,7 @@ fn path_text(alloc: Global, target: &[u8]) -> Result<Text, Ending>
     }
 }
 
-impl Opening {
+impl RequestParts {
     ghost use Rattle.ks_http.specs.Heads.{said_of};
     ghost use Rattle.ks_http.specs.steps.Says.{Says, named};
 
@@ -126,7 +126,7 @@ impl Opening {
         target: &[u8],
         minor: u8,
         fields: &Fields,
-    ) -> Result<Opening, Ending>
+    ) -> Result<RequestParts, Ending>
         ensures { Says (said_of method.now target.now minor (named fields.now)) result }
     {
         let path = path_text(alloc, target)?;
@@ -134,7 +134,7 @@ impl Opening {
         let subject = token(alloc, fields, b"X-Subject-Token")?;
         let length = fields.body_length()?;
         let query = Bytes::of(alloc, query_of(target))?;
-        Ok(Opening {
+        Ok(RequestParts {
             method: method_of(method),
             path,
             query,
@@ -149,7 +149,7 @@ impl Opening {
     pub fn with_body(self, body: Bytes) -> Request
         ensures { result ≡ record { method = self.method; path = self.path; query = self.query; auth = self.auth; subject = self.subject; body = body; close = self.close } }
     {
-        let Opening {
+        let RequestParts {
             method,
             path,
             query,

@@ -2,7 +2,7 @@ use Rattle.std.proofs.Common.{rules}
 use Rattle.ks_http.specs.Heads.{said_of}
 use Rattle.ks_http.specs.steps.Says.{Refuses, named}
 use Rattle.ks_http.proofs.SaysLemmas.{refuses_subject, refuses_length, said_all}
-use Rattle.ks_http.proofs.opening.Opening.read.Goals as goal
+use Rattle.ks_http.proofs.parts.RequestParts.read.Goals as goal
 
 pub returns-in_err-subject : goal.returns-in_err-subject
 returns-in_err-subject c =

@@ -1,5 +1,5 @@
 use Rattle.ks_http.proofs.SaysLemmas.{text_ok, text_bad}
-use Rattle.ks_http.proofs.opening.text_of.Goals as goal
+use Rattle.ks_http.proofs.parts.text_of.Goals as goal
 
 pub returns-in-Some : goal.returns-in-Some
 returns-in-Some c = let some = rw c.in-Some.is at c.in_ok-text.ensures.some in text_ok c.args.bytes.now c.in-Some.text some.0 some.1
