@@ -38,6 +38,9 @@ CALLERS = {
     "system": {**DEFAULT, "OS_USERNAME": "admin", "OS_PASSWORD": "secret", "OS_SYSTEM_SCOPE": "all"},
     "unscoped": {**DEFAULT, "OS_USERNAME": "admin", "OS_PASSWORD": "secret"},
     "wrong": {**DEFAULT, "OS_USERNAME": "admin", "OS_PASSWORD": "wrong", "OS_PROJECT_NAME": "admin"},
+    # Whose address has no version, so that the client asks at `/` which there are.
+    "root": {**DEFAULT, "OS_AUTH_URL": "<address>", "OS_USERNAME": "admin", "OS_PASSWORD": "secret", "OS_PROJECT_NAME": "admin"},
+    "slash": {**DEFAULT, "OS_AUTH_URL": "<address>/", "OS_USERNAME": "demo", "OS_PASSWORD": "demo", "OS_PROJECT_NAME": "demo"},
     "demo": {**DEFAULT, "OS_USERNAME": "demo", "OS_PASSWORD": "demo", "OS_PROJECT_NAME": "demo"},
     "nova": {**DEFAULT, "OS_USERNAME": "nova", "OS_PASSWORD": "nova", "OS_PROJECT_NAME": "service"},
     "eve": {"OS_USERNAME": "eve", "OS_PASSWORD": "e2", "OS_USER_DOMAIN_NAME": "apart", "OS_DOMAIN_NAME": "apart",

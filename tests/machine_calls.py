@@ -405,9 +405,9 @@ class Caller:
         return body
 
     def other(self, _):
-        """The keys, the version, and what there is not."""
-        choices = [("GET", "/v3", None, None), ("GET", "/v3/", None, None), ("GET", "/v3/none", None, None),
-                   ("DELETE", "/v3/users", None, None), ("POST", "/v3/OS-KS-KEYS/load", None, None)]
+        """The keys, the versions, and what there is not."""
+        choices = [("GET", "/", None, None), ("GET", "/v3", None, None), ("GET", "/v3/", None, None),
+                   ("GET", "/v3/none", None, None), ("DELETE", "/v3/users", None, None), ("POST", "/v3/OS-KS-KEYS/load", None, None)]
         if self.rotations:
             self.rotations -= 1
             choices += [("POST", "/v3/OS-KS-KEYS/rotate", None, None)] * 4

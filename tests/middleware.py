@@ -76,6 +76,11 @@ def try_valid(server, app):
     require(catalog["compute"][0]["publicURL"].endswith("/" + DEMO), f"the endpoint is {catalog['compute']}")
 
 
+def try_root(server, _app):
+    """The same where the server is named without the version, as the guides of most services name it."""
+    try_valid(server, guarded(server.url.removesuffix("/v3")))
+
+
 def try_refused(server, app):
     """No token, one that is none, and one that was revoked do not reach it."""
     for token in (None, "gAAAAA"):
@@ -100,4 +105,4 @@ def try_expired(server, app):
 
 
 if __name__ == "__main__":
-    try_application("middleware", "keystonemiddleware", guarded, (try_valid, try_refused, try_expired))
+    try_application("middleware", "keystonemiddleware", guarded, (try_valid, try_root, try_refused, try_expired))

@@ -174,12 +174,19 @@ class Commands(Catalog, Holdings):
 
     # Logins and tokens.
 
-    def do_version(self, _):
-        """The version document."""
+    def version_told(self):
+        """The one version of the Identity API that there is."""
         media = {"base": "application/json", "type": "application/vnd.openstack.identity-v3+json"}
         links = [{"href": self.settings["url"] + "/v3/", "rel": "self"}]
-        return Outcome(200, {"version": {"id": "v3.14", "links": links, "media-types": [media], "status": "stable",
-                                         "updated": "2020-04-07T00:00:00Z"}})
+        return {"id": "v3.14", "links": links, "media-types": [media], "status": "stable", "updated": "2020-04-07T00:00:00Z"}
+
+    def do_version(self, _):
+        """The version document."""
+        return Outcome(200, {"version": self.version_told()})
+
+    def do_versions(self, _):
+        """The versions that there are."""
+        return Outcome(300, {"versions": {"values": [self.version_told()]}})
 
     def shows_password(self, row, password):
         """The user, where it stands, is enabled and has this password."""

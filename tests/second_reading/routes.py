@@ -33,6 +33,7 @@ def routes_of_users():
 
 def all_routes():
     """Each method and pattern of a path, the command, and what the route says of it."""
+    yield "GET", "/", "versions", None
     yield "GET", "/v3", "version", None
     yield "GET", "/v3/", "version", None
     for method, command in (("POST", "login"), ("GET", "validate"), ("HEAD", "check"), ("DELETE", "revoke_token")):
@@ -66,8 +67,8 @@ def all_routes():
 
 ROUTES = list(all_routes())
 ACTIONS = {
-    "version": None, "login": None, "change_password": None, "show_catalog": None, "validate": "validate_token",
-    "check": "check_token", "revoke_token": "revoke_token", "groups_of": "list_groups_for_user",
+    "versions": None, "version": None, "login": None, "change_password": None, "show_catalog": None,
+    "validate": "validate_token", "check": "check_token", "revoke_token": "revoke_token", "groups_of": "list_groups_for_user",
     "members_of": "list_users_in_group", "join": "add_user_to_group", "is_in": "check_user_in_group",
     "leave": "remove_user_from_group", "implied": "list_implied_roles", "imply": "create_implied_role",
     "implication": "get_implied_role", "is_implied": "check_implied_role", "unimply": "delete_implied_role",

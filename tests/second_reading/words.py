@@ -17,8 +17,9 @@ CATALOG = ("region", "service", "endpoint")
 OF_USERS = ("appcred", "secret")
 METHODS = ("GET", "HEAD", "POST", "PATCH", "PUT", "DELETE")
 
-REASONS = {200: "OK", 201: "Created", 204: "No Content", 400: "Bad Request", 401: "Unauthorized", 403: "Forbidden",
-           404: "Not Found", 405: "Method Not Allowed", 409: "Conflict", 411: "Length Required", 413: "Request Entity Too Large",
+REASONS = {200: "OK", 201: "Created", 204: "No Content", 300: "Multiple Choices", 400: "Bad Request",
+           401: "Unauthorized", 403: "Forbidden", 404: "Not Found", 405: "Method Not Allowed", 409: "Conflict",
+           411: "Length Required", 413: "Request Entity Too Large",
            431: "Request Header Fields Too Large", 503: "Service Unavailable", 505: "HTTP Version Not Supported"}
 UNAUTHORIZED = "The request you have made requires authentication."
 CAUSES = {

@@ -49,6 +49,7 @@ abbrev pub id_told : BodyOut → Id
 id_told (body.One told made) = id_of_row told
 id_told body.Nothing = codes "none"
 id_told body.Version = codes "none"
+id_told body.Versions = codes "none"
 id_told (body.Token token) = codes "none"
 id_told (body.Many kind rows path) = codes "none"
 id_told (body.Inference prior implied made) = codes "none"
@@ -72,6 +73,7 @@ abbrev pub token_told : BodyOut → Option TokenOut
 token_told (body.Token token) = Some token
 token_told body.Nothing = None
 token_told body.Version = None
+token_told body.Versions = None
 token_told (body.One told made) = None
 token_told (body.Many kind rows path) = None
 token_told (body.Inference prior implied made) = None

@@ -10,6 +10,7 @@ reason_of status =
     if status == 200 then codes "OK"
     else if status == 201 then codes "Created"
     else if status == 204 then codes "No Content"
+    else if status == 300 then codes "Multiple Choices"
     else if status == 400 then codes "Bad Request"
     else if status == 401 then codes "Unauthorized"
     else if status == 403 then codes "Forbidden"

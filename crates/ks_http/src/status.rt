@@ -11,6 +11,7 @@ pub fn reason(status: u16) -> &'static str
         200 => "OK",
         201 => "Created",
         204 => "No Content",
+        300 => "Multiple Choices",
         400 => "Bad Request",
         401 => "Unauthorized",
         403 => "Forbidden",

@@ -376,6 +376,7 @@ good_own_checks : (known : Known) (S : State) (moment : ℕ) (call : Call) (who 
     AreFields asked → IsFolderFor (requirements asked).loads call.folder → AreTokens S moment who → Gives (IsGood S moment) (own_checks known S S.rows moment call who asked)
 unfolding own_checks requirements
 good_own_checks known S moment call who command.Version old high le fields read are = good_tells S moment body.Version tt
+good_own_checks known S moment call who command.Versions old high le fields read are = good_tells S moment body.Versions tt
 good_own_checks known S moment call who (command.Login asked) old high le fields read are =
     good_drawn S moment call.draw _ (λ draw. good_login known S moment draw asked old le)
 good_own_checks known S moment call who (command.ChangePassword id original password) old high le fields read are =

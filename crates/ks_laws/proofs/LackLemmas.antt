@@ -219,6 +219,7 @@ module _ (P : Lack → Type 0) (known : Known) (S : State) (call : Call) (checks
       Asks P (own_checks known S S.rows moment call who asked)
   unfolding own_checks requirements list_groups_of list_members_of join leave implied imply implication is_implied unimply ungrant get_trust delete_trust roles_of_trust
   asks_own_checks moment who command.Version is drawn = asks_go Cause P _
+  asks_own_checks moment who command.Versions is drawn = asks_go Cause P _
   asks_own_checks moment who (command.Login body) is drawn = asks_drawn call.draw _ (asks_login moment body is)
   asks_own_checks moment who (command.ChangePassword id original new) is drawn = asks_drawn call.draw _ (asks_change_password id original new is drawn)
   asks_own_checks moment who (command.Validate late) is drawn = asks_on_subject call.subject who.subject _

@@ -431,6 +431,7 @@ whole_on_subject (Some text) (Some token) own = tt
 whole_own_checks : (S : State) (moment : ℕ) (call : Call) (who : Parties) (asked : Command) → IsWhole (own_checks everything S S.rows moment call who asked)
 unfolding own_checks list_groups_of list_members_of join leave implied imply implication is_implied unimply grant ungrant get_trust delete_trust roles_of_trust list_app_creds get_secret delete_secret
 whole_own_checks S moment call who command.Version = whole_go Cause _
+whole_own_checks S moment call who command.Versions = whole_go Cause _
 whole_own_checks S moment call who (command.Login body) = whole_bind _ _ (whole_drawn call.draw) (λ draw. whole_login S moment draw body)
 whole_own_checks S moment call who (command.ChangePassword id original password) =
     whole_bind _ _ (whole_drawn call.draw) (λ draw. whole_change_password S draw id original password)

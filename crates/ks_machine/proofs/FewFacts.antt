@@ -253,6 +253,7 @@ agrees_own_checks : (known : Known) → AreTrue known → (S : State) (rows : Ro
     Agrees (own_checks known S rows moment call who asked) (own_checks everything S rows moment call who asked)
 unfolding own_checks
 agrees_own_checks known facts S rows moment call who command.Version = agrees_refl _
+agrees_own_checks known facts S rows moment call who command.Versions = agrees_refl _
 agrees_own_checks known facts S rows moment call who (command.Login body) = agrees_on (bytes_drawn call.draw) _ _ (λ draw. agrees_login known facts S moment draw body)
 agrees_own_checks known facts S rows moment call who (command.ChangePassword id original password) = agrees_on (bytes_drawn call.draw) _ _ (λ draw. agrees_change_password known facts S draw id original password)
 agrees_own_checks known facts S rows moment call who (command.Validate late) = agrees_refl _

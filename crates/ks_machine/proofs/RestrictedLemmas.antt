@@ -342,6 +342,7 @@ own_checks_spare : (known : Known) (S : State) (moment : ℕ) (call : Call) (who
     Spares (own_checks known S S.rows moment call who asked)
 unfolding own_checks
 own_checks_spare known S moment call who command.Version bound = spares_go _ refl
+own_checks_spare known S moment call who command.Versions bound = spares_go _ refl
 own_checks_spare known S moment call who (command.Login asked) bound = drawn_spares call.draw _ (λ draw. login_spares known S moment draw asked)
 own_checks_spare known S moment call who (command.ChangePassword id original password) bound = drawn_spares call.draw _ (λ draw. password_spares known S draw id original password)
 own_checks_spare known S moment call who (command.Validate late) bound = subject_spares call.subject who.subject _ (λ text token. refl)

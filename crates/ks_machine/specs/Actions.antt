@@ -110,6 +110,7 @@ draws_for (made.Role given name description) = false
 
 unfoldable pub requirements : Command → Requirements
 requirements command.Version = open_to_all false
+requirements command.Versions = open_to_all false
 requirements (command.Login body) = open_to_all true
 requirements (command.Validate late) = asks_about (codes "validate_token") late
 requirements (command.Check late) = asks_about (codes "check_token") late

@@ -162,6 +162,7 @@ AreFields (command.Grant row) = IsGrant row
 AreFields (command.IsGranted row) = IsGrant row
 AreFields (command.Ungrant row) = IsGrant row
 AreFields command.Version = Unit {0}
+AreFields command.Versions = Unit {0}
 AreFields (command.Validate late) = Unit {0}
 AreFields (command.Check late) = Unit {0}
 AreFields command.RevokeToken = Unit {0}

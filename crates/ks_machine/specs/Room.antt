@@ -22,6 +22,7 @@ is_for_oneself command.RevokeToken = true
 is_for_oneself (command.ChangePassword id original password) = true
 is_for_oneself (command.DeleteTrust id) = true
 is_for_oneself command.Version = false
+is_for_oneself command.Versions = false
 is_for_oneself (command.Login body) = false
 is_for_oneself (command.Validate late) = false
 is_for_oneself (command.Check late) = false

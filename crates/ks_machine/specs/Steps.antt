@@ -77,6 +77,7 @@ on_subject given subject own = subject_shown given subject >>= (λ shown. Go (ow
 -- | the own checks of a command of these parties, over these rows of the state
 unfoldable pub own_checks : Known → State → Rows → ℕ → Call → Parties → Command → Attempt Cause Outcome
 own_checks known S rows moment call who command.Version = Go (tells body.Version)
+own_checks known S rows moment call who command.Versions = Go (tells body.Versions)
 own_checks known S rows moment call who (command.Login asked) = bytes_drawn call.draw >>= (λ draw. login known S moment draw asked)
 own_checks known S rows moment call who (command.ChangePassword id original password) =
     bytes_drawn call.draw >>= (λ draw. change_password known S draw id original password)

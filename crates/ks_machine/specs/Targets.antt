@@ -278,6 +278,7 @@ target_of rows subject (command.Trust id) = of_trust rows id
 target_of rows subject (command.DeleteTrust id) = of_trust rows id
 target_of rows subject (command.TrustRoles id) = of_trust rows id
 target_of rows subject command.Version = []
+target_of rows subject command.Versions = []
 target_of rows subject (command.Login body) = []
 target_of rows subject (command.ChangePassword user original password) = []
 target_of rows subject (command.Assignments filter) = []

@@ -35,6 +35,7 @@ IsEventTellable event = IsExpiry event.moment
 abbrev pub IsBodyTellable : BodyOut → Type 0
 IsBodyTellable body.Nothing = Unit {0}
 IsBodyTellable body.Version = Unit {0}
+IsBodyTellable body.Versions = Unit {0}
 IsBodyTellable (body.Token token) = IsTokenTellable token
 IsBodyTellable (body.One told made) = IsRowTellable told
 IsBodyTellable (body.Many kind rows path) = AllByRecursion IsRowTellable rows

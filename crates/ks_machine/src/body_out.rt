@@ -138,6 +138,8 @@ pub enum BodyOut {
     Nothing,
     /// The version document of the Identity API.
     Version,
+    /// The versions of the Identity API that there are.
+    Versions,
     Token(Boxed<TokenOut>),
     One(Boxed<Row>, bool),
     Many(RowKind, RowList, Text),
@@ -166,6 +168,7 @@ impl Drop for BodyOut {
         match self {
             BodyOut::Nothing
             | BodyOut::Version
+            | BodyOut::Versions
             | BodyOut::Token(_)
             | BodyOut::One(_, _)
             | BodyOut::Many(_, _, _)

@@ -11,6 +11,8 @@ use ks_base::{
 pub enum Command {
     /// The version document.
     Version,
+    /// The versions of the API that there are.
+    Versions,
     Login(Boxed<LoginBody>),
     /// The subject token with all that is told of it. The truth value says whether the request allows one that
     /// has expired.
@@ -82,6 +84,7 @@ impl Drop for Command {
     fn drop(self) {
         match self {
             Command::Version
+            | Command::Versions
             | Command::Login(_)
             | Command::Validate(_)
             | Command::Check(_)

@@ -202,6 +202,7 @@ fn own_checks(
 {
     match &call.command {
         Command::Version => Ok(Plan::tells(BodyOut::Version)),
+        Command::Versions => Ok(Plan::tells(BodyOut::Versions)),
         Command::Login(asked) => given::login(alloc, tables, moment, call, asked.get(), facts),
         Command::ChangePassword(id, original, password) => {
             given::change_password(alloc, tables, call, facts, id, original, password)

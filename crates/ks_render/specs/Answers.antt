@@ -27,6 +27,7 @@ status_by made = if made then 201 else 200
 abbrev pub status_of_granted : BodyOut → ℕ
 status_of_granted body_out.Nothing = 204
 status_of_granted body_out.Version = 200
+status_of_granted body_out.Versions = 300
 status_of_granted (body_out.Token told) = status_by told.made
 status_of_granted (body_out.One told made) = status_by made
 status_of_granted (body_out.Many kind rows path) = 200
@@ -62,6 +63,7 @@ body_fields = (codes "Content-Type", codes "application/json") ∷ (codes "Vary"
 abbrev pub granted_fields : BodyOut → List Named
 granted_fields body_out.Nothing = vary_fields
 granted_fields body_out.Version = body_fields
+granted_fields body_out.Versions = body_fields
 granted_fields (body_out.Token told) = body_fields
 granted_fields (body_out.One told made) = body_fields
 granted_fields (body_out.Many kind rows path) = body_fields
@@ -135,6 +137,7 @@ cause_fields cause.Memory url = []
 abbrev pub told_fields : BodyOut → List Named
 told_fields body_out.Nothing = []
 told_fields body_out.Version = []
+told_fields body_out.Versions = []
 told_fields (body_out.Token told) = token_fields told.text
 told_fields (body_out.One told made) = []
 told_fields (body_out.Many kind rows path) = []

@@ -19,12 +19,13 @@ use Rattle.ks_render.specs.Listings.{inference_body, keys_body, links_then_rows,
 use Rattle.ks_render.specs.Named.{titled_value, titles_value}
 use Rattle.ks_render.specs.Rows.{one_body, role_value, row_value}
 use Rattle.ks_render.specs.Tokens.{token_body}
-use Rattle.ks_render.specs.Versions.{version_body}
+use Rattle.ks_render.specs.Versions.{version_body, versions_body}
 
 -- what an answer tells that grants a command
 abbrev pub granted_body : BodyOut → List ℕ → Option Data
 granted_body body_out.Nothing url = None
 granted_body body_out.Version url = Some (version_body url)
+granted_body body_out.Versions url = Some (versions_body url)
 granted_body (body_out.Token told) url = Some (token_body told)
 granted_body (body_out.One told made) url = Some (one_body url told)
 granted_body (body_out.Many kind rows path) url = Some (many_body kind (map (row_value url) rows) url path)

@@ -15,7 +15,7 @@ use crate::listings::{
 };
 use crate::rows::write_one;
 use crate::tokens::write_token;
-use crate::version::write_version;
+use crate::version::{write_version, write_versions};
 use json::Writer;
 use ks_base::{Bytes, Memory, Text};
 use ks_http::HttpCause;
@@ -49,7 +49,7 @@ fn token_room(told: &TokenOut) -> usize {
 fn granted_room(granted: &BodyOut) -> usize {
     match granted {
         BodyOut::Nothing => 0,
-        BodyOut::Version => ROOM,
+        BodyOut::Version | BodyOut::Versions => ROOM,
         BodyOut::Token(told) => token_room(told.get()),
         BodyOut::One(_, _) => ROOM,
         BodyOut::Many(_, rows, _) => room_for(rows.as_slice().len()),
@@ -88,6 +88,7 @@ fn write_granted(
     match granted {
         BodyOut::Nothing => Ok(()),
         BodyOut::Version => write_version(out, url, link),
+        BodyOut::Versions => write_versions(out, url, link),
         BodyOut::Token(told) => write_token(out, told.get(), url, link),
         BodyOut::One(row, _) => write_one(out, row.get(), url, link),
         BodyOut::Many(kind, rows, path) => { write_many(out, *kind, rows, url, path, link) }

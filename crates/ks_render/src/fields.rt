@@ -88,7 +88,7 @@ fn granted_fields(alloc: Global, granted: &BodyOut) -> Result<ResponseFields, Me
 {
     match granted {
         BodyOut::Nothing => vary_fields(alloc),
-        BodyOut::Version => body_fields(alloc),
+        BodyOut::Version | BodyOut::Versions => body_fields(alloc),
         BodyOut::Token(_) => body_fields(alloc),
         BodyOut::One(_, _) => body_fields(alloc),
         BodyOut::Many(_, _, _) => body_fields(alloc),
@@ -191,7 +191,7 @@ fn push_told(fields: &mut ResponseFields, alloc: Global, granted: &BodyOut) -> R
 {
     match granted {
         BodyOut::Nothing => Ok(()),
-        BodyOut::Version => Ok(()),
+        BodyOut::Version | BodyOut::Versions => Ok(()),
         BodyOut::Token(told) => push_token(fields, alloc, &told.get().text),
         BodyOut::One(_, _) => Ok(()),
         BodyOut::Many(_, _, _) => Ok(()),

@@ -12,7 +12,7 @@ ghost use Rattle.ks_render.specs.Errors.{refused_body};
 ghost use Rattle.ks_render.specs.Examples.{plain_catalog, plain_cred, plain_login, plain_roles, plain_secret};
 ghost use Rattle.ks_render.specs.Rows.{one_body};
 ghost use Rattle.ks_render.specs.Tokens.{token_body};
-ghost use Rattle.ks_render.specs.Versions.{version_body};
+ghost use Rattle.ks_render.specs.Versions.{version_body, versions_body};
 ghost use Rattle.ks_render.specs.Answers.{response_of, wire};
 
 /// The version document of a server at `http://127.0.0.1:5000`, byte for byte. The call does nothing, as those
@@ -20,6 +20,12 @@ ghost use Rattle.ks_render.specs.Answers.{response_of, wire};
 pub fn version_document()
     ensures { compact_text (version_body (codes "http://127.0.0.1:5000"))
         ≡ codes "{\"version\":{\"id\":\"v3.14\",\"links\":[{\"href\":\"http://127.0.0.1:5000/v3/\",\"rel\":\"self\"}],\"media-types\":[{\"base\":\"application/json\",\"type\":\"application/vnd.openstack.identity-v3+json\"}],\"status\":\"stable\",\"updated\":\"2020-04-07T00:00:00Z\"}}" }
+{}
+
+/// The list of versions of the same server, byte for byte.
+pub fn versions_document()
+    ensures { compact_text (versions_body (codes "http://127.0.0.1:5000"))
+        ≡ codes "{\"versions\":{\"values\":[{\"id\":\"v3.14\",\"links\":[{\"href\":\"http://127.0.0.1:5000/v3/\",\"rel\":\"self\"}],\"media-types\":[{\"base\":\"application/json\",\"type\":\"application/vnd.openstack.identity-v3+json\"}],\"status\":\"stable\",\"updated\":\"2020-04-07T00:00:00Z\"}]}}" }
 {}
 
 /// The body of a login that does not show who it is, byte for byte: 108 bytes.

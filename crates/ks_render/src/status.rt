@@ -19,6 +19,7 @@ fn status_of_granted(granted: &BodyOut) -> u16
     match granted {
         BodyOut::Nothing => 204,
         BodyOut::Version => 200,
+        BodyOut::Versions => 300,
         BodyOut::Token(told) => status_by(told.get().made),
         BodyOut::One(_, made) => status_by(*made),
         BodyOut::Many(_, _, _) => 200,

@@ -104,6 +104,7 @@ own_catalog asks row = refl
 pub asked_own : (asks : Action) (ids : List Id) (request : Request) → is_own (asked asks ids request) ≡ true
 unfolding asked
 asked_own action.Version ids request = refl
+asked_own action.Versions ids request = refl
 asked_own action.Login ids request = own_read login_by (body_of form.Login request.body) own_login
 asked_own action.Validate ids request = own_lacking (token_lacking request.subject) (command.Validate (allows_expired request.query))
 asked_own action.Check ids request = own_lacking (token_lacking request.subject) (command.Check (allows_expired request.query))

@@ -162,6 +162,7 @@ is_in_place _ = true
 asked_in : (asks : Action) (ids : List Id) (request : Request) → is_in_place asks ≡ true → IsInRange (asked asks ids request)
 unfolding asked
 asked_in action.Version ids request is = tt
+asked_in action.Versions ids request is = tt
 asked_in action.Login ids request is = read_in login_by form.Login request.body (body_of form.Login request.body) refl login_in
 asked_in action.Validate ids request is = lacking_holds AreFields (token_lacking request.subject) (command.Validate (allows_expired request.query)) tt
 asked_in action.Check ids request is = lacking_holds AreFields (token_lacking request.subject) (command.Check (allows_expired request.query)) tt

@@ -63,6 +63,7 @@ served_lacking None asks = refl
 -- how many ids an action needs
 abbrev pub needed : Action → ℕ
 needed action.Version = 0
+needed action.Versions = 0
 needed action.Login = 0
 needed action.Validate = 0
 needed action.Check = 0
@@ -222,6 +223,7 @@ grant_named target_kind.Domain route (a ∷ b ∷ c ∷ ids) is le = rw is refl
 pub asked_served : (asks : Action) (ids : List Id) (request : Request) → needed asks ≤ length ids → is_served (asked asks ids request) ≡ true
 unfolding asked body_of
 asked_served action.Version ids request le = refl
+asked_served action.Versions ids request le = refl
 asked_served action.Login ids request le = served_login (document request.body)
 asked_served action.Validate ids request le = served_lacking (token_lacking request.subject) (command.Validate (allows_expired request.query))
 asked_served action.Check ids request le = served_lacking (token_lacking request.subject) (command.Check (allows_expired request.query))

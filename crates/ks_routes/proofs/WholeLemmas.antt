@@ -103,6 +103,7 @@ listing_whole subject filter None is = rw is refl
 asked_whole : (asks : Action) (ids : List Id) (request : Request) → IfCommand (IsWhole request.subject) (asked asks ids request)
 unfolding asked requirements lacking_of
 asked_whole action.Version ids request = refl
+asked_whole action.Versions ids request = refl
 asked_whole action.Login ids request = read_holds (IsWhole request.subject) login_by (body_of form.Login request.body) (login_whole request.subject)
 asked_whole action.Validate ids request = token_whole request.subject (command.Validate (allows_expired request.query)) (λ token. refl)
 asked_whole action.Check ids request = token_whole request.subject (command.Check (allows_expired request.query)) (λ token. refl)

@@ -189,6 +189,7 @@ catalog_by asks row = routed.Command (asks row)
 -- the command that a request makes of an action, where the path has these ids
 unfoldable pub asked : Action → List Id → Request → Routed
 asked action.Version ids request = routed.Command command.Version
+asked action.Versions ids request = routed.Command command.Versions
 asked action.Login ids request = read_by login_by (body_of form.Login request.body)
 asked action.Validate ids request = about_token request (command.Validate (allows_expired request.query))
 asked action.Check ids request = about_token request (command.Check (allows_expired request.query))

@@ -73,6 +73,7 @@ grant_at route =
 -- the table of routes
 abbrev pub table : List (Row Action)
 table =
+    row (codes "/") (record none { get = Some action.Versions }) ∷
     row (codes "/v3") (record none { get = Some action.Version }) ∷
     row (codes "/v3/") (record none { get = Some action.Version }) ∷
     row (codes "/v3/auth/tokens") (record none { get = Some action.Validate; head = Some action.Check; post = Some action.Login; delete = Some action.RevokeToken }) ∷

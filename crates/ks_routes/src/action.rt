@@ -29,6 +29,7 @@ pub struct GrantRoute {
 #[derive(Clone, Copy)]
 pub enum Action {
     Version,
+    Versions,
     Login,
     Validate,
     Check,

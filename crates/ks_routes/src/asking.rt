@@ -323,6 +323,7 @@ impl Action {
     {
         match self {
             Action::Version => Routed::Command(Command::Version),
+            Action::Versions => Routed::Command(Command::Versions),
             Action::Login => login(alloc, request),
             Action::Validate => validate(alloc, request),
             Action::Check => check(alloc, request),

@@ -6,7 +6,7 @@ ghost use Rattle.ks_base.specs.declared.method.Method.{Method};
 ghost use Rattle.ks_base.specs.declared.method.Method.TheVariants.{Get, Other};
 ghost use Rattle.ks_http.specs.declared.request.Request.{Request};
 ghost use Rattle.ks_machine.specs.declared.command.Command.{Command};
-ghost use Rattle.ks_machine.specs.declared.command.Command.TheVariants.{Version};
+ghost use Rattle.ks_machine.specs.declared.command.Command.TheVariants.{Version, Versions};
 ghost use Rattle.ks_routes.specs.declared.action.Action.{Action};
 ghost use Rattle.ks_routes.specs.declared.routed.Routed.TheVariants as routed;
 ghost use Rattle.ks_base.specs.Ids.{is_id};
@@ -19,6 +19,11 @@ ghost use Rattle.ks_routes.specs.Routes.{command_of, table};
 pub fn version_has_two_paths()
     ensures bare { (request : Request) → request.method ≡ Get → request.path ≡ codes "/v3" → command_of request ≡ routed.Command Version }
     ensures slash { (request : Request) → request.method ≡ Get → request.path ≡ codes "/v3/" → command_of request ≡ routed.Command Version }
+{}
+
+/// `GET` asks for the versions of the API at `/`.
+pub fn versions_have_a_path()
+    ensures { (request : Request) → request.method ≡ Get → request.path ≡ codes "/" → command_of request ≡ routed.Command Versions }
 {}
 
 /// No path fits two routes of the table.

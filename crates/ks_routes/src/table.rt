@@ -78,7 +78,14 @@ const INHERITED_DOMAIN_GROUP: GrantRoute = GrantRoute {
     inherited: true,
 };
 
-static TABLE: [Route<Action>; 55] = [
+static TABLE: [Route<Action>; 56] = [
+    Route {
+        pattern: "/",
+        methods: Methods {
+            get: Some(Action::Versions),
+            ..NONE
+        },
+    },
     Route {
         pattern: "/v3",
         methods: Methods {

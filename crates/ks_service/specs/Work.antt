@@ -51,6 +51,7 @@ secrets_of drawn (command.ChangePassword user original password) = record { toke
 secrets_of drawn (command.Create made) = secrets_of_made made
 secrets_of drawn (command.Update id made) = secrets_of_made made
 secrets_of drawn command.Version = no_secrets
+secrets_of drawn command.Versions = no_secrets
 secrets_of drawn (command.Validate late) = no_secrets
 secrets_of drawn (command.Check late) = no_secrets
 secrets_of drawn command.RevokeToken = no_secrets

@@ -91,7 +91,7 @@ pub fn required(command: &Command) -> Requirements
     ensures { requirements_of result ≡ requirements command.now }
 {
     match command {
-        Command::Version => Requirements::open(false),
+        Command::Version | Command::Versions => Requirements::open(false),
         Command::Login(_) | Command::ChangePassword(_, _, _) => Requirements::open(true),
         Command::Validate(late) => Requirements::about("identity:validate_token", *late),
         Command::Check(late) => Requirements::about("identity:check_token", *late),

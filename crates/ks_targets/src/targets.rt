@@ -85,6 +85,7 @@ fn put_target_of(
             put_trust(fields, tables, id)
         }
         Command::Version
+        | Command::Versions
         | Command::Login(_)
         | Command::ChangePassword(_, _, _)
         | Command::Assignments(_)
