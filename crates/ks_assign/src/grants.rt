@@ -9,9 +9,9 @@ use crate::by_target::{AtTarget, ByTarget};
 use crate::named::OfOtherRoles;
 use ks_base::limits::GRANTS;
 use ks_base::{
-    Actor, Boxed, GrantList, GrantRow, Id, Kind, Memory, RowFault, RowSet, Target, Test, refuse_if,
+    Actor, Boxed, GrantList, GrantRow, Id, Kind, Memory, RowFault, Target, Test, refuse_if,
 };
-use ks_index::Links;
+use ks_links::{Links, RunRows, RunSet};
 use std::alloc::{AllocError, Global};
 use std::marker::Model;
 
@@ -33,10 +33,10 @@ impl Model for Grants {
 }
 
 /// Copies of these grants.
-fn copies(alloc: Global, rows: &[Boxed<GrantRow>]) -> Result<Vec<GrantRow>, AllocError>
-    ensures { IfOk result (λ copies. copies.items ≡ rows.now) }
+fn copies(alloc: Global, rows: RunRows<'_, GrantRow>) -> Result<Vec<GrantRow>, AllocError>
+    ensures { IfOk result (λ copies. copies.items ≡ rows.entry) }
 {
-    rows.iter().map(|row| *row.get()).collect(alloc)
+    rows.copied().collect(alloc)
 }
 
 impl Grants {
@@ -51,7 +51,7 @@ impl Grants {
     }
 
     /// These grants, with their order by target made beside their own.
-    pub fn from_rows(alloc: Global, rows: RowSet<GrantRow>) -> Result<Grants, Memory>
+    pub fn from_rows(alloc: Global, rows: RunSet<GrantRow>) -> Result<Grants, Memory>
         ensures { IfOk result (λ grants. grants ≡ rows) }
     {
         Ok(Grants {
@@ -162,8 +162,8 @@ impl Grants {
     }
 
     /// All grants, in their order.
-    pub fn as_slice(&self) -> &[Boxed<GrantRow>]
-        ensures rows { result.now ≡ self.now }
+    pub fn iter(&self) -> RunRows<'_, GrantRow>
+        ensures rows { result ≡ self.now }
         ensures ascending { IsAscending grant_cmp (λ row. row) self.now }
     {
         self.rows.rows()

@@ -88,6 +88,15 @@ chunk_set n (c ∷ cs) (suc at) chunk put are lt is fits most stays = (
   chunk_set n cs at chunk put are.3 (omega (arith, lt)) is fits most stays,
 )
 
+-- another chunk of as many items leaves as much room
+pub room_set : {X Z : Type 0} (n : ℕ) (chunks : List (VecDeque X Z)) (at : ℕ) (chunk put : VecDeque X Z) → at < length chunks → chunk ≡ get_or chunks at chunk →
+    length put.items ≡ length chunk.items → room n (set chunks at put) ≡ room n chunks
+unfolding room
+room_set n [] at chunk put lt is same = absurd (omega (arith, lt))
+room_set n (c ∷ cs) zero chunk put lt is same =
+    let there = ap (λ (c : VecDeque _ _). length c.items) is in omega (arith, there, same)
+room_set n (c ∷ cs) (suc at) chunk put lt is same = ap (λ k. (n - length c.items) + k) (room_set n cs at chunk put (omega (arith, lt)) is same)
+
 -- where a chunk is full, the room is in those behind it
 pub room_behind : {X Z : Type 0} (n : ℕ) (chunks : List (VecDeque X Z)) (at : ℕ) (chunk : VecDeque X Z) → at < length chunks → chunk ≡ get_or chunks at chunk →
     n ≤ length chunk.items → room n (drop at chunks) ≡ room n (drop (suc at) chunks)

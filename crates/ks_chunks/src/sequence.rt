@@ -8,6 +8,7 @@ use crate::chunk::{FULL, MOST, put};
 use std::alloc::{AllocError, Global};
 use std::collections::VecDeque;
 use std::marker::Model;
+use std::mem::replace;
 use std::ops::Index;
 
 /// Items in an order, of which each is found by its place at once, and comes and goes in about as many steps as a chunk has
@@ -93,24 +94,27 @@ fn insert_in<T>(chunks: &mut [VecDeque<T>], at: usize, item: T)
     }
 }
 
-/// Puts an item in place of the one at this place.
-fn set_in<T: Drop>(chunks: &mut [VecDeque<T>], at: usize, item: T)
+/// Puts an item in place of the one at this place, and gives that.
+fn replace_in<T>(chunks: &mut [VecDeque<T>], at: usize, item: T) -> T
     requires chunks { AreChunks FULL chunks.old }
     requires at { at < length (all_items chunks.old) }
+    ensures value { result ≡ get_or (all_items chunks.old) at result }
     ensures items { all_items chunks.new ≡ set (all_items chunks.old) at item }
     ensures chunks { AreChunks FULL chunks.new }
+    ensures room { room FULL chunks.new ≡ room FULL chunks.old }
     ensures len { length chunks.new ≡ length chunks.old }
 {
-    put_over(&mut chunks[at / FULL], at % FULL, item);
+    put_over(&mut chunks[at / FULL], at % FULL, item)
 }
 
-/// Puts an item in place of the one at this place of a chunk.
-fn put_over<T: Drop>(chunk: &mut VecDeque<T>, at: usize, item: T)
+/// Puts an item in place of the one at this place of a chunk, and gives that.
+fn put_over<T>(chunk: &mut VecDeque<T>, at: usize, item: T) -> T
     requires { at < length chunk.old.items }
+    ensures value { result ≡ get_or chunk.old.items at result }
     ensures items { chunk.new.items ≡ set chunk.old.items at item }
     ensures capacity { deque_capacity chunk.new ≡ deque_capacity chunk.old }
 {
-    chunk[at] = item;
+    replace(&mut chunk[at], item)
 }
 
 /// Whether the last chunk is empty.
@@ -235,12 +239,22 @@ impl<T: Drop> Sequence<T> {
         insert_in(self.chunks.as_mut_slice(), at, item);
     }
 
+    /// Puts an item in place of the one at this place, and gives that.
+    pub fn replace(&mut self, at: usize, item: T) -> T
+        requires { at < length self.old.items }
+        ensures value { result ≡ get_or self.old.items at result }
+        ensures items { self.new.items ≡ set self.old.items at item }
+        ensures room { self.new.room ≡ self.old.room }
+    {
+        replace_in(self.chunks.as_mut_slice(), at, item)
+    }
+
     /// Puts an item in place of the one at this place.
     pub fn set(&mut self, at: usize, item: T)
         requires { at < length self.old.items }
         ensures { self.new.items ≡ set self.old.items at item }
     {
-        set_in(self.chunks.as_mut_slice(), at, item);
+        drop(self.replace(at, item));
     }
 
     /// Takes the item at this place out, which leaves room for one.

@@ -6,4 +6,3 @@ pub mod NameLemmas
 mod OrderedLemmas
 mod PickLemmas
 pub mod RunLemmas
-mod SideLemmas

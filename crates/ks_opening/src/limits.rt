@@ -47,5 +47,5 @@ pub(crate) fn check_full(
     check_limit(Kind::Region, catalog.regions().len(), REGIONS)?;
     check_limit(Kind::Service, catalog.services().len(), SERVICES)?;
     check_limit(Kind::Endpoint, catalog.endpoints().len(), ENDPOINTS)?;
-    check_limit(Kind::Grant, grants.as_slice().len(), GRANTS)
+    check_limit(Kind::Grant, grants.iter().len(), GRANTS)
 }

@@ -7,11 +7,12 @@ ghost use Rattle.ks_opening.specs.steps.Tables.{catalog_with, grants_with, peopl
 
 use ks_assign::Grants;
 use ks_base::{
-    DomainList, EndpointList, GrantList, GroupList, IdTable, ImplyList, ListOf, MemberList, Memory,
-    Named, Ordered, ProjectList, RegionList, RoleList, Row, RowSet, ServiceList, UserList,
+    DomainList, EndpointList, GrantList, GroupList, IdTable, ImplyList, InRuns, ListOf, MemberList,
+    Memory, Named, Ordered, ProjectList, RegionList, RoleList, Row, RowSet, ServiceList, UserList,
 };
 use ks_catalog::Catalog;
 use ks_index::Table;
+use ks_links::RunSet;
 use ks_people::People;
 use ks_roles::Roles;
 use ks_tree::Tree;
@@ -53,6 +54,19 @@ fn set_of<R: Ordered>(alloc: Global, rows: ListOf<R>) -> Result<RowSet<R>, Memor
     Ok(set)
 }
 
+/// The same of rows that stand in runs.
+fn run_set_of<R: InRuns>(alloc: Global, rows: ListOf<R>) -> Result<RunSet<R>, Memory>
+    ensures { IfOk result (λ set. set ≡ put_all (put_row R.cmp (λ row. row)) rows) }
+{
+    let mut rows = rows.into_vec();
+    rows.sort_unstable_by(|a, b| b.compare(a));
+    let mut set = RunSet::new(alloc);
+    while let Some(row) = rows.pop() {
+        let _new = set.add(row)?;
+    }
+    Ok(set)
+}
+
 /// The trees of these domains and projects.
 fn tree_of(alloc: Global, domains: DomainList, projects: ProjectList) -> Result<Tree, Memory>
     requires domains { AreApart id_cmp (λ row. row.id) domains }
@@ -77,7 +91,7 @@ fn people_of(
 {
     let users = table_of(alloc, users)?;
     let groups = table_of(alloc, groups)?;
-    let members = set_of(alloc, members)?;
+    let members = run_set_of(alloc, members)?;
     People::from_tables(alloc, users, groups, members)
 }
 
@@ -95,7 +109,7 @@ fn roles_of(alloc: Global, roles: RoleList, implications: ImplyList) -> Result<R
 fn grants_of(alloc: Global, rows: GrantList) -> Result<Grants, Memory>
     ensures { IfOk result (λ grants. grants ≡ grants_with rows) }
 {
-    Grants::from_rows(alloc, set_of(alloc, rows)?)
+    Grants::from_rows(alloc, run_set_of(alloc, rows)?)
 }
 
 /// The trees of these domains and projects, and these users and groups with their memberships.

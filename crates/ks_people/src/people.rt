@@ -1,7 +1,8 @@
 ghost use Rattle.std.specs.Prelude.{◌≡◌, [], filter, IfOk};
 
-use ks_base::{Boxed, ByUser, GroupRow, MemberRow, Memory, RowSet, Test, UserRow};
-use ks_index::{Links, Rows, Table};
+use ks_base::{ByUser, GroupRow, MemberRow, Memory, Test, UserRow};
+use ks_index::{Rows, Table};
+use ks_links::{Links, RunRows, RunSet};
 use std::alloc::Global;
 use std::marker::Model;
 
@@ -50,7 +51,7 @@ impl People {
         alloc: Global,
         users: Table<UserRow>,
         groups: Table<GroupRow>,
-        members: RowSet<MemberRow>,
+        members: RunSet<MemberRow>,
     ) -> Result<People, Memory>
         ensures { IfOk result (λ people. people ≡ record { users = users; groups = groups; members = members }) }
     {
@@ -77,8 +78,8 @@ impl People {
     }
 
     /// All memberships, by group and then by user.
-    pub fn members(&self) -> &[Boxed<MemberRow>]
-        ensures { result.now ≡ self.now.members }
+    pub fn members(&self) -> RunRows<'_, MemberRow>
+        ensures { result ≡ self.now.members }
     {
         self.members.rows()
     }

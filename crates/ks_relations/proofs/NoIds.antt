@@ -1,5 +1,5 @@
 -- What is no id has no roles.
-use Rattle.std.proofs.Common.{◌≡◌, ℕ, ◌+◌, ◌<◌, Bool, true, false, ◌&&◌, ◌||◌, List, [], ◌∷◌, ◌++◌, length, drop, get_or, map, filter, refl, subst}
+use Rattle.std.proofs.Common.{◌≡◌, ◌+◌, Bool, true, false, ◌&&◌, ◌||◌, List, [], ◌∷◌, ◌++◌, map, filter, refl, subst, ap, sym, ◌∙◌}
 use Rattle.std.proofs.lemmas.Slice.Eq.{bytes_eq-Decides}
 use Rattle.std.proofs.lemmas.Bool.{and_right, or_from, and_left, or_parts}
 use Rattle.std.specs.List.{list_any}
@@ -13,7 +13,6 @@ use Rattle.ks_base.specs.declared.users.MemberRow.{MemberRow}
 use Rattle.ks_base.specs.Ids.{IsId}
 use Rattle.ks_base.specs.Orders.{actor_id}
 use Rattle.ks_base.specs.Rows.{Id, Rows, same}
-use Rattle.ks_base.proofs.ListLemmas.{drop_at}
 use Rattle.ks_base.specs.Grants.{same_actor}
 use Rattle.ks_machine.specs.Assignments.{given_to}
 use Rattle.ks_machine.specs.Effective.{acts, in_order, is_effective, is_member, leads, reaches, roles_at, roles_implied}
@@ -26,21 +25,12 @@ pub not_same : (a b : Id) → IsId a → (IsId b → ⊥) → same a b ≡ false
 not_same a b is none = differs_by a b (same a b) refl is none
 
 -- one row more of which the test does not hold
-pub any_more : (t rest all : Bool) → t ≡ false → (t || rest) ≡ all → rest ≡ all
+any_more : (t rest all : Bool) → t ≡ false → (t || rest) ≡ all → rest ≡ all
 any_more true rest all isnt is = cc
 any_more false rest all isnt is = is
 
-pub member_passed : (members : List MemberRow) (user : Id) (i : ℕ) (row : MemberRow) → i < length members → row ≡ get_or members i row →
-    same row.user user ≡ false → list_any (λ next. same next.user user) (drop i members) ≡ list_any (λ next. same next.user user) members →
-    list_any (λ next. same next.user user) (drop (i + 1) members) ≡ list_any (λ next. same next.user user) members
-member_passed members user i row lt is isnt left =
-    any_more (same row.user user) _ _ isnt (rw (drop_at members i row lt is) at left)
-
-pub grant_passed : (grants : List GrantRow) (user : Id) (i : ℕ) (row : GrantRow) → i < length grants → row ≡ get_or grants i row →
-    same_actor row.actor (actor.User user) ≡ false → list_any (λ next. same_actor next.actor (actor.User user)) (drop i grants) ≡ list_any (λ next. same_actor next.actor (actor.User user)) grants →
-    list_any (λ next. same_actor next.actor (actor.User user)) (drop (i + 1) grants) ≡ list_any (λ next. same_actor next.actor (actor.User user)) grants
-grant_passed grants user i row lt is isnt left =
-    any_more (same_actor row.actor (actor.User user)) _ _ isnt (rw (drop_at grants i row lt is) at left)
+pub passed : {X : Type 0} (test : X → Bool) (rows rest : List X) (row : X) (all : Bool) → rows ≡ row ∷ rest → test row ≡ false → list_any test rows ≡ all → list_any test rest ≡ all
+passed test rows rest row all is isnt left = any_more (test row) (list_any test rest) all isnt (sym (ap (list_any test) is) ∙ left)
 
 pub not_to_user : (user : Id) (who : Actor) (id : Id) → id ≡ actor_id who → IsId id → (IsId user → ⊥) → same_actor who (actor.User user) ≡ false
 not_to_user user (actor.User other) id same_id is none = not_same other user (subst IsId same_id is) none

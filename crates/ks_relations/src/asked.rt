@@ -113,6 +113,21 @@ fn listed_at(
     Ok(found)
 }
 
+/// Those of all grants that the filters list. Each is looked at.
+fn listed_in_all(
+    alloc: Global,
+    fields: &FieldList,
+    grants: &Grants,
+) -> Result<Vec<GrantRow>, AllocError>
+    ensures { IfOk result (λ found. found.items ≡ filter (is_listed fields.now) grants.now) }
+{
+    grants
+        .iter()
+        .filter(|grant| is_listed(fields, grant))
+        .copied()
+        .collect(alloc)
+}
+
 /// Those of all grants that the filters list.
 fn found_listed(
     alloc: Global,
@@ -126,7 +141,7 @@ fn found_listed(
     }
     match target_asked(fields) {
         Some(target) => listed_at(alloc, fields, grants, &target),
-        None => passing(alloc, grants.as_slice(), &ByFilters { fields }),
+        None => listed_in_all(alloc, fields, grants),
     }
 }
 

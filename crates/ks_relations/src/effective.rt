@@ -9,8 +9,9 @@ ghost use Rattle.ks_base.specs.Grants.{is_of_actor};
 ghost use Rattle.ks_base.specs.declared.grants.Actor.TheVariants as actors;
 
 use ks_auth::{Tables, roles_at};
-use ks_base::{Actor, Boxed, GrantList, GrantRow, Id, IdList, MemberRow, Memory, Target, Text};
+use ks_base::{Actor, GrantList, GrantRow, Id, IdList, MemberRow, Memory, Target, Text};
 use ks_effective::targets_of;
+use ks_links::RunRows;
 use std::alloc::Global;
 
 /// Adds that the user has these roles at the target.
@@ -57,22 +58,22 @@ fn given_at_all(alloc: Global, tables: &Tables, user: &Id) -> Result<GrantList, 
 }
 
 /// No membership names what is no id.
-fn none_is_member(members: &[Boxed<MemberRow>], user: &[u8])
+fn none_is_member(members: RunRows<'_, MemberRow>, user: &[u8])
     requires { ¬ IsId user.now }
-    ensures { list_any (λ row. same row.user user.now) members.now ≡ false }
+    ensures { list_any (λ row. same row.user user.now) members.entry ≡ false }
 {
     for row in members {
-        let _id = row.get().user.as_slice();
+        let _id = row.user.as_slice();
     }
 }
 
 /// No grant to a user names what is no id.
-fn none_is_granted(grants: &[Boxed<GrantRow>], user: &[u8])
+fn none_is_granted(grants: RunRows<'_, GrantRow>, user: &[u8])
     requires { ¬ IsId user.now }
-    ensures { list_any (is_of_actor (actors.User user.now)) grants.now ≡ false }
+    ensures { list_any (is_of_actor (actors.User user.now)) grants.entry ≡ false }
 {
     for row in grants {
-        let _id = row.get().actor.id().as_slice();
+        let _id = row.actor.id().as_slice();
     }
 }
 
@@ -86,7 +87,7 @@ pub fn given_to_text(alloc: Global, tables: &Tables, user: &Text) -> Result<Gran
         Ok(user) => given_at_all(alloc, tables, &user),
         Err(_) => {
             none_is_member(tables.people.members(), bytes);
-            none_is_granted(tables.grants.as_slice(), bytes);
+            none_is_granted(tables.grants.iter(), bytes);
             Ok(GrantList::new(alloc))
         }
     }

@@ -5,9 +5,10 @@ use crate::events::Events;
 use crate::rows::{EACH, Pair, listed};
 use anyhow::{Result, bail};
 use ks_assign::Grants;
-use ks_base::{CatalogKind, Kind, MemberRow, Revoke, RowSet};
+use ks_base::{CatalogKind, Kind, MemberRow, Revoke};
 use ks_catalog::Catalog;
 use ks_index::Table;
+use ks_links::RunSet;
 use ks_people::People;
 use ks_roles::Roles;
 use ks_tree::Tree;
@@ -79,8 +80,7 @@ impl Tables {
         }
     }
 
-    /// Makes people anew, with so many memberships by their numbers from 0, as an opening makes them: one by one they
-    /// would move the rows behind them each time.
+    /// Makes people anew, with so many memberships by their numbers from 0, as an opening makes them.
     pub fn gather(&mut self, count: u64) -> Result<()> {
         let mut users = Table::new(self.alloc);
         let mut groups = Table::new(self.alloc);
@@ -157,8 +157,8 @@ impl Tables {
 }
 
 /// So many memberships, by their numbers from 0.
-fn memberships(alloc: Global, count: u64) -> Result<RowSet<MemberRow>> {
-    let mut members = RowSet::new(alloc);
+fn memberships(alloc: Global, count: u64) -> Result<RunSet<MemberRow>> {
+    let mut members = RunSet::new(alloc);
     for number in 0..count {
         members.add(Pair::related(alloc, number)?.member())?;
     }

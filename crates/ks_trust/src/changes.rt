@@ -10,7 +10,7 @@ use crate::checks::usable;
 use crate::sides::{Unlisted, drop_few, insert};
 use ks_base::by_id::place;
 use ks_base::{Id, IdList, Memory, Row, TrustFault, TrustRow, has_id};
-use ks_index::FEW;
+use ks_links::FEW;
 
 /// How often a trust serves yet after one use more.
 fn lowered(remaining: Option<u64>) -> Option<u64>

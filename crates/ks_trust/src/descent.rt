@@ -8,7 +8,8 @@ ghost use Rattle.ks_trust.specs.State.{ids_of, is_listed};
 use crate::Trusts;
 use crate::sides::Reference;
 use ks_base::{Id, Memory, Row};
-use ks_index::{FEW, in_order};
+use ks_index::in_order;
+use ks_links::FEW;
 use std::alloc::AllocError;
 
 impl Trusts {

@@ -19,4 +19,4 @@ returns-in-Err c =
     ∙ sym
     (nothing_given (rows_told c.args.tables.now) c.args.user.now (targets (rows_told c.args.tables.now))
     (rw (c.members.ensures, c.as_slice-bytes.ensures.bytes) at c.none_is_member.ensures)
-    (rw (c.as_slice.ensures.rows, c.as_slice-bytes.ensures.bytes) at c.none_is_granted.ensures))
+    (rw (c.iter.ensures.rows, c.as_slice-bytes.ensures.bytes) at c.none_is_granted.ensures))

@@ -1,0 +1,6 @@
+mod ChangeLemmas
+mod PutLemmas
+mod RunSetLemmas
+mod SideLemmas
+mod SideRunLemmas
+mod SlotLemmas

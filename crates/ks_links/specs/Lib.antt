@@ -1,0 +1,2 @@
+-- Rows in runs, kept in two orders.
+pub mod RunSets
