@@ -15,6 +15,7 @@ mod spot;
 use crate::form::{opening_said, shape_line};
 use crate::rows::row_line;
 use ks_base::{Memory, ShapeRefusal, Text};
+use ks_json::Scratch;
 use ks_machine::OpenFault;
 use ks_setup::OpeningFault;
 use ks_written::{Written, read_file, read_written};
@@ -33,7 +34,8 @@ pub fn opening_line(alloc: Global, fault: &OpeningFault) -> Result<Text, Memory>
 fn read_rows(alloc: Global, file: &[u8]) -> Result<Written, ShapeRefusal>
     ensures { Reads result (file_of file.now) }
 {
-    let document = read_file(alloc, file)?;
+    let mut scratch = Scratch::new(alloc);
+    let document = read_file(alloc, file, &mut scratch)?;
     let written = read_written(alloc, &document)?;
     Ok(written)
 }

@@ -6,6 +6,7 @@ ghost use Rattle.ks_written.specs.Written.{folder_wanted};
 use crate::opening::OpeningFault;
 use crate::policy::load_policy;
 use ks_base::ShapeRefusal;
+use ks_json::Scratch;
 use ks_policy::{PolicyFault, Rules};
 use ks_written::{Written, is_folder, read_file, read_written};
 use std::alloc::Global;
@@ -38,7 +39,8 @@ impl Model for OpeningFile {
 fn read_whole(alloc: Global, text: &[u8]) -> Result<OpeningFile, ShapeRefusal>
     ensures { ReadsWhole text.now result }
 {
-    let document = read_file(alloc, text)?;
+    let mut scratch = Scratch::new(alloc);
+    let document = read_file(alloc, text, &mut scratch)?;
     let written = read_written(alloc, &document)?;
     let policy = load_policy(alloc, &document);
     Ok(OpeningFile { written, policy })

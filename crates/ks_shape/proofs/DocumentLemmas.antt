@@ -1,6 +1,6 @@
 -- Reading a document.
-use Rattle.std.proofs.Common.{◌≡◌, ℕ, Bool, true, false, List, Some, None, Ok, Err, refl, arith}
-use Rattle.std.specs.Prelude.{Option, IsTrue, if◌then◌else◌}
+use Rattle.std.proofs.Common.{◌≡◌, ℕ, Bool, true, false, List, Some, None, Ok, Err, refl}
+use Rattle.std.specs.Prelude.{Option, if◌then◌else◌}
 use Rattle.std.specs.Str.{IsUtf8, is_utf8}
 use Rattle.std.proofs.lemmas.Str.{IsUtf8-from_is_utf8, is_utf8-from_IsUtf8}
 use Rattle.serde_json.specs.Data.{Data}
@@ -18,6 +18,3 @@ no_value false o h = refl
 
 pub document_refused : (bytes : List ℕ) → (IsUtf8 bytes → read bytes ≡ None) → found (document bytes) NotJson ≡ Err NotJson
 document_refused bytes h = no_value (is_utf8 bytes) (read bytes) (λ e. h (IsUtf8-from_is_utf8 bytes e))
-
-pub not_false : IsTrue false → ⊥
-not_false h = grind arith

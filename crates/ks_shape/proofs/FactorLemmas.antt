@@ -4,8 +4,8 @@ use Rattle.std.specs.Prelude.{IfOk, IsErrAnd, codes, if◌then◌else◌, unwrap
 use Rattle.std.specs.Str.{bytes_eq}
 use Rattle.serde_json.specs.Data.{Data, Items, no_items, item}
 use Rattle.serde_json.specs.Find.{as_array}
-use Rattle.serde_json.specs.View.{items_view, view}
-use Rattle.serde_json.specs.declared.value.Value.{Value}
+use Rattle.ks_json.specs.View.{items_view, view}
+use Rattle.ks_json.specs.declared.value.Value.{Value}
 use Rattle.ks_base.specs.declared.limits.TheConstants.{MFA_RULES}
 use Rattle.ks_base.specs.Results.{found}
 use Rattle.ks_machine.specs.declared.bodies.MfaIn.{MfaIn}

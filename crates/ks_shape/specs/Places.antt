@@ -8,7 +8,7 @@ use Rattle.serde_json.specs.Find.{get, as_object}
 use Rattle.ks_base.specs.declared.shapes.ShapeFault.{ShapeFault}
 use Rattle.ks_base.specs.declared.shapes.ShapeFault.TheVariants as fault
 use Rattle.ks_base.specs.Results.{◌>>=◌}
-use Rattle.serde_json.specs.View.{view}
+use Rattle.ks_json.specs.View.{view}
 use Rattle.ks_shape.specs.declared.node.Node.{Node}
 
 -- A place: the path under which it is known, empty for the whole document, and the value there, if there is one.

@@ -1,5 +1,5 @@
 ghost use Rattle.std.specs.Prelude.{◌≡◌, Some};
-ghost use Rattle.serde_json.specs.View.{view};
+ghost use Rattle.ks_json.specs.View.{view};
 ghost use Rattle.ks_base.specs.declared.shapes.ShapeFault.TheVariants as fault;
 ghost use Rattle.ks_shape.specs.Bodies.{body_of, catalog_body_of, document, form_of, password_of, whole_document};
 ghost use Rattle.ks_shape.specs.Places.{place_of};
@@ -15,7 +15,7 @@ use crate::rows::{PASSWORD, made};
 use crate::secret::secret;
 use crate::trust::trust;
 use ks_base::{Boxed, CatalogIn, CatalogKind, ShapeFault, ShapeRefusal, Text};
-use serde_json::Value;
+use ks_json::{ReadFault, Scratch, Value};
 use std::alloc::Global;
 
 #[tactic(auto, unfolding(crate::specs::Bodies::password_of))]
@@ -43,14 +43,18 @@ fn read_form(form: Form, body: &Node) -> Result<BodyIn, ShapeRefusal>
 }
 
 /// The value of a JSON document (RFC 8259). `NotJson` where the bytes are not UTF-8, or no JSON text of at most 127
-/// levels.
-pub fn read_document(alloc: Global, bytes: &[u8]) -> Result<Value, ShapeRefusal>
+/// levels. Its texts are lent from the bytes, or from the scratch where they have escapes.
+pub fn read_document<'a>(
+    alloc: Global,
+    bytes: &'a [u8],
+    scratch: &'a mut Scratch,
+) -> Result<Value<'a>, ShapeRefusal>
     ensures { ReadsBy view result (found (document bytes.now) fault.NotJson) }
 {
-    match Value::from_slice(alloc, bytes) {
+    match Value::from_slice(alloc, bytes, scratch) {
         Ok(value) => Ok(value),
-        Err(error) if error.is_memory() => Err(ShapeRefusal::Memory),
-        Err(_) => Err(ShapeRefusal::Shape(ShapeFault::NotJson)),
+        Err(ReadFault::NotJson) => Err(ShapeRefusal::Shape(ShapeFault::NotJson)),
+        Err(ReadFault::Memory) => Err(ShapeRefusal::Memory),
     }
 }
 
@@ -59,7 +63,8 @@ pub fn read_document(alloc: Global, bytes: &[u8]) -> Result<Value, ShapeRefusal>
 pub fn read_body(alloc: Global, form: Form, bytes: &[u8]) -> Result<BodyIn, ShapeRefusal>
     ensures { Reads result (body_of form bytes.now) }
 {
-    let value = read_document(alloc, bytes)?;
+    let mut scratch = Scratch::new(alloc);
+    let value = read_document(alloc, bytes, &mut scratch)?;
     let path = Text::of(alloc, "")?;
     let body = Node::known_as(alloc, path, &value);
     read_form(form, &body)
@@ -76,7 +81,8 @@ pub fn read_catalog_body(
 ) -> Result<Boxed<CatalogIn>, ShapeRefusal>
     ensures { Reads result (catalog_body_of kind new bytes.now) }
 {
-    let value = read_document(alloc, bytes)?;
+    let mut scratch = Scratch::new(alloc);
+    let value = read_document(alloc, bytes, &mut scratch)?;
     let path = Text::of(alloc, "")?;
     let body = Node::known_as(alloc, path, &value);
     Ok(Boxed::new(alloc, catalog_row(kind, new, &body)?)?)

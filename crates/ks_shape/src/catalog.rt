@@ -12,7 +12,7 @@ use crate::rows::{DESCRIPTION, id_at};
 use crate::types::{IdText, TextOf, Truth, any_text};
 use ks_base::limits::{ENDPOINT_URL_BYTES, NAME_BYTES};
 use ks_base::{CatalogIn, CatalogKind, Id, Interface, ShapeRefusal};
-use serde_json::Value;
+use ks_json::Value;
 use std::alloc::Global;
 
 /// The type or the name of a service: at most 255 bytes.
@@ -52,7 +52,7 @@ impl FieldType for InterfaceWord {
     ghost reads = { λ _. interface_text };
 
     #[tactic(auto, unfolding(crate::specs::Types::interface_text))]
-    fn read(&self, _alloc: Global, value: &Value) -> Result<Interface, Unread> {
+    fn read(&self, _alloc: Global, value: &Value<'_>) -> Result<Interface, Unread> {
         let text = any_text(value)?;
         match interface_named(text) {
             Some(interface) => Ok(interface),

@@ -1,6 +1,6 @@
 //! The options of a user: the methods that it has to log in by.
 ghost use Rattle.std.specs.Prelude.{◌≡◌};
-ghost use Rattle.serde_json.specs.View.{items_view, view};
+ghost use Rattle.ks_json.specs.View.{items_view, view};
 ghost use Rattle.ks_shape.specs.Factors.{factor_named, factor_text, factors_at, mfa_rule, mfa_rules, options_of, rule_in};
 ghost use Rattle.ks_shape.specs.Places.{place_of};
 ghost use Rattle.ks_shape.specs.Readings.{Fits, Reads};
@@ -12,8 +12,8 @@ use crate::node::Node;
 use crate::types::{Truth, any_text, need};
 use ks_base::limits::MFA_RULES;
 use ks_base::{Bytes, ShapeRefusal};
+use ks_json::Value;
 use ks_machine::MfaIn;
-use serde_json::Value;
 use std::alloc::Global;
 
 /// The bit of a password in a rule.
@@ -39,7 +39,7 @@ fn factor_named(text: &str) -> Option<u8>
 }
 
 #[tactic(auto, unfolding(crate::specs::Factors::factor_text))]
-fn factor(value: &Value) -> Result<u8, Misfit>
+fn factor(value: &Value<'_>) -> Result<u8, Misfit>
     ensures { result ≡ factor_text (view value.now) }
 {
     let text = any_text(value)?;
@@ -51,7 +51,7 @@ fn factor(value: &Value) -> Result<u8, Misfit>
 
 /// The set of one method or of two.
 #[tactic(auto, using(crate::proofs::ListLemmas::only_item, crate::proofs::ListLemmas::two_items, crate::proofs::FactorLemmas::no_rule), unfolding(crate::specs::Factors::rule_in))]
-fn rule_in(items: &[Value]) -> Result<u8, Misfit>
+fn rule_in(items: &[Value<'_>]) -> Result<u8, Misfit>
     ensures { result ≡ rule_in (items_view items.now) }
 {
     match items {
@@ -66,7 +66,7 @@ fn rule_in(items: &[Value]) -> Result<u8, Misfit>
 }
 
 #[tactic(auto, unfolding(crate::specs::Factors::mfa_rule))]
-fn rule(value: &Value) -> Result<u8, Misfit>
+fn rule(value: &Value<'_>) -> Result<u8, Misfit>
     ensures { result ≡ mfa_rule (view value.now) }
 {
     match value.as_array() {
@@ -76,7 +76,7 @@ fn rule(value: &Value) -> Result<u8, Misfit>
 }
 
 #[tactic(auto, using(crate::proofs::FactorLemmas::rules_step, crate::proofs::FactorLemmas::rules_fault, crate::proofs::FactorLemmas::rules_end))]
-fn all_rules(alloc: Global, items: &[Value]) -> Result<Bytes, Unread>
+fn all_rules(alloc: Global, items: &[Value<'_>]) -> Result<Bytes, Unread>
     ensures { Fits result (each_read mfa_rule (items_view items.now)) }
 {
     let mut rules = Vec::with_capacity(alloc, items.len())?;
@@ -93,7 +93,7 @@ impl FieldType for MfaRules {
     ghost reads = { λ _. mfa_rules };
 
     #[tactic(auto, using(crate::proofs::ListLemmas::count_is), unfolding(crate::specs::Factors::mfa_rules, crate::specs::Types::list_of))]
-    fn read(&self, alloc: Global, value: &Value) -> Result<Bytes, Unread> {
+    fn read(&self, alloc: Global, value: &Value<'_>) -> Result<Bytes, Unread> {
         let Some(items) = value.as_array() else {
             return Err(Unread::Misfit(Misfit::Kind));
         };

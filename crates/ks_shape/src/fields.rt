@@ -1,6 +1,6 @@
 ghost use Rattle.std.specs.Prelude.{◌≡◌, Result, option_map};
 ghost use Rattle.serde_json.specs.Data.{Data};
-ghost use Rattle.serde_json.specs.View.{items_view, view};
+ghost use Rattle.ks_json.specs.View.{items_view, view};
 ghost use Rattle.ks_shape.specs.declared.misfit.Misfit.{Misfit};
 ghost use Rattle.ks_shape.specs.Fields.{fault_at, judged, needed, needed_if, needed_value, optional, optional_value, unless_null};
 ghost use Rattle.ks_shape.specs.Places.{names_in, path_at, place_of};
@@ -10,7 +10,7 @@ ghost use Rattle.ks_shape.specs.Types.{list_of};
 use crate::misfit::{Misfit, Unread};
 use crate::node::Node;
 use ks_base::{ShapeFault, ShapeRefusal};
-use serde_json::Value;
+use ks_json::Value;
 use std::alloc::Global;
 
 /// A type of fields.
@@ -20,12 +20,12 @@ pub trait FieldType {
 
     ghost reads: { Self → Data → Result Self.Field Misfit };
 
-    fn read(&self, alloc: Global, value: &Value) -> Result<Self::Field, Unread>
+    fn read(&self, alloc: Global, value: &Value<'_>) -> Result<Self::Field, Unread>
         ensures { Fits result (reads self.now (view value.now)) };
 }
 
 /// The value, unless it is null.
-pub fn unless_null(value: Option<&Value>) -> Option<&Value>
+pub fn unless_null<'v, 'a>(value: Option<&'v Value<'a>>) -> Option<&'v Value<'a>>
     ensures { option_map (λ v. view v.now) result ≡ unless_null (option_map (λ v. view v.now) value.entry) }
 {
     let standing = value?;
@@ -35,7 +35,7 @@ pub fn unless_null(value: Option<&Value>) -> Option<&Value>
     Some(standing)
 }
 
-impl<'a> Node<'a> {
+impl<'v, 'a> Node<'v, 'a> {
     /// The refusal of the value to which these names lead.
     pub fn refuse<T: Drop>(&self, names: &[&str], misfit: Misfit) -> Result<T, ShapeRefusal>
         ensures { Refuses result (fault_at (path_at (names_in names.now) (place_of self.now)) misfit) }
@@ -65,7 +65,7 @@ impl<'a> Node<'a> {
     }
 
     #[tactic(auto, unfolding(crate::specs::Fields::needed_value))]
-    fn needed_value(&self, names: &[&str]) -> Result<&'a Value, ShapeRefusal>
+    fn needed_value(&self, names: &[&str]) -> Result<&'v Value<'a>, ShapeRefusal>
         ensures { ReadsBy (λ value. view value.now) result (needed_value (names_in names.now) (place_of self.now)) }
     {
         match self.value_at(names)? {
@@ -79,7 +79,7 @@ impl<'a> Node<'a> {
 
     /// The value of a field that may be absent, for which null stands too.
     #[tactic(auto, unfolding(crate::specs::Fields::optional_value))]
-    pub fn optional_value(&self, names: &[&str]) -> Result<Option<&'a Value>, ShapeRefusal>
+    pub fn optional_value(&self, names: &[&str]) -> Result<Option<&'v Value<'a>>, ShapeRefusal>
         ensures { ReadsBy (option_map (λ value. view value.now)) result (optional_value (names_in names.now) (place_of self.now)) }
     {
         let standing = self.value_at(names)?;
@@ -132,10 +132,10 @@ impl<'a> Node<'a> {
     fn judged_list(
         &self,
         names: &[&str],
-        value: &'a Value,
+        value: &'v Value<'a>,
         most: usize,
-    ) -> Result<&'a [Value], ShapeRefusal>
-        ensures { ReadsBy (λ items. items_view items.now) result
+    ) -> Result<&'v Vec<Value<'a>>, ShapeRefusal>
+        ensures { ReadsBy (λ items. items_view items.now.items) result
             (judged (path_at (names_in names.now) (place_of self.now)) (list_of most (view value.now))) }
     {
         let Some(items) = value.as_array() else {
@@ -144,13 +144,17 @@ impl<'a> Node<'a> {
         if items.len() > most {
             return self.refuse(names, Misfit::Range);
         }
-        Ok(items.as_slice())
+        Ok(items)
     }
 
     /// A list that must be there, of so many values at most.
     #[tactic(auto, unfolding(crate::specs::Fields::needed))]
-    pub fn needed_list(&self, names: &[&str], most: usize) -> Result<&'a [Value], ShapeRefusal>
-        ensures { ReadsBy (λ items. items_view items.now) result (needed (list_of most) (names_in names.now) (place_of self.now)) }
+    pub fn needed_list(
+        &self,
+        names: &[&str],
+        most: usize,
+    ) -> Result<&'v Vec<Value<'a>>, ShapeRefusal>
+        ensures { ReadsBy (λ items. items_view items.now.items) result (needed (list_of most) (names_in names.now) (place_of self.now)) }
     {
         let value = self.needed_value(names)?;
         self.judged_list(names, value, most)
@@ -162,8 +166,8 @@ impl<'a> Node<'a> {
         &self,
         names: &[&str],
         most: usize,
-    ) -> Result<Option<&'a [Value]>, ShapeRefusal>
-        ensures { ReadsBy (option_map (λ items. items_view items.now)) result
+    ) -> Result<Option<&'v Vec<Value<'a>>>, ShapeRefusal>
+        ensures { ReadsBy (option_map (λ items. items_view items.now.items)) result
             (optional (list_of most) (names_in names.now) (place_of self.now)) }
     {
         let Some(value) = self.optional_value(names)? else {

@@ -1,11 +1,11 @@
 //! The methods by which a login says who it is.
 ghost use Rattle.std.specs.Prelude.{◌≡◌};
-ghost use Rattle.serde_json.specs.View.{items_view};
+ghost use Rattle.ks_json.specs.View.{items_view};
 ghost use Rattle.ks_shape.specs.Methods.{are_both, login_methods, method_in, method_named, pair_named};
 
 use crate::fields::FieldType;
 use crate::misfit::{Misfit, Unread};
-use serde_json::Value;
+use ks_json::Value;
 use std::alloc::Global;
 
 /// How a login shows who it is.
@@ -60,7 +60,7 @@ fn pair_named(first: &str, second: &str) -> Option<LoginMethod>
 
 /// The method that a list says: one, or two that go together.
 #[tactic(auto, using(crate::proofs::ListLemmas::only_item, crate::proofs::ListLemmas::two_items, crate::proofs::MethodLemmas::no_method))]
-fn method_in(items: &[Value]) -> Option<LoginMethod>
+fn method_in(items: &[Value<'_>]) -> Option<LoginMethod>
     ensures { result ≡ method_in (items_view items.now) }
 {
     match items {
@@ -76,11 +76,11 @@ impl FieldType for LoginMethods {
     ghost reads = { λ _. login_methods };
 
     #[tactic(auto, unfolding(crate::specs::Methods::login_methods))]
-    fn read(&self, _alloc: Global, value: &Value) -> Result<LoginMethod, Unread> {
+    fn read(&self, _alloc: Global, value: &Value<'_>) -> Result<LoginMethod, Unread> {
         let Some(items) = value.as_array() else {
             return Err(Unread::Misfit(Misfit::Kind));
         };
-        match method_in(items.as_slice()) {
+        match method_in(items) {
             Some(method) => Ok(method),
             None => Err(Unread::Misfit(Misfit::Range)),
         }

@@ -1,4 +1,4 @@
-ghost use Rattle.serde_json.specs.View.{items_view};
+ghost use Rattle.ks_json.specs.View.{items_view};
 ghost use Rattle.ks_shape.specs.Names.{all_named, cred_at, name_and_domain, name_and_user, named_at, own_id, own_name, project_at, user_at};
 ghost use Rattle.ks_shape.specs.Places.{place_of};
 ghost use Rattle.ks_shape.specs.Readings.{Reads};
@@ -7,8 +7,8 @@ use crate::node::Node;
 use crate::rows::NAME;
 use crate::types::IdText;
 use ks_base::{Id, ShapeRefusal, Text};
+use ks_json::Value;
 use ks_machine::{CredNamed, Named, NamedList, ProjectNamed, UserNamed};
-use serde_json::Value;
 use std::alloc::Global;
 
 fn own_id(node: &Node) -> Result<Option<Id>, ShapeRefusal>
@@ -91,7 +91,11 @@ pub fn cred(node: &Node) -> Result<CredNamed, ShapeRefusal>
 }
 
 /// What each of these values names; all are known by the path.
-pub fn all_named(alloc: Global, path: &Text, values: &[Value]) -> Result<NamedList, ShapeRefusal>
+pub fn all_named(
+    alloc: Global,
+    path: &Text,
+    values: &[Value<'_>],
+) -> Result<NamedList, ShapeRefusal>
     ensures { Reads result (all_named path.now (items_view values.now)) }
 {
     let mut rows = NamedList::new(alloc);

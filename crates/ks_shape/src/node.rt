@@ -1,12 +1,12 @@
 ghost use Rattle.std.specs.Prelude.{◌≡◌, [], None, Some, IfOk, OnOk, option_map, string_bytes};
 ghost use Rattle.std.specs.Option.{option_copied};
-ghost use Rattle.serde_json.specs.View.{view};
+ghost use Rattle.ks_json.specs.View.{view};
 ghost use Rattle.ks_shape.specs.Places.{entry_at, member_path, names_in, path_at, place_at, place_of, value_at};
 ghost use Rattle.ks_shape.specs.Readings.{ReadsBy};
 
 use itoa::Buffer;
 use ks_base::{Memory, ShapeFault, ShapeRefusal, Text};
-use serde_json::Value;
+use ks_json::Value;
 use std::alloc::Global;
 
 /// Room for most paths, so that their text seldom moves while it grows.
@@ -14,10 +14,10 @@ const PATH_ROOM: usize = 64;
 
 /// A place in a JSON document: the path under which it is known, and the value there, if there is one.
 #[derive(Drop)]
-pub struct Node<'a> {
+pub struct Node<'v, 'a> {
     pub(crate) alloc: Global,
     path: Text,
-    value: Option<&'a Value>,
+    value: Option<&'v Value<'a>>,
 }
 
 /// Puts a name behind a path.
@@ -33,9 +33,9 @@ fn push_name(path: &mut String, name: &str) -> Result<(), Memory>
     Ok(())
 }
 
-impl<'a> Node<'a> {
+impl<'v, 'a> Node<'v, 'a> {
     /// The place with this path where the value stands.
-    pub fn known_as(alloc: Global, path: Text, value: &'a Value) -> Node<'a>
+    pub fn known_as(alloc: Global, path: Text, value: &'v Value<'a>) -> Node<'v, 'a>
         ensures { place_of result ≡ record { path = path; value = Some (view value.now) } }
     {
         Node {
@@ -58,7 +58,7 @@ impl<'a> Node<'a> {
     }
 
     /// The value that these names lead to.
-    pub(crate) fn value_at(&self, names: &[&str]) -> Result<Option<&'a Value>, ShapeRefusal>
+    pub(crate) fn value_at(&self, names: &[&str]) -> Result<Option<&'v Value<'a>>, ShapeRefusal>
         ensures { ReadsBy (option_map (λ value. view value.now)) result (value_at (names_in names.now) (place_of self.now)) }
     {
         let mut value = self.value;
@@ -77,7 +77,7 @@ impl<'a> Node<'a> {
 
     /// The place that these names lead to.
     #[tactic(auto, unfolding(crate::specs::Places::place_at))]
-    pub fn at(&self, names: &[&str]) -> Result<Node<'a>, ShapeRefusal>
+    pub fn at(&self, names: &[&str]) -> Result<Node<'v, 'a>, ShapeRefusal>
         ensures { ReadsBy place_of result (place_at (names_in names.now) (place_of self.now)) }
     {
         let value = self.value_at(names)?;
@@ -91,7 +91,12 @@ impl<'a> Node<'a> {
 
     /// The entry at this place, counted from 0, of the list to which these names lead. Its path is that of the
     /// list with the place in brackets, as `users[3]`.
-    pub fn entry(&self, names: &[&str], place: usize, value: &'a Value) -> Result<Node<'a>, Memory>
+    pub fn entry(
+        &self,
+        names: &[&str],
+        place: usize,
+        value: &'v Value<'a>,
+    ) -> Result<Node<'v, 'a>, Memory>
         ensures { IfOk result (λ node. place_of node ≡ entry_at (names_in names.now) place (view value.now) (place_of self.now)) }
     {
         let list = self.path_at(names)?;
@@ -103,7 +108,7 @@ impl<'a> Node<'a> {
     }
 
     /// The value at the place.
-    pub fn value(&self) -> Option<&'a Value>
+    pub fn value(&self) -> Option<&'v Value<'a>>
         ensures { option_map (λ value. view value.now) result ≡ (place_of self.now).value }
     {
         self.value

@@ -1,5 +1,5 @@
 ghost use Rattle.std.specs.Prelude.{◌≡◌};
-ghost use Rattle.serde_json.specs.View.{view};
+ghost use Rattle.ks_json.specs.View.{view};
 ghost use Rattle.ks_shape.specs.Logins.{domain_scope, is_given, object_scope, project_scope, scope_at, system_scope, trust_scope, unscoped_text};
 ghost use Rattle.ks_shape.specs.Places.{place_of};
 ghost use Rattle.ks_shape.specs.Readings.{Fits, Reads};
@@ -10,11 +10,11 @@ use crate::names::{named, project};
 use crate::node::Node;
 use crate::types::{Affirmation, IdText, any_text, need};
 use ks_base::ShapeRefusal;
+use ks_json::Value;
 use ks_machine::ScopeIn;
-use serde_json::Value;
 
 #[tactic(auto, unfolding(crate::specs::Logins::unscoped_text))]
-fn unscoped_text(value: &Value) -> Result<ScopeIn, Unread>
+fn unscoped_text(value: &Value<'_>) -> Result<ScopeIn, Unread>
     ensures { Fits result (unscoped_text (view value.now)) }
 {
     let text = any_text(value)?;
@@ -56,7 +56,7 @@ fn system_scope(node: &Node) -> Result<ScopeIn, ShapeRefusal>
     Ok(ScopeIn::System)
 }
 
-fn is_given(name: &str, value: &Value) -> bool
+fn is_given(name: &str, value: &Value<'_>) -> bool
     ensures { result ≡ is_given name.now (view value.now) }
 {
     unless_null(value.get(name)).is_some()
@@ -64,7 +64,7 @@ fn is_given(name: &str, value: &Value) -> bool
 
 /// The scope that an object at the node says, by exactly one of its five members.
 #[tactic(auto, using(crate::proofs::RefusalLemmas::refused), unfolding(crate::specs::Logins::object_scope, crate::specs::Places::path_below))]
-fn object_scope(value: &Value, node: &Node) -> Result<ScopeIn, ShapeRefusal>
+fn object_scope(value: &Value<'_>, node: &Node) -> Result<ScopeIn, ShapeRefusal>
     ensures { Reads result (object_scope (view value.now) (place_of node.now)) }
 {
     let unscoped = is_given("unscoped", value);

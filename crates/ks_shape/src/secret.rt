@@ -15,9 +15,9 @@ use crate::node::Node;
 use crate::types::{IdText, any_text, need};
 use ks_base::limits::{TOTP_SECRET_LEAST, TOTP_SECRET_MOST};
 use ks_base::{Bytes, ShapeRefusal};
+use ks_json::Value;
 use ks_machine::SecretBody;
 use ks_totp::read_base32;
-use serde_json::Value;
 use std::alloc::Global;
 
 /// A code that is typed in: six digits.
@@ -87,7 +87,7 @@ impl FieldType for CodeText {
     ghost reads = { λ _. code_text };
 
     #[tactic(auto, unfolding(crate::specs::Secrets::code_text))]
-    fn read(&self, _alloc: Global, value: &Value) -> Result<u32, Unread> {
+    fn read(&self, _alloc: Global, value: &Value<'_>) -> Result<u32, Unread> {
         let text = any_text(value)?;
         match code_in(text.as_bytes()) {
             Some(code) => Ok(code),
@@ -102,7 +102,7 @@ impl FieldType for TotpType {
     ghost reads = { λ _. totp_type };
 
     #[tactic(auto, unfolding(crate::specs::Secrets::totp_type))]
-    fn read(&self, _alloc: Global, value: &Value) -> Result<(), Unread> {
+    fn read(&self, _alloc: Global, value: &Value<'_>) -> Result<(), Unread> {
         let text = any_text(value)?;
         Ok(need(text == "totp", Misfit::Range)?)
     }
@@ -114,7 +114,7 @@ impl FieldType for SecretBlob {
     ghost reads = { λ _. secret_blob };
 
     #[tactic(auto, unfolding(crate::specs::Secrets::secret_blob))]
-    fn read(&self, alloc: Global, value: &Value) -> Result<Bytes, Unread> {
+    fn read(&self, alloc: Global, value: &Value<'_>) -> Result<Bytes, Unread> {
         let text = any_text(value)?;
         let bytes = bytes_in(alloc, text)?;
         let few = (TOTP_SECRET_LEAST..=TOTP_SECRET_MOST).contains(&bytes.as_slice().len());

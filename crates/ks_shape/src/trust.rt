@@ -30,7 +30,7 @@ fn roles(names: &[&str], body: &Node) -> Result<NamedList, ShapeRefusal>
 {
     let values = body.needed_list(names, TRUST_ROLES)?;
     let path = body.path_at(names)?;
-    all_named(body.alloc, &path, values)
+    all_named(body.alloc, &path, values.as_slice())
 }
 
 /// How long, how often and how far down a trust is to serve.

@@ -1,6 +1,6 @@
 ghost use Rattle.std.specs.Prelude.{◌≡◌, option_and_then};
 ghost use Rattle.serde_json.specs.Find.{as_number, as_u64};
-ghost use Rattle.serde_json.specs.View.{view};
+ghost use Rattle.ks_json.specs.View.{view};
 ghost use Rattle.ks_shape.specs.declared.misfit.Misfit.TheVariants as misfit;
 ghost use Rattle.ks_shape.specs.Times.{time_of};
 ghost use Rattle.ks_shape.specs.Types.{affirmation, any_text, falsehood, id_in, id_text, text_of, time_text, truth, whole};
@@ -10,8 +10,8 @@ ghost use Rattle.ks_shape.specs.Readings.{same_text};
 use crate::fields::FieldType;
 use crate::misfit::{Misfit, Unread};
 use ks_base::{Id, Text};
+use ks_json::Value;
 use ks_time::read_time;
-use serde_json::Value;
 use std::alloc::Global;
 
 /// Any text.
@@ -62,7 +62,7 @@ pub(crate) fn need(holds: bool, misfit: Misfit) -> Result<(), Misfit>
     if holds { Ok(()) } else { Err(misfit) }
 }
 
-pub(crate) fn any_text(value: &Value) -> Result<&str, Misfit>
+pub(crate) fn any_text<'a>(value: &Value<'a>) -> Result<&'a str, Misfit>
     ensures { same_text result ≡ any_text (view value.now) }
 {
     match value.as_str() {
@@ -71,7 +71,7 @@ pub(crate) fn any_text(value: &Value) -> Result<&str, Misfit>
     }
 }
 
-fn any_truth(value: &Value) -> Result<bool, Misfit>
+fn any_truth(value: &Value<'_>) -> Result<bool, Misfit>
     ensures { result ≡ truth (view value.now) }
 {
     match value.as_bool() {
@@ -80,7 +80,7 @@ fn any_truth(value: &Value) -> Result<bool, Misfit>
     }
 }
 
-fn any_number(value: &Value) -> Result<u64, Misfit>
+fn any_number(value: &Value<'_>) -> Result<u64, Misfit>
     ensures { result ≡ found (option_and_then as_u64 (as_number (view value.now))) misfit.Kind }
 {
     match value.as_u64() {
@@ -115,7 +115,7 @@ impl FieldType for AnyText {
 
     ghost reads = { λ _. any_text };
 
-    fn read(&self, alloc: Global, value: &Value) -> Result<Text, Unread> {
+    fn read(&self, alloc: Global, value: &Value<'_>) -> Result<Text, Unread> {
         let text = any_text(value)?;
         Ok(Text::of(alloc, text)?)
     }
@@ -127,7 +127,7 @@ impl FieldType for TextOf {
     ghost reads = { λ limits. text_of limits.least limits.most };
 
     #[tactic(auto, unfolding(crate::specs::Types::text_of))]
-    fn read(&self, alloc: Global, value: &Value) -> Result<Text, Unread> {
+    fn read(&self, alloc: Global, value: &Value<'_>) -> Result<Text, Unread> {
         let text = any_text(value)?;
         need(
             (self.least..=self.most).contains(&text.len()),
@@ -143,7 +143,7 @@ impl FieldType for IdText {
     ghost reads = { λ _. id_text };
 
     #[tactic(auto, unfolding(crate::specs::Types::id_text))]
-    fn read(&self, _alloc: Global, value: &Value) -> Result<Id, Unread> {
+    fn read(&self, _alloc: Global, value: &Value<'_>) -> Result<Id, Unread> {
         let text = any_text(value)?;
         Ok(id_in(text)?)
     }
@@ -154,7 +154,7 @@ impl FieldType for Truth {
 
     ghost reads = { λ _. truth };
 
-    fn read(&self, _alloc: Global, value: &Value) -> Result<bool, Unread> {
+    fn read(&self, _alloc: Global, value: &Value<'_>) -> Result<bool, Unread> {
         Ok(any_truth(value)?)
     }
 }
@@ -165,7 +165,7 @@ impl FieldType for Falsehood {
     ghost reads = { λ _. falsehood };
 
     #[tactic(auto, unfolding(crate::specs::Types::falsehood))]
-    fn read(&self, _alloc: Global, value: &Value) -> Result<bool, Unread> {
+    fn read(&self, _alloc: Global, value: &Value<'_>) -> Result<bool, Unread> {
         let holds = any_truth(value)?;
         need(!holds, Misfit::Range)?;
         Ok(holds)
@@ -178,7 +178,7 @@ impl FieldType for Affirmation {
     ghost reads = { λ _. affirmation };
 
     #[tactic(auto, unfolding(crate::specs::Types::affirmation))]
-    fn read(&self, _alloc: Global, value: &Value) -> Result<bool, Unread> {
+    fn read(&self, _alloc: Global, value: &Value<'_>) -> Result<bool, Unread> {
         let holds = any_truth(value)?;
         need(holds, Misfit::Range)?;
         Ok(holds)
@@ -191,7 +191,7 @@ impl FieldType for Whole {
     ghost reads = { λ bounds. whole bounds.least bounds.most };
 
     #[tactic(auto, unfolding(crate::specs::Types::whole))]
-    fn read(&self, _alloc: Global, value: &Value) -> Result<u64, Unread> {
+    fn read(&self, _alloc: Global, value: &Value<'_>) -> Result<u64, Unread> {
         let number = any_number(value)?;
         need((self.least..=self.most).contains(&number), Misfit::Range)?;
         Ok(number)
@@ -204,7 +204,7 @@ impl FieldType for Count {
     ghost reads = { λ _. whole 0 4_294_967_295 };
 
     #[tactic(auto, unfolding(crate::specs::Types::whole))]
-    fn read(&self, _alloc: Global, value: &Value) -> Result<u32, Unread> {
+    fn read(&self, _alloc: Global, value: &Value<'_>) -> Result<u32, Unread> {
         let number = any_number(value)?;
         match u32::try_from(number) {
             Ok(count) => Ok(count),
@@ -219,7 +219,7 @@ impl FieldType for TimeText {
     ghost reads = { λ _. time_text };
 
     #[tactic(auto, unfolding(crate::specs::Types::time_text))]
-    fn read(&self, _alloc: Global, value: &Value) -> Result<u64, Unread> {
+    fn read(&self, _alloc: Global, value: &Value<'_>) -> Result<u64, Unread> {
         let text = any_text(value)?;
         Ok(moment_in(text)?)
     }

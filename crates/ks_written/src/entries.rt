@@ -1,5 +1,5 @@
 ghost use Rattle.std.specs.Prelude.{Result};
-ghost use Rattle.serde_json.specs.View.{items_view};
+ghost use Rattle.ks_json.specs.View.{items_view};
 ghost use Rattle.ks_base.specs.declared.shapes.ShapeFault.{ShapeFault};
 ghost use Rattle.ks_shape.specs.Places.{Place, names_in, place_of};
 ghost use Rattle.ks_shape.specs.Readings.{Reads};
@@ -7,8 +7,8 @@ ghost use Rattle.ks_written.specs.Entries.{entries, entries_from, listed};
 
 use ks_base::limits::OPENING_BYTES;
 use ks_base::{ListOf, ShapeRefusal};
+use ks_json::Value;
 use ks_shape::Node;
-use serde_json::Value;
 use std::alloc::Global;
 
 /// What an entry of a list is read as.
@@ -20,11 +20,11 @@ pub(crate) trait Entry: Drop {
 }
 
 /// The values, as entries of the list to which the names lead.
-pub(crate) fn each<'a, E: Entry>(
+pub(crate) fn each<'v, 'a, E: Entry>(
     alloc: Global,
-    file: &Node<'a>,
+    file: &Node<'v, 'a>,
     names: &[&str],
-    values: &'a [Value],
+    values: &'v [Value<'a>],
 ) -> Result<ListOf<E>, ShapeRefusal>
     ensures { Reads result (entries_from E.reads (names_in names.now) (place_of file.now) 0 (items_view values.now)) }
 {
@@ -49,7 +49,7 @@ pub(crate) fn listed<E: Entry>(
     let Some(values) = file.optional_list(names, OPENING_BYTES)? else {
         return Ok(None);
     };
-    let rows = each(alloc, file, names, values)?;
+    let rows = each(alloc, file, names, values.as_slice())?;
     Ok(Some(rows))
 }
 

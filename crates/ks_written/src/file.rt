@@ -1,5 +1,5 @@
 ghost use Rattle.std.specs.Prelude.{◌≡◌, IfOk, [], ◌∷◌, codes, unwrap_or};
-ghost use Rattle.serde_json.specs.View.{view};
+ghost use Rattle.ks_json.specs.View.{view};
 ghost use Rattle.ks_shape.specs.Bodies.{whole_document};
 ghost use Rattle.ks_shape.specs.Readings.{Reads, ReadsBy};
 ghost use Rattle.ks_written.specs.Written.{default_domain, document_of, is_folder, written_in};
@@ -10,21 +10,25 @@ use crate::settings::read_settings;
 use crate::written::{KeysFrom, Written};
 use ks_base::limits::OPENING_BYTES;
 use ks_base::{DomainList, DomainRow, Id, Memory, ShapeFault, ShapeRefusal, Text};
+use ks_json::{Scratch, Value};
 use ks_machine::Settings;
 use ks_shape::{Node, read_document};
-use serde_json::Value;
 use std::alloc::Global;
 
 /// The JSON document that a file is.
 #[tactic(auto, unfolding(crate::specs::Written::document_of))]
-pub fn read_file(alloc: Global, text: &[u8]) -> Result<Value, ShapeRefusal>
+pub fn read_file<'a>(
+    alloc: Global,
+    text: &'a [u8],
+    scratch: &'a mut Scratch,
+) -> Result<Value<'a>, ShapeRefusal>
     ensures { ReadsBy view result (document_of text.now) }
 {
     if text.len() > OPENING_BYTES {
         let path = Text::of(alloc, "")?;
         return Err(ShapeRefusal::Shape(ShapeFault::Range(path)));
     }
-    read_document(alloc, text)
+    read_document(alloc, text, scratch)
 }
 
 fn default_id() -> Id
@@ -68,7 +72,7 @@ pub fn is_folder(keys: &KeysFrom) -> bool
 
 /// What a file says, apart from its policy.
 #[tactic(auto, unfolding(crate::specs::Written::written_in))]
-pub fn read_written(alloc: Global, file: &Value) -> Result<Written, ShapeRefusal>
+pub fn read_written(alloc: Global, file: &Value<'_>) -> Result<Written, ShapeRefusal>
     ensures { Reads result (written_in (whole_document (view file.now))) }
 {
     let path = Text::of(alloc, "")?;

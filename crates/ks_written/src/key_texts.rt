@@ -6,8 +6,8 @@ use crate::entries::each;
 use crate::written::KeysFrom;
 use ks_base::ShapeRefusal;
 use ks_base::limits::KEYS;
+use ks_json::Value;
 use ks_shape::{AnyText, FieldType, Misfit, Node, Unread};
-use serde_json::Value;
 use std::alloc::Global;
 
 /// The text `folder`.
@@ -20,7 +20,7 @@ impl FieldType for FolderText {
     ghost reads = { λ _. folder_text };
 
     #[tactic(auto, unfolding(crate::specs::Written::folder_text))]
-    fn read(&self, alloc: Global, value: &Value) -> Result<KeysFrom, Unread> {
+    fn read(&self, alloc: Global, value: &Value<'_>) -> Result<KeysFrom, Unread> {
         let text = AnyText.read(alloc, value)?;
         if text.as_str() == "folder" {
             return Ok(KeysFrom::Folder);

@@ -14,9 +14,9 @@ use base64::engine::general_purpose::STANDARD;
 use itoa::Buffer;
 use ks_base::limits::ROUNDS;
 use ks_base::{Memory, PasswordRow};
+use ks_json::Value;
 use ks_shape::{AnyText, FieldType, Misfit, Unread};
 use ks_words::number_between;
-use serde_json::Value;
 use std::alloc::Global;
 
 const SCHEME: &str = "pbkdf2_sha256";
@@ -149,7 +149,7 @@ impl FieldType for RecordText {
     ghost reads = { λ _. password_record };
 
     #[tactic(auto, unfolding(crate::specs::Written::password_record))]
-    fn read(&self, alloc: Global, value: &Value) -> Result<PasswordRow, Unread> {
+    fn read(&self, alloc: Global, value: &Value<'_>) -> Result<PasswordRow, Unread> {
         let text = AnyText.read(alloc, value)?;
         record_in(alloc, text.as_str())
     }

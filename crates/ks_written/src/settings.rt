@@ -8,9 +8,9 @@ ghost use Rattle.ks_written.specs.Written.{default_settings, is_url, is_visible,
 use crate::rows::text_or;
 use ks_base::limits::URL_BYTES;
 use ks_base::{Memory, ShapeRefusal, Text};
+use ks_json::Value;
 use ks_machine::Settings;
 use ks_shape::{FieldType, Misfit, Node, TextOf, Unread, Whole};
-use serde_json::Value;
 use std::alloc::Global;
 
 const URL: &str = "http://127.0.0.1:5000";
@@ -41,7 +41,7 @@ impl FieldType for Count {
     ghost reads = { λ bounds. whole bounds.least bounds.most };
 
     #[tactic(auto, using(crate::proofs::CountLemmas::whole_fits))]
-    fn read(&self, alloc: Global, value: &Value) -> Result<u32, Unread> {
+    fn read(&self, alloc: Global, value: &Value<'_>) -> Result<u32, Unread> {
         let bounds = Whole {
             least: u64::from(self.least),
             most: u64::from(self.most),
@@ -89,7 +89,7 @@ impl FieldType for UrlText {
     ghost reads = { λ _. url_text };
 
     #[tactic(auto, unfolding(crate::specs::Written::url_text))]
-    fn read(&self, alloc: Global, value: &Value) -> Result<Text, Unread> {
+    fn read(&self, alloc: Global, value: &Value<'_>) -> Result<Text, Unread> {
         let limits = TextOf {
             least: 1,
             most: URL_BYTES,

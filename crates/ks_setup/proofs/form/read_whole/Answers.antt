@@ -1,5 +1,5 @@
 use Rattle.std.proofs.lemmas.Result.{err_from_is_err_and}
-use Rattle.serde_json.specs.View.{view}
+use Rattle.ks_json.specs.View.{view}
 use Rattle.ks_shape.specs.Bodies.{whole_document}
 use Rattle.ks_setup.proofs.BoundLemmas.{written_bounded}
 use Rattle.ks_setup.proofs.OpeningLemmas.{form_of_file, form_refused, text_refused}

@@ -1,5 +1,5 @@
 use Rattle.std.proofs.Common.{◌≡◌, drop}
-use Rattle.serde_json.specs.View.{items_view}
+use Rattle.ks_json.specs.View.{items_view}
 use Rattle.ks_shape.specs.Factors.{mfa_rule}
 use Rattle.ks_shape.specs.Types.{each_read}
 use Rattle.ks_shape.proofs.NameLemmas.{behind}

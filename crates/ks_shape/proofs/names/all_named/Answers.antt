@@ -1,5 +1,5 @@
 use Rattle.std.proofs.Common.{◌≡◌, ◌+◌, drop, sym, ap, ◌∙◌}
-use Rattle.serde_json.specs.View.{items_view, view}
+use Rattle.ks_json.specs.View.{items_view, view}
 use Rattle.ks_shape.specs.Names.{all_named, named_at}
 use Rattle.ks_shape.specs.Places.{place_of}
 use Rattle.ks_shape.proofs.NameLemmas.{behind, entry, each_end, each_step, named_refused}

@@ -1,5 +1,5 @@
 use Rattle.std.proofs.Common.{◌≡◌, drop}
-use Rattle.serde_json.specs.View.{items_view}
+use Rattle.ks_json.specs.View.{items_view}
 use Rattle.ks_shape.specs.Names.{all_named}
 use Rattle.ks_shape.proofs.NameLemmas.{behind}
 use Rattle.ks_shape.proofs.names.all_named.Given as goal

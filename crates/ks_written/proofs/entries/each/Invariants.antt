@@ -1,5 +1,5 @@
 use Rattle.std.proofs.Common.{◌≡◌}
-use Rattle.serde_json.specs.View.{items_view}
+use Rattle.ks_json.specs.View.{items_view}
 use Rattle.ks_shape.specs.Places.{names_in, place_of}
 use Rattle.ks_written.specs.Entries.{entries_from}
 use Rattle.ks_written.proofs.EntryLemmas.{all_from}

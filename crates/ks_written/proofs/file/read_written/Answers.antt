@@ -1,7 +1,7 @@
 -- One line for each exit: the members before it were read, and it stops the file at its fault.
 use Rattle.std.proofs.Common.{◌≡◌, ℕ, List, Some, refl, sym, ap, ◌∙◌}
 use Rattle.serde_json.specs.Data.{Data}
-use Rattle.serde_json.specs.View.{view}
+use Rattle.ks_json.specs.View.{view}
 use Rattle.ks_shape.specs.Bodies.{whole_document}
 use Rattle.ks_shape.specs.Places.{Place, place_of}
 use Rattle.ks_shape.proofs.RefusalLemmas.{stops}

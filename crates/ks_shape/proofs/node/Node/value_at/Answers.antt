@@ -1,7 +1,7 @@
 use Rattle.std.proofs.Common.{◌≡◌, [], true, false, Err, sym, ap, ◌∙◌}
 use Rattle.std.specs.Prelude.{is_some}
 use Rattle.serde_json.specs.Find.{as_object}
-use Rattle.serde_json.specs.View.{view}
+use Rattle.ks_json.specs.View.{view}
 use Rattle.ks_base.specs.declared.shapes.ShapeFault.TheVariants as fault
 use Rattle.ks_shape.proofs.PlaceLemmas.{value_step, value_start, value_end, value_none, value_stuck}
 use Rattle.ks_shape.proofs.node.Node.value_at.Goals as goal

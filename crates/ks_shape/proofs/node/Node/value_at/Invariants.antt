@@ -1,6 +1,6 @@
 use Rattle.std.proofs.Common.{◌≡◌, drop, take}
 use Rattle.std.specs.Prelude.{option_map}
-use Rattle.serde_json.specs.View.{view}
+use Rattle.ks_json.specs.View.{view}
 use Rattle.ks_shape.specs.Places.{names_in, path_below, value_below}
 use Rattle.ks_shape.proofs.node.Node.value_at.Given as goal
 
