@@ -22,7 +22,7 @@ mod writing;
 
 pub use laws::{
     app_cred_document, catalog_document, head_has_no_body, memory_ends_the_connection,
-    secret_document, token_document, unauthorized_document, version_document,
+    secret_document, token_document, unauthorized_document, version_document, versions_document,
 };
 pub use names::{keys_name, kind_name, tree_name, trust_name};
 pub use responses::{render, render_bad};

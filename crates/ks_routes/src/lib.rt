@@ -21,7 +21,7 @@ pub use action::{Action, ActorKind, GrantRoute, TargetKind};
 pub use laws::{
     commands_are_in_range, commands_are_whole, ids_are_ids, listed_methods_are_taken,
     other_methods_have_no_command, paths_have_one_route, routes_are_reached, routing_is_total,
-    unrouted_paths_fit_nothing, version_has_two_paths,
+    unrouted_paths_fit_nothing, version_has_two_paths, versions_have_a_path,
 };
 pub use methods::Methods;
 pub use route::{Route, find};
