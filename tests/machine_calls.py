@@ -322,6 +322,7 @@ class Caller:
             return self.rng.choice(("HEAD", "DELETE", "PUT")), path, None, None
         return self.rng.choice([(method, f"/v3/groups/{group}/users/{user}", None, None) for method in ("PUT", "HEAD", "DELETE")]
                                + [("GET", f"/v3/users/{user}/groups", None, None),
+                                  ("GET", f"/v3/users/{user}/projects", None, None),
                                   ("GET", f"/v3/groups/{group}/users", None, None)])
 
     def about_role(self, _):

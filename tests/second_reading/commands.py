@@ -11,7 +11,7 @@ from second_reading.state import Invalid, Outcome, Token, made_id
 
 
 # The kind of the row that a path names first, and no other behind it.
-ROWS_OF = {"groups_of": "user", "members_of": "group", "implied": "role", "create_appcred": "user", "list_appcreds": "user"}
+ROWS_OF = {"groups_of": "user", "projects_of": "user", "members_of": "group", "implied": "role", "create_appcred": "user", "list_appcreds": "user"}
 
 
 class Commands(Catalog, Holdings):
@@ -438,6 +438,12 @@ class Commands(Catalog, Holdings):
         self.standing("user", call.ids[0])
         groups = [group for group, user in self.members if user == call.ids[0]]
         return Outcome(200, self.listing("groups", [self.object_of("group", self.row("group", each)) for each in groups], call))
+
+    def do_projects_of(self, call):
+        """The projects on which a user has roles."""
+        self.standing("user", call.ids[0])
+        projects = [row for row in self.rows["project"] if self.roles_at(call.ids[0], ("project", row["id"]))]
+        return Outcome(200, self.listing("projects", [self.object_of("project", row) for row in projects], call))
 
     def do_members_of(self, call):
         """The users of a group."""

@@ -22,7 +22,7 @@ DEFAULT_RULES = {
     "identity:validate_token": SUBJECT,
     "identity:check_user_in_group": OWNER,
     "identity:get_user": OWNER,
-    "identity:list_groups_for_user": OWNER,
+    "identity:list_groups_for_user": OWNER, "identity:list_user_projects": OWNER,
     "identity:create_application_credential": "rule:owner",
     "identity:delete_application_credential": OWNER,
     "identity:get_application_credential": OWNER,

@@ -46,6 +46,7 @@ def all_routes():
             yield method, f"/v3/{kind}s/{{}}", command, kind
     yield "POST", "/v3/users/{}/password", "change_password", None
     yield "GET", "/v3/users/{}/groups", "groups_of", None
+    yield "GET", "/v3/users/{}/projects", "projects_of", None
     yield from routes_of_users()
     yield "GET", "/v3/groups/{}/users", "members_of", None
     for method, command in (("PUT", "join"), ("HEAD", "is_in"), ("DELETE", "leave")):
@@ -69,6 +70,7 @@ ROUTES = list(all_routes())
 ACTIONS = {
     "versions": None, "version": None, "login": None, "change_password": None, "show_catalog": None,
     "validate": "validate_token", "check": "check_token", "revoke_token": "revoke_token", "groups_of": "list_groups_for_user",
+    "projects_of": "list_user_projects",
     "members_of": "list_users_in_group", "join": "add_user_to_group", "is_in": "check_user_in_group",
     "leave": "remove_user_from_group", "implied": "list_implied_roles", "imply": "create_implied_role",
     "implication": "get_implied_role", "is_implied": "check_implied_role", "unimply": "delete_implied_role",

@@ -58,7 +58,7 @@ use Rattle.ks_machine.specs.Fit.{AreFields, IsFolderFor, IsGrant}
 use Rattle.ks_machine.specs.Keys.{is_failed, keys_read, load_keys, rotate_keys}
 use Rattle.ks_machine.specs.Lawful.{ActorStands, Fits, IsStanding, TakesKeys, TargetStands}
 use Rattle.ks_machine.specs.Listings.{delete, events, get, is_domain_listed, is_group_listed, is_project_listed, is_role_listed, is_user_listed, list, row_at, rows_listed}
-use Rattle.ks_machine.specs.Members.{actor_stands, all_stand, grant, grants_of, list_groups_of, implication, implied, implies, imply, is_granted, is_implied, is_in, join, leave, list_members_of, target_stands, told_inference, ungrant, unimply, unless_standing}
+use Rattle.ks_machine.specs.Members.{actor_stands, all_stand, grant, grants_of, list_groups_of, list_projects_of, implication, implied, implies, imply, is_granted, is_implied, is_in, join, leave, list_members_of, target_stands, told_inference, ungrant, unimply, unless_standing}
 use Rattle.ks_machine.specs.Moment.{last_moment}
 use Rattle.ks_machine.specs.Outcomes.{Outcome, key, made_id, tells}
 use Rattle.ks_machine.specs.States.{State}
@@ -200,6 +200,11 @@ good_groups_of : (S : State) (moment : ℕ) (id : Id) → Gives (IsGood S moment
 unfolding list_groups_of
 good_groups_of S moment id =
     gives_past (IsGood S moment) (standing_user S.rows id) _ (λ _. good_tells S moment _ (all_mapped IsRowTellable (λ found. row.Group found) _ (λ x among. tt)))
+
+good_projects_of : (S : State) (moment : ℕ) (id : Id) → Gives (IsGood S moment) (list_projects_of S.rows id)
+unfolding list_projects_of
+good_projects_of S moment id =
+    gives_past (IsGood S moment) (standing_user S.rows id) _ (λ _. good_tells S moment _ (all_mapped IsRowTellable (λ found. row.Project found) _ (λ x among. tt)))
 
 good_members_of : (S : State) (moment : ℕ) (id : Id) → Gives (IsGood S moment) (list_members_of S.rows id)
 unfolding list_members_of
@@ -394,6 +399,7 @@ good_own_checks known S moment call who (command.Get kind id) old high le fields
 good_own_checks known S moment call who (command.Update id made) old high le fields read are = good_update known S moment call.draw id made old fields
 good_own_checks known S moment call who (command.Delete kind id) old high le fields read are = good_delete S moment kind id
 good_own_checks known S moment call who (command.GroupsOf id) old high le fields read are = good_groups_of S moment id
+good_own_checks known S moment call who (command.ProjectsOf id) old high le fields read are = good_projects_of S moment id
 good_own_checks known S moment call who (command.MembersOf id) old high le fields read are = good_members_of S moment id
 good_own_checks known S moment call who (command.Join row) old high le fields read are = good_join S moment row
 good_own_checks known S moment call who (command.IsIn row) old high le fields read are = good_is_in S moment row

@@ -31,7 +31,7 @@ use Rattle.ks_machine.specs.Attempts.{Attempt, Lack, ◌>>=◌, Known, need}
 use Rattle.ks_machine.specs.Creations.{create, create_user}
 use Rattle.ks_machine.specs.Keys.{is_failed}
 use Rattle.ks_machine.specs.Login.{by_password, by_secret, is_password, login, password_method, shown, totp_method}
-use Rattle.ks_machine.specs.Members.{list_groups_of, implication, implied, imply, is_implied, join, leave, list_members_of, ungrant, unimply}
+use Rattle.ks_machine.specs.Members.{list_groups_of, list_projects_of, implication, implied, imply, is_implied, join, leave, list_members_of, ungrant, unimply}
 use Rattle.ks_machine.specs.Outcomes.{Outcome}
 use Rattle.ks_machine.specs.Passwords.{change_password, derived, derived_or}
 use Rattle.ks_machine.specs.Scopes.{cred_in, user_in}
@@ -217,7 +217,7 @@ module _ (P : Lack → Type 0) (known : Known) (S : State) (call : Call) (checks
 
   asks_own_checks : (moment : ℕ) (who : Parties) (asked : Command) → call.command ≡ asked → (not (requirements asked).draws || has_drawn call.draw) ≡ true →
       Asks P (own_checks known S S.rows moment call who asked)
-  unfolding own_checks requirements list_groups_of list_members_of join leave implied imply implication is_implied unimply ungrant get_trust delete_trust roles_of_trust
+  unfolding own_checks requirements list_groups_of list_projects_of list_members_of join leave implied imply implication is_implied unimply ungrant get_trust delete_trust roles_of_trust
   asks_own_checks moment who command.Version is drawn = asks_go Cause P _
   asks_own_checks moment who command.Versions is drawn = asks_go Cause P _
   asks_own_checks moment who (command.Login body) is drawn = asks_drawn call.draw _ (asks_login moment body is)
@@ -232,6 +232,7 @@ module _ (P : Lack → Type 0) (known : Known) (S : State) (call : Call) (checks
   asks_own_checks moment who (command.Update id body) is drawn = asks_update id body is drawn
   asks_own_checks moment who (command.Delete of id) is drawn = asks_delete P S.rows of id
   asks_own_checks moment who (command.GroupsOf id) is drawn = asks_map P _ _ (asks_found P _ _)
+  asks_own_checks moment who (command.ProjectsOf id) is drawn = asks_map P _ _ (asks_found P _ _)
   asks_own_checks moment who (command.MembersOf id) is drawn = asks_map P _ _ (asks_found P _ _)
   asks_own_checks moment who (command.Join row) is drawn = asks_map P _ _ (asks_fault P _ _)
   asks_own_checks moment who (command.IsIn row) is drawn = asks_is_in P S.rows row

@@ -54,7 +54,7 @@ use Rattle.ks_machine.specs.FactorCommands.{create_secret, delete_secret, get_se
 use Rattle.ks_machine.specs.Keys.{is_failed, keys_read, load_keys, rotate_keys}
 use Rattle.ks_machine.specs.Listings.{delete, get, row_at}
 use Rattle.ks_machine.specs.Login.{by_code, by_password, by_secret, is_password, login, project_on, scoped, scoped_by, shown, shown_by, to_cred, to_domain, to_project, to_system, to_trust, with_roles}
-use Rattle.ks_machine.specs.Members.{actor_stands, all_stand, grant, grants_of, list_groups_of, implication, implied, imply, is_granted, is_implied, is_in, join, leave, list_members_of, target_stands, ungrant, unimply}
+use Rattle.ks_machine.specs.Members.{actor_stands, all_stand, grant, grants_of, list_groups_of, list_projects_of, implication, implied, imply, is_granted, is_implied, is_in, join, leave, list_members_of, target_stands, ungrant, unimply}
 use Rattle.ks_machine.specs.Openings.{NamedRule}
 use Rattle.ks_machine.specs.Outcomes.{Outcome}
 use Rattle.ks_machine.specs.Passwords.{change_password, derived, derived_or}
@@ -429,7 +429,7 @@ whole_on_subject None (Some token) own = tt
 whole_on_subject (Some text) (Some token) own = tt
 
 whole_own_checks : (S : State) (moment : ℕ) (call : Call) (who : Parties) (asked : Command) → IsWhole (own_checks everything S S.rows moment call who asked)
-unfolding own_checks list_groups_of list_members_of join leave implied imply implication is_implied unimply grant ungrant get_trust delete_trust roles_of_trust list_app_creds get_secret delete_secret
+unfolding own_checks list_groups_of list_projects_of list_members_of join leave implied imply implication is_implied unimply grant ungrant get_trust delete_trust roles_of_trust list_app_creds get_secret delete_secret
 whole_own_checks S moment call who command.Version = whole_go Cause _
 whole_own_checks S moment call who command.Versions = whole_go Cause _
 whole_own_checks S moment call who (command.Login body) = whole_bind _ _ (whole_drawn call.draw) (λ draw. whole_login S moment draw body)
@@ -445,6 +445,7 @@ whole_own_checks S moment call who (command.Get what id) = whole_get S.rows what
 whole_own_checks S moment call who (command.Update id body) = whole_update S call.draw id body
 whole_own_checks S moment call who (command.Delete what id) = whole_delete S.rows what id
 whole_own_checks S moment call who (command.GroupsOf id) = whole_map _ _ (whole_found _ _)
+whole_own_checks S moment call who (command.ProjectsOf id) = whole_map _ _ (whole_found _ _)
 whole_own_checks S moment call who (command.MembersOf id) = whole_map _ _ (whole_found _ _)
 whole_own_checks S moment call who (command.Join row) = whole_map _ _ (whole_fault _ _)
 whole_own_checks S moment call who (command.IsIn row) = whole_is_in S.rows row

@@ -266,6 +266,7 @@ agrees_own_checks known facts S rows moment call who (command.List kind filters)
 agrees_own_checks known facts S rows moment call who (command.Get kind id) = agrees_refl _
 agrees_own_checks known facts S rows moment call who (command.Delete kind id) = agrees_refl _
 agrees_own_checks known facts S rows moment call who (command.GroupsOf id) = agrees_refl _
+agrees_own_checks known facts S rows moment call who (command.ProjectsOf id) = agrees_refl _
 agrees_own_checks known facts S rows moment call who (command.MembersOf id) = agrees_refl _
 agrees_own_checks known facts S rows moment call who (command.Join row) = agrees_refl _
 agrees_own_checks known facts S rows moment call who (command.IsIn row) = agrees_refl _

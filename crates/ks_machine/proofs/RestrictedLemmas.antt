@@ -47,7 +47,7 @@ use Rattle.ks_machine.specs.FactorCommands.{create_secret, delete_secret, get_se
 use Rattle.ks_machine.specs.Keys.{is_failed, load_keys, rotate_keys}
 use Rattle.ks_machine.specs.Listings.{delete, events, get, list}
 use Rattle.ks_machine.specs.Login.{login, scoped_by, shown, token_given, use_of}
-use Rattle.ks_machine.specs.Members.{grant, grants_of, implication, implied, imply, is_granted, is_implied, is_in, join, leave, list_groups_of, list_members_of, ungrant, unimply, unless_standing}
+use Rattle.ks_machine.specs.Members.{grant, grants_of, implication, implied, imply, is_granted, is_implied, is_in, join, leave, list_groups_of, list_projects_of, list_members_of, ungrant, unimply, unless_standing}
 use Rattle.ks_machine.specs.Outcomes.{Outcome, changes, made_id, tells}
 use Rattle.ks_machine.specs.Passwords.{change_password}
 use Rattle.ks_machine.specs.Room.{event_limit, room_for}
@@ -177,6 +177,10 @@ list_spares rows of_kind filters = spares_go _ refl
 groups_of_spares : (rows : Rows) (id : Id) → Spares (list_groups_of rows id)
 unfolding list_groups_of
 groups_of_spares rows id = search (spares_bind, spares_go, refl) depth 16
+
+projects_of_spares : (rows : Rows) (id : Id) → Spares (list_projects_of rows id)
+unfolding list_projects_of
+projects_of_spares rows id = search (spares_bind, spares_go, refl) depth 16
 
 members_of_spares : (rows : Rows) (id : Id) → Spares (list_members_of rows id)
 unfolding list_members_of
@@ -355,6 +359,7 @@ own_checks_spare known S moment call who (command.Get of_kind id) bound = get_sp
 own_checks_spare known S moment call who (command.Update id made) bound = update_spares known S call.draw id made
 own_checks_spare known S moment call who (command.Delete of_kind id) bound = delete_spares S.rows of_kind id
 own_checks_spare known S moment call who (command.GroupsOf id) bound = groups_of_spares S.rows id
+own_checks_spare known S moment call who (command.ProjectsOf id) bound = projects_of_spares S.rows id
 own_checks_spare known S moment call who (command.MembersOf id) bound = members_of_spares S.rows id
 own_checks_spare known S moment call who (command.Join row) bound = join_spares S.rows row
 own_checks_spare known S moment call who (command.IsIn row) bound = is_in_spares S.rows row

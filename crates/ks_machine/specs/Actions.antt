@@ -122,6 +122,7 @@ requirements (command.Update id made) = record (asks (codes "update_" ++ made_wo
 requirements (command.Delete kind id) = asks (codes "delete_" ++ row_word kind)
 requirements (command.ChangePassword user original password) = open_to_all true
 requirements (command.GroupsOf id) = asks (codes "list_groups_for_user")
+requirements (command.ProjectsOf id) = asks (codes "list_user_projects")
 requirements (command.MembersOf id) = asks (codes "list_users_in_group")
 requirements (command.Join row) = asks (codes "add_user_to_group")
 requirements (command.IsIn row) = asks (codes "check_user_in_group")

@@ -170,6 +170,7 @@ AreFields (command.List kind filter) = Unit {0}
 AreFields (command.Get kind id) = Unit {0}
 AreFields (command.Delete kind id) = Unit {0}
 AreFields (command.GroupsOf id) = Unit {0}
+AreFields (command.ProjectsOf id) = Unit {0}
 AreFields (command.MembersOf id) = Unit {0}
 AreFields (command.Join row) = Unit {0}
 AreFields (command.IsIn row) = Unit {0}

@@ -1,6 +1,6 @@
 -- Memberships, implications and grants. A row that stands is no change and no refusal.
--- Source: Identity API v3, groups, implied roles and role assignments; OS-INHERIT.
-use Rattle.std.specs.Prelude.{Bool, true, false, ◌++◌, codes, filter, map, is_some}
+-- Source: Identity API v3, groups, projects of a user, implied roles and role assignments; OS-INHERIT.
+use Rattle.std.specs.Prelude.{Bool, true, false, not, ◌==◌, List, ◌++◌, codes, filter, length, map, is_some}
 use Rattle.ks_base.specs.Grants.{grant_fault, stands, ungrant_fault}
 use Rattle.ks_base.specs.declared.grants.Actor.{Actor}
 use Rattle.ks_base.specs.declared.grants.Actor.TheVariants as actor
@@ -8,6 +8,7 @@ use Rattle.ks_base.specs.declared.grants.GrantRow.{GrantRow}
 use Rattle.ks_base.specs.declared.grants.ImplyRow.{ImplyRow}
 use Rattle.ks_base.specs.declared.grants.Target.{Target}
 use Rattle.ks_base.specs.declared.grants.Target.TheVariants as target
+use Rattle.ks_base.specs.declared.rows.ProjectRow.{ProjectRow}
 use Rattle.ks_base.specs.declared.users.MemberRow.{MemberRow}
 use Rattle.ks_base.specs.Rows.{Id, Text, Rows}
 use Rattle.ks_machine.specs.declared.body_out.BodyOut.{BodyOut}
@@ -22,7 +23,7 @@ use Rattle.ks_base.specs.People.{member_of}
 use Rattle.ks_base.specs.RoleFaults.{imply_fault, unimply_fault}
 use Rattle.ks_base.specs.RoleLists.{implied_ids, is_implication}
 use Rattle.ks_machine.specs.Attempts.{Attempt, Go, ◌>>=◌}
-use Rattle.ks_machine.specs.Effective.{is_member}
+use Rattle.ks_machine.specs.Effective.{is_member, roles_at}
 use Rattle.ks_machine.specs.Outcomes.{Outcome, changes, tells}
 use Rattle.ks_machine.specs.Scopes.{titled_role, titled_roles}
 use Rattle.ks_machine.specs.Tables.{people, roles, standing_domain, standing_group, standing_project, standing_role, standing_user, unless_row}
@@ -40,6 +41,20 @@ list_groups_of rows user = do
   Go (tells (body.Many kind.Group
       (map (λ found. row.Group found) (filter (λ group. is_member rows.members group.id user) rows.groups))
       (codes "/v3/users/" ++ (user ++ codes "/groups"))))
+
+-- a user has a role at a target
+abbrev pub has_roles : Rows → Id → Target → Bool
+has_roles rows user wanted = not (length (roles_at rows user wanted) == 0)
+
+-- the projects on which a user has roles, be they enabled or not
+abbrev pub projects_of : Rows → Id → List ProjectRow
+projects_of rows user = filter (λ project. has_roles rows user (target.Project project.id)) rows.projects
+
+unfoldable pub list_projects_of : Rows → Id → Attempt Cause Outcome
+list_projects_of rows user = do
+  _ ← standing_user rows user
+  Go (tells (body.Many kind.Project (map (λ found. row.Project found) (projects_of rows user))
+      (codes "/v3/users/" ++ (user ++ codes "/projects"))))
 
 unfoldable pub list_members_of : Rows → Id → Attempt Cause Outcome
 list_members_of rows group = do

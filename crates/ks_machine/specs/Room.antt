@@ -32,6 +32,7 @@ is_for_oneself (command.Get kind id) = false
 is_for_oneself (command.Update id made) = false
 is_for_oneself (command.Delete kind id) = false
 is_for_oneself (command.GroupsOf id) = false
+is_for_oneself (command.ProjectsOf id) = false
 is_for_oneself (command.MembersOf id) = false
 is_for_oneself (command.Join row) = false
 is_for_oneself (command.IsIn row) = false

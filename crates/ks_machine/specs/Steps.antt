@@ -26,7 +26,7 @@ use Rattle.ks_machine.specs.FactorCommands.{create_secret, delete_secret, get_se
 use Rattle.ks_machine.specs.Keys.{is_failed, load_keys, rotate_keys}
 use Rattle.ks_machine.specs.Listings.{delete, events, get, list}
 use Rattle.ks_machine.specs.Login.{login, told_token}
-use Rattle.ks_machine.specs.Members.{grant, grants_of, list_groups_of, implication, implied, imply, is_granted, is_implied, is_in, join, leave, list_members_of, ungrant, unimply}
+use Rattle.ks_machine.specs.Members.{grant, grants_of, list_groups_of, list_projects_of, implication, implied, imply, is_granted, is_implied, is_in, join, leave, list_members_of, ungrant, unimply}
 use Rattle.ks_machine.specs.Moment.{moment_of}
 use Rattle.ks_machine.specs.Openings.{NamedRule}
 use Rattle.ks_machine.specs.Outcomes.{Outcome, changes, made_id, tells}
@@ -93,6 +93,7 @@ own_checks known S rows moment call who (command.Get kind id) = get rows kind id
 own_checks known S rows moment call who (command.Update id made) = update known S call.draw id made
 own_checks known S rows moment call who (command.Delete kind id) = delete rows kind id
 own_checks known S rows moment call who (command.GroupsOf id) = list_groups_of rows id
+own_checks known S rows moment call who (command.ProjectsOf id) = list_projects_of rows id
 own_checks known S rows moment call who (command.MembersOf id) = list_members_of rows id
 own_checks known S rows moment call who (command.Join row) = join rows row
 own_checks known S rows moment call who (command.IsIn row) = is_in rows row

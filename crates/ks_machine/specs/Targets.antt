@@ -258,6 +258,7 @@ target_of rows subject (command.Get kind id) = object_of_path rows kind id
 target_of rows subject (command.Update id made) = object_of_path rows (made_kind (kind_of made)) id
 target_of rows subject (command.Delete kind id) = object_of_path rows kind id
 target_of rows subject (command.GroupsOf id) = object_of_path rows kind.User id
+target_of rows subject (command.ProjectsOf id) = object_of_path rows kind.User id
 target_of rows subject (command.MembersOf id) = object rows kind.Group id
 target_of rows subject (command.Join row) = of_member row
 target_of rows subject (command.IsIn row) = of_member row

@@ -30,6 +30,8 @@ pub enum Command {
     ChangePassword(Id, Text, Text),
     /// The groups that the user is in.
     GroupsOf(Id),
+    /// The projects on which a user has roles.
+    ProjectsOf(Id),
     /// The users in the group.
     MembersOf(Id),
     Join(MemberRow),
@@ -96,6 +98,7 @@ impl Drop for Command {
             | Command::Delete(_, _)
             | Command::ChangePassword(_, _, _)
             | Command::GroupsOf(_)
+            | Command::ProjectsOf(_)
             | Command::MembersOf(_)
             | Command::Join(_)
             | Command::IsIn(_)

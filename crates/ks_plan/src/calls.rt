@@ -37,6 +37,7 @@ use ks_relations::grants::{grant, grants_of, is_granted, ungrant};
 use ks_relations::members::{
     groups_of, implication, implied, imply, is_implied, is_in, join, leave, members_of, unimply,
 };
+use ks_relations::user_projects::projects_of;
 use ks_rows::catalog_updates::update_catalog;
 use ks_rows::factors::delete_secret;
 use ks_rows::single::{delete, get};
@@ -215,6 +216,7 @@ fn own_checks(
         Command::Update(id, made) => update(alloc, tables, &call.draw, facts, id, made.get()),
         Command::Delete(kind, id) => delete(tables, *kind, id),
         Command::GroupsOf(id) => groups_of(alloc, tables, id),
+        Command::ProjectsOf(id) => projects_of(alloc, tables, id),
         Command::MembersOf(id) => members_of(alloc, tables, id),
         Command::Join(row) => join(tables, row),
         Command::IsIn(row) => is_in(tables, row),

@@ -28,6 +28,7 @@ defaults =
     record { name = codes "identity:list_revoke_events"; text = codes "rule:admin_required or rule:service_role" } ∷
     record { name = codes "identity:list_roles_for_trust"; text = codes "rule:admin_required or rule:trust_party" } ∷
     record { name = codes "identity:list_trusts"; text = codes "rule:admin_required or rule:trust_party" } ∷
+    record { name = codes "identity:list_user_projects"; text = codes "rule:admin_or_owner" } ∷
     record { name = codes "identity:revoke_token"; text = codes "rule:admin_required or rule:token_subject" } ∷
     record { name = codes "identity:validate_token"; text = codes "rule:admin_required or rule:service_role or rule:token_subject" } ∷
     record { name = codes "owner"; text = codes "user_id:%(user_id)s" } ∷

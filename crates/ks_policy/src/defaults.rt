@@ -8,7 +8,7 @@ pub struct DefaultRule {
 }
 
 /// In the order of the names. A row stands here and in `defaults` of `specs/Defaults.antt`.
-static DEFAULTS: [DefaultRule; 27] = [
+static DEFAULTS: [DefaultRule; 28] = [
     DefaultRule {
         name: "admin_or_owner",
         text: "rule:admin_required or rule:owner",
@@ -92,6 +92,10 @@ static DEFAULTS: [DefaultRule; 27] = [
     DefaultRule {
         name: "identity:list_trusts",
         text: "rule:admin_required or rule:trust_party",
+    },
+    DefaultRule {
+        name: "identity:list_user_projects",
+        text: "rule:admin_or_owner",
     },
     DefaultRule {
         name: "identity:revoke_token",

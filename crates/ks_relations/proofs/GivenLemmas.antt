@@ -30,7 +30,7 @@ left_out rows user test [] none = refl
 left_out rows user test (at ∷ more) none = left_by rows user at (filter test more) more (test at) (none at) (left_out rows user test more none)
 
 -- effective roles do not hang on the rows that are not of the tree, people, roles and grants
-none_here : (tables : Tables) (user : Id) (at : Target) →
+pub none_here : (tables : Tables) (user : Id) (at : Target) →
     ((role : Id) → Effective (rows_of tables.tree.now tables.people.now tables.roles.now tables.grants.now) user at role → ⊥) → roles_at (rows_told tables) user at ≡ []
 none_here tables user at none =
     sym

@@ -3,3 +3,4 @@ pub mod GivenLemmas
 pub mod MemberLists
 pub mod NoIds
 pub mod Passed
+pub mod UserProjectLemmas

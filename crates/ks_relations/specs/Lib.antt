@@ -1,2 +1,3 @@
--- Which grants a listing looks at.
+-- Which grants a listing looks at, and which projects a user has.
 pub mod Asked
+pub mod UserProjects

@@ -6,3 +6,4 @@ pub mod assignments;
 mod effective;
 pub mod grants;
 pub mod members;
+pub mod user_projects;

@@ -120,6 +120,7 @@ asked_own action.ChangePassword ids request =
     own_with (id_at ids 0) (λ user. read_by (password_by user) (body_of form.Password request.body))
     (λ user. own_read (password_by user) (body_of form.Password request.body) (own_password user))
 asked_own action.GroupsOf ids request = own_over (id_at ids 0) (λ a. command.GroupsOf a)
+asked_own action.ProjectsOf ids request = own_over (id_at ids 0) (λ a. command.ProjectsOf a)
 asked_own action.MembersOf ids request = own_over (id_at ids 0) (λ a. command.MembersOf a)
 asked_own action.Join ids request = own_over (member_in ids) (λ row. command.Join row)
 asked_own action.IsIn ids request = own_over (member_in ids) (λ row. command.IsIn row)

@@ -180,6 +180,7 @@ asked_in (action.Delete kind) ids request is = plain_holds AreFields (id_at ids 
 asked_in action.ChangePassword ids request is =
     with_holds AreFields (id_at ids 0) _ (λ user. read_in (password_by user) form.Password request.body (body_of form.Password request.body) refl (password_in user))
 asked_in action.GroupsOf ids request is = plain_holds AreFields (id_at ids 0) (λ a. command.GroupsOf a) (λ a. tt)
+asked_in action.ProjectsOf ids request is = plain_holds AreFields (id_at ids 0) (λ a. command.ProjectsOf a) (λ a. tt)
 asked_in action.MembersOf ids request is = plain_holds AreFields (id_at ids 0) (λ a. command.MembersOf a) (λ a. tt)
 asked_in action.Join ids request is = plain_holds AreFields (member_in ids) (λ row. command.Join row) (λ row. tt)
 asked_in action.IsIn ids request is = plain_holds AreFields (member_in ids) (λ row. command.IsIn row) (λ row. tt)

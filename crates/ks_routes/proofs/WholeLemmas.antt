@@ -122,6 +122,7 @@ asked_whole action.ChangePassword ids request =
     with_holds (IsWhole request.subject) (id_at ids 0) _ (λ user.
     read_holds (IsWhole request.subject) (password_by user) (body_of form.Password request.body) (password_whole request.subject user))
 asked_whole action.GroupsOf ids request = plain_holds (IsWhole request.subject) (id_at ids 0) (λ a. command.GroupsOf a) (λ a. refl)
+asked_whole action.ProjectsOf ids request = plain_holds (IsWhole request.subject) (id_at ids 0) (λ a. command.ProjectsOf a) (λ a. refl)
 asked_whole action.MembersOf ids request = plain_holds (IsWhole request.subject) (id_at ids 0) (λ a. command.MembersOf a) (λ a. refl)
 asked_whole action.Join ids request = plain_holds (IsWhole request.subject) (member_in ids) (λ row. command.Join row) (λ row. refl)
 asked_whole action.IsIn ids request = plain_holds (IsWhole request.subject) (member_in ids) (λ row. command.IsIn row) (λ row. refl)

@@ -204,6 +204,7 @@ asked (action.Delete kind) ids request = over (id_at ids 0) (λ a. command.Delet
 asked action.ChangePassword ids request =
     with_id (id_at ids 0) (λ user. read_by (password_by user) (body_of form.Password request.body))
 asked action.GroupsOf ids request = over (id_at ids 0) (λ user. command.GroupsOf user)
+asked action.ProjectsOf ids request = over (id_at ids 0) (λ user. command.ProjectsOf user)
 asked action.MembersOf ids request = over (id_at ids 0) (λ group. command.MembersOf group)
 asked action.Join ids request = over (member_in ids) (λ row. command.Join row)
 asked action.IsIn ids request = over (member_in ids) (λ row. command.IsIn row)

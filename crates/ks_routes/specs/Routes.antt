@@ -88,6 +88,7 @@ table =
     all_of_catalog of_catalog.Endpoint ∷ one_of_catalog of_catalog.Endpoint ∷
     row (codes "/v3/users/{user}/password") (record none { post = Some action.ChangePassword }) ∷
     row (codes "/v3/users/{user}/groups") (record none { get = Some action.GroupsOf }) ∷
+    row (codes "/v3/users/{user}/projects") (record none { get = Some action.ProjectsOf }) ∷
     row (codes "/v3/users/{user}/application_credentials") (record none { get = Some action.ListAppCreds; post = Some action.CreateAppCred }) ∷
     row (codes "/v3/users/{user}/application_credentials/{credential}") (record none { get = Some action.GetAppCred; delete = Some action.DeleteAppCred }) ∷
     row (codes "/v3/credentials") (record none { get = Some action.ListSecrets; post = Some action.CreateSecret }) ∷

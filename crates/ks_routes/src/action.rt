@@ -41,6 +41,7 @@ pub enum Action {
     Delete(RowKind),
     ChangePassword,
     GroupsOf,
+    ProjectsOf,
     MembersOf,
     Join,
     IsIn,

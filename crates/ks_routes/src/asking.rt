@@ -341,6 +341,7 @@ impl Action {
                 None => Routed::NoRoute,
             },
             Action::GroupsOf => over(ids.at(0).map(|user| Command::GroupsOf(user))),
+            Action::ProjectsOf => over(ids.at(0).map(|user| Command::ProjectsOf(user))),
             Action::MembersOf => over(ids.at(0).map(|group| Command::MembersOf(group))),
             Action::Join => over(member(ids).map(|row| Command::Join(row))),
             Action::IsIn => over(member(ids).map(|row| Command::IsIn(row))),

@@ -78,7 +78,7 @@ const INHERITED_DOMAIN_GROUP: GrantRoute = GrantRoute {
     inherited: true,
 };
 
-static TABLE: [Route<Action>; 56] = [
+static TABLE: [Route<Action>; 57] = [
     Route {
         pattern: "/",
         methods: Methods {
@@ -264,6 +264,13 @@ static TABLE: [Route<Action>; 56] = [
         pattern: "/v3/users/{user}/groups",
         methods: Methods {
             get: Some(Action::GroupsOf),
+            ..NONE
+        },
+    },
+    Route {
+        pattern: "/v3/users/{user}/projects",
+        methods: Methods {
+            get: Some(Action::ProjectsOf),
             ..NONE
         },
     },

@@ -59,6 +59,7 @@ secrets_of drawn (command.List kind filter) = no_secrets
 secrets_of drawn (command.Get kind id) = no_secrets
 secrets_of drawn (command.Delete kind id) = no_secrets
 secrets_of drawn (command.GroupsOf id) = no_secrets
+secrets_of drawn (command.ProjectsOf id) = no_secrets
 secrets_of drawn (command.MembersOf id) = no_secrets
 secrets_of drawn (command.Join row) = no_secrets
 secrets_of drawn (command.IsIn row) = no_secrets

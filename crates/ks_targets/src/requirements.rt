@@ -105,6 +105,7 @@ pub fn required(command: &Command) -> Requirements
         },
         Command::Delete(kind, _) => Requirements::rule(deletion_action(*kind)),
         Command::GroupsOf(_) => Requirements::rule("identity:list_groups_for_user"),
+        Command::ProjectsOf(_) => Requirements::rule("identity:list_user_projects"),
         Command::MembersOf(_) => Requirements::rule("identity:list_users_in_group"),
         Command::Join(_) => Requirements::rule("identity:add_user_to_group"),
         Command::IsIn(_) => Requirements::rule("identity:check_user_in_group"),

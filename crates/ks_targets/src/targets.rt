@@ -50,6 +50,7 @@ fn put_target_of(
         Command::Get(kind, id) | Command::Delete(kind, id) => put_path(fields, tables, *kind, id),
         Command::Update(id, made) => put_path(fields, tables, kind_of(made.get()), id),
         Command::GroupsOf(id) => put_path(fields, tables, RowKind::User, id),
+        Command::ProjectsOf(id) => put_path(fields, tables, RowKind::User, id),
         Command::CreateAppCred(user, _) | Command::ListAppCreds(user) => {
             put_path(fields, tables, RowKind::User, user)
         }
