@@ -42,6 +42,11 @@ OPENING = os.path.join(TOP, "examples", "o1.json")
 TALK = ["talk", OPENING, "keys"]
 VERSION = b"GET /v3/ HTTP/1.1\r\nHost: 127.0.0.1:5000\r\n\r\n"
 BODY = b"POST /v3 HTTP/1.1\r\nContent-Length: 4000\r\n\r\n" + b" " * 4000
+# The body of a login, all of which is read: its last field, the name of the project, is no text.
+USER = {"name": "ann", "domain": {"id": "default"}, "password": "secret"}
+IDENTITY = {"methods": ["password"], "password": {"user": USER}}
+LOGIN = json.dumps({"auth": {"identity": IDENTITY, "scope": {"project": {"domain": {"id": "default"}, "name": 1}}}}).encode()
+REFUSED = b"POST /v3/auth/tokens HTTP/1.1\r\nContent-Length: %d\r\n\r\n" % len(LOGIN) + LOGIN
 
 with open(os.path.join(TOP, "examples", "check.txt"), "rb") as file:
     KEY, *LINES = file.read().splitlines(keepends=True)
@@ -73,6 +78,7 @@ INSTRUCTIONS = [
     (TALK, b"", VERSION, 200, 1200, {"talk: the version": "", "talk: the version, in the table of routes": "ks_routes::"}),
     (TALK, b"", b"GET /v3/nothing HTTP/1.1\r\n\r\n", 200, 1200, {"talk: a path without a route": ""}),
     (TALK, b"", BODY, 100, 600, {"talk: a body of 4,000 bytes": ""}),
+    (TALK, b"", REFUSED, 100, 600, {"talk: a login, read to its last field": ""}),
     (TALK, b"", talk.validation(talk.sealed()), 50, 250, {"talk: a validation": ""}),
     (["talk", MANY, "keys"], b"", talk.validation(talk.sealed()), 50, 250, {"talk: a validation among 100,000 grants": ""}),
     (["talk", CLOUD, "keys"], b"", talk.validation(talk.sealed()), 50, 250, {"talk: a validation with 120 endpoints": ""}),
